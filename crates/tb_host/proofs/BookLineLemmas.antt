@@ -1,0 +1,33 @@
+-- What the lines of a book say.
+use Rattle.std.proofs.Common.{◌≡◌, ℕ, ◌≤◌, ◌^◌, List, [], ◌∷◌, subst}
+use Rattle.std.specs.Prelude.{Option, Some, None}
+use Rattle.std.specs.Fmt.{decimal}
+use Rattle.tb_units.specs.declared.rate.Rate.{Rate}
+use Rattle.tb_host.specs.Words.{spelling_of}
+use Rattle.tb_host.specs.declared.word.Word.{Word}
+use Rattle.tb_host.specs.declared.word.Word.TheVariants as word
+use Rattle.tb_host.specs.declared.book_line.BookLine.{BookLine}
+use Rattle.tb_host.specs.declared.book_line.BookLine.TheVariants as kind
+use Rattle.tb_host.specs.declared.book_line.Offering.{Offering}
+use Rattle.tb_host.specs.BookLines.{Says, AreBidFields, AreOfferingFields, IsMultiple}
+use Rattle.tb_host.proofs.DecimalLemmas.{decimal-one}
+
+-- a bid begins with one of two words
+AreBidFields-word : (text : List ℕ) (texts : List (List ℕ)) (bidder : List ℕ) (rate : Option Rate) (amount : ℕ) → AreBidFields text texts bidder rate amount → (w : Word) × (text ≡ spelling_of w)
+AreBidFields-word text texts bidder None amount written = (word.Noncompetitive, written.0)
+AreBidFields-word text texts bidder (Some rate) amount written = (word.Competitive, written.0)
+
+-- every line begins with one of the words
+pub Says-word : (text : List ℕ) (texts : List (List ℕ)) (line : BookLine) → Says (text ∷ texts) line → (w : Word) × (text ≡ spelling_of w)
+Says-word text texts (kind.Offering offering) says = (word.Offering, says.0)
+Says-word text texts (kind.Bid bid) says = AreBidFields-word text texts bid.bidder bid.rate bid.amount.value says.written
+Says-word text texts kind.End says = (word.End, says.0)
+
+-- where the offering is read, its floor is within it
+pub AreOfferingFields-floor : (texts : List (List ℕ)) (amount floor days : List ℕ) (n : ℕ) → texts ≡ amount ∷ floor ∷ days ∷ [] → n ≤ 10 ^ 12 → amount ≡ decimal n → (offering : Offering) → AreOfferingFields texts offering → IsMultiple 100 n offering.floor.value × (floor ≡ decimal offering.floor.value)
+AreOfferingFields-floor texts amount floor days n is small read offering fields =
+    let same : texts ≡ decimal offering.amount.value ∷ decimal offering.floor.value ∷ decimal offering.days.count ∷ [] = fields.written in
+    let first : amount ≡ decimal offering.amount.value = cc in
+    let second : floor ≡ decimal offering.floor.value = cc in
+    let amounts : offering.amount.value ≡ n = decimal-one amount _ _ fields.amount.within small first read in
+    (subst (λ (most : ℕ). IsMultiple 100 most offering.floor.value) amounts fields.floor, second)

@@ -1,0 +1,12 @@
+pub mod FieldLemmas
+pub mod DecimalLemmas
+pub mod BookLineLemmas
+pub mod LineLemmas
+pub mod ReaderLemmas
+pub mod NameLemmas
+pub mod SameLemmas
+pub mod BookLemmas
+pub mod ReadLemmas
+pub mod CutLemmas
+pub mod AwardLemmas
+pub mod CompleteLemmas

@@ -1,0 +1,27 @@
+-- How a command ends, and what it says of that.
+use Rattle.std.specs.Prelude.{ℕ, ◌⊎◌, List, [], ◌∷◌, ◌++◌, codes}
+use Rattle.tb_link.specs.Sinks.{SinkState, Takes, FailsToTake}
+use Rattle.tb_host.specs.declared.ending.Ending.{Ending}
+use Rattle.tb_host.specs.declared.ending.Ending.TheVariants as ending
+
+-- the status of the program
+abbrev pub status_of : Ending → ℕ
+status_of ending.Done = 0
+status_of ending.Usage = 2
+status_of ending.BadInput = 3
+status_of ending.ReadFault = 4
+status_of ending.WriteFault = 5
+status_of ending.OutOfMemory = 9
+
+-- what is told of a status
+abbrev pub message_of : Ending → List ℕ
+message_of ending.Done = []
+message_of ending.Usage = codes "usage" ++ 10 ∷ []
+message_of ending.BadInput = codes "bad input" ++ 10 ∷ []
+message_of ending.ReadFault = codes "read fault" ++ 10 ∷ []
+message_of ending.WriteFault = codes "write fault" ++ 10 ∷ []
+message_of ending.OutOfMemory = codes "out of memory" ++ 10 ∷ []
+
+-- the sink has taken the message whole, or failed and has taken a prefix of it
+abbrev pub Tells : SinkState → SinkState → List ℕ → Type 0
+Tells old new message = Takes old new message ⊎ FailsToTake old new message

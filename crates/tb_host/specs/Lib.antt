@@ -1,0 +1,16 @@
+pub mod Fields
+pub mod Words
+pub mod BookLines
+pub mod LineEnds
+pub mod Lines
+pub mod Books
+pub mod BookReading
+pub mod BookFaults
+pub mod SoundBooks
+pub mod Cuts
+pub mod AwardLines
+pub mod BookRun
+pub mod Commands
+pub mod Endings
+pub mod AwardRun
+pub mod HostRun

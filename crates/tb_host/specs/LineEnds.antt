@@ -1,0 +1,14 @@
+-- Where lines end, and how long they may be.
+use Rattle.std.specs.Prelude.{ℕ, ◌<◌, ◌≤◌, ◌==◌, List, length, Bool}
+use Rattle.tb_host.specs.BookLines.{longest_line}
+use Rattle.tb_host.specs.declared.line_end.NextLine.{NextLine}
+use Rattle.tb_host.specs.declared.line_end.NextLine.TheVariants as next
+
+abbrev pub is_line_feed : ℕ → Bool
+is_line_feed byte = byte == 10
+
+-- a line is short enough, or too long
+abbrev pub FitsLine : NextLine → List ℕ → Type 0
+FitsLine next.Line line = length line ≤ longest_line
+FitsLine next.End line = ⊥
+FitsLine next.TooLong line = longest_line < length line

@@ -1,0 +1,153 @@
+//! The lines of a source, in whatever pieces it gives its bytes.
+ghost use Rattle.std.specs.Prelude.{◌≡◌, ◌+◌, ◌<◌, ◌≤◌, ◌++◌, [], true, false, length, take, drop, slice_index, vec_len, position, ◌==◌, Some, Ok, IfOk, IfSome, OnOk, IsErrOf};
+ghost use Rattle.tb_link.specs.Counts.{NeverFalls, Rose};
+ghost use Rattle.tb_host.specs.declared.input.InputFault.TheVariants.{OutOfMemory};
+
+use crate::line_end::{NextLine, fits, line_end, without_carriage_return};
+use crate::read_line::LONGEST_LINE;
+use std::alloc::Global;
+use tb_link::{Failed, Source};
+use tb_units::OutOfMemory;
+
+const PIECE: usize = 8192;
+
+/// Why no line was read.
+#[derive(Clone, Copy, Debug, PartialEq, Eq)]
+pub enum InputFault {
+    Read,
+    OutOfMemory,
+}
+
+impl From<OutOfMemory> for InputFault {
+    ghost from_gives = { λ _ fault. fault ≡ OutOfMemory };
+
+    fn from(_error: OutOfMemory) -> InputFault {
+        InputFault::OutOfMemory
+    }
+}
+
+/// Reads lines from a source. Contracts see the bytes that it has and has not given yet, and the line that it gave last.
+#[derive(Drop)]
+pub struct LineReader {
+    text: Vec<u8>,
+    at: usize,
+    from: usize,
+    to: usize,
+    ghost given: { at ≤ vec_len text },
+    ghost line: { from ≤ to },
+    ghost within: { to ≤ vec_len text },
+}
+
+impl LineReader {
+    ghost use Rattle.tb_host.specs.Lines.{unread, current, ahead, FindsWhereTold, GaveLine, GaveLast};
+    ghost use Rattle.tb_host.specs.LineEnds.{FitsLine, is_line_feed};
+
+    pub fn new(alloc: Global) -> LineReader
+        ensures { unread result ≡ [] }
+    {
+        LineReader {
+            text: Vec::new(alloc),
+            at: 0,
+            from: 0,
+            to: 0,
+        }
+    }
+
+    /// Reads the next line.
+    pub fn next_line<I: Source>(
+        &mut self,
+        alloc: Global,
+        input: &mut I,
+    ) -> Result<NextLine, InputFault>
+        ensures finds { IfOk result (λ found. FindsWhereTold (ahead self.old (I.source input.old)) found
+            (current self.new) (ahead self.new (I.source input.new))) }
+        ensures fault { IsErrOf result InputFault.Read → Rose (I.source input.old).faults (I.source input.new).faults }
+        ensures count { NeverFalls (I.source input.old).faults (I.source input.new).faults }
+    {
+        loop {
+            if let Some(end) = line_end(self.unread()) {
+                return Ok(self.give(end));
+            }
+            if self.unread().len() > LONGEST_LINE + 1 {
+                return Ok(NextLine::TooLong);
+            }
+            if !self.fill(alloc, input)? {
+                return Ok(self.give_last());
+            }
+        }
+    }
+
+    /// The line that was given last.
+    pub fn line(&self) -> &[u8]
+        ensures { result.now ≡ current self.now }
+    {
+        &self.text[self.from..self.to]
+    }
+
+    fn unread(&self) -> &[u8]
+        ensures { result.now ≡ unread self.now }
+    {
+        &self.text[self.at..]
+    }
+
+    // Reads a piece of the source: true where it gave some bytes, false at its end.
+    fn fill<I: Source>(&mut self, alloc: Global, input: &mut I) -> Result<bool, InputFault>
+        ensures same { OnOk result (ahead self.new (I.source input.new) ≡ ahead self.old (I.source input.old)) }
+        ensures more { result ≡ Ok true → length (unread self.old) < length (unread self.new) }
+        ensures end { result ≡ Ok false → (unread self.new ≡ unread self.old) × IfSome (I.source input.old).left (λ left. left ≡ []) }
+        ensures fault { IsErrOf result InputFault.Read → Rose (I.source input.old).faults (I.source input.new).faults }
+        ensures count { NeverFalls (I.source input.old).faults (I.source input.new).faults }
+    {
+        let mut piece = [0; PIECE];
+        let count = match input.read(&mut piece) {
+            Ok(count) => count,
+            Err(Failed) => return Err(InputFault::Read),
+        };
+        self.keep(alloc, &piece[..count])?;
+        Ok(count > 0)
+    }
+
+    // Lets go of what was given, and puts the piece behind the rest.
+    fn keep(&mut self, alloc: Global, piece: &[u8]) -> Result<(), OutOfMemory>
+        ensures { OnOk result (unread self.new ≡ unread self.old ++ piece.now) }
+    {
+        let rest = self.unread();
+        let mut text = Vec::with_capacity(alloc, rest.len().saturating_add(piece.len()))?;
+        text.extend_from_slice(rest)?;
+        text.extend_from_slice(piece)?;
+        self.text = text;
+        self.at = 0;
+        self.from = 0;
+        self.to = 0;
+        Ok(())
+    }
+
+    // Gives the line up to its line feed.
+    fn give(&mut self, end: usize) -> NextLine
+        requires { position is_line_feed (unread self.old) ≡ Some end }
+        ensures line { GaveLine self.old self.new }
+        ensures fits { FitsLine result (current self.new) }
+    {
+        let line = &self.unread()[..end];
+        let count = without_carriage_return(line);
+        self.from = self.at;
+        self.to = self.at + count;
+        self.at += end + 1;
+        fits(count)
+    }
+
+    // Gives what the source's end cuts off, where there is anything.
+    fn give_last(&mut self) -> NextLine
+        requires { position is_line_feed (unread self.old) ≡ None }
+        ensures { GaveLast result self.old self.new }
+    {
+        let count = self.unread().len();
+        if count == 0 {
+            return NextLine::End;
+        }
+        self.from = self.at;
+        self.to = self.at + count;
+        self.at += count;
+        fits(count)
+    }
+}

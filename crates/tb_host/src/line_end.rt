@@ -1,0 +1,46 @@
+//! Where lines end, and how long they may be.
+ghost use Rattle.std.specs.Prelude.{◌≡◌, ◌≤◌, ℕ, List, length, take, position};
+ghost use Rattle.std.specs.Str.Lines.{strip_carriage_return};
+ghost use Rattle.tb_host.specs.LineEnds.{is_line_feed, FitsLine};
+
+use crate::read_line::LONGEST_LINE;
+
+/// What stands next in the input.
+#[derive(Clone, Copy, Debug, PartialEq, Eq)]
+pub enum NextLine {
+    /// A line, which the reader then shows.
+    Line,
+    /// Nothing.
+    End,
+    /// A line of more than 8,192 bytes.
+    TooLong,
+}
+
+/// The place of the first line feed.
+pub fn line_end(text: &[u8]) -> Option<usize>
+    ensures { result ≡ position is_line_feed text.now }
+{
+    text.iter().position(|byte| *byte == b'\n')
+}
+
+/// The length of a line that a line feed ends, without one carriage return before that.
+pub fn without_carriage_return(line: &[u8]) -> usize
+    ensures shorter { result ≤ length line.now }
+    ensures line { take result line.now ≡ strip_carriage_return line.now }
+{
+    match line.last() {
+        Some(b'\r') => line.len() - 1,
+        _ => line.len(),
+    }
+}
+
+/// Whether a line of this length is short enough.
+pub fn fits(count: usize) -> NextLine
+    ensures { (line : List ℕ) → length line ≡ count → FitsLine result line }
+{
+    if count > LONGEST_LINE {
+        NextLine::TooLong
+    } else {
+        NextLine::Line
+    }
+}

@@ -1,0 +1,124 @@
+//! Reading the lines of a text book of bids.
+ghost use Rattle.std.specs.Prelude.{◌≡◌, ◌≢◌, ◌*◌, ◌^◌, ◌<◌, ◌≤◌, ◌↔◌, ℕ, [], codes, true, false, IfSome, IfNone};
+ghost use Rattle.std.specs.Fmt.{decimal};
+ghost use Rattle.std.specs.Option.{SomeIff};
+ghost use Rattle.tb_host.specs.Fields.{fields, fields_of};
+ghost use Rattle.tb_host.specs.BookLines.{IsMultiple, AreOfferingFields, IsBidLine, Says, Spells};
+ghost use Rattle.tb_host.specs.declared.book_line.BookLine.{BookLine};
+ghost use Rattle.tb_host.specs.declared.book_line.Offering.{Offering};
+ghost use Rattle.tb_host.specs.declared.book_line.Bid.{Bid};
+
+use crate::book_line::{Bid, BookLine, Offering};
+use crate::fields::{first_field, three_fields, two_fields};
+use crate::word::{Word, word_of};
+use std::str;
+use tb_units::{Days, Dollars, Ident, Rate};
+
+/// The longest line, without its line feed and the one carriage return before that.
+pub const LONGEST_LINE: usize = 8192;
+
+const BID_UNIT: u128 = 100;
+
+const OFFERING_UNIT: u128 = 1_000_000;
+
+const MOST: u128 = 1_000_000_000_000;
+
+/// Reads a line of a book. Every other text is `None`.
+pub fn read_book_line(text: &[u8]) -> Option<BookLine>
+    ensures read { IfSome result (Spells text.now) }
+    ensures none { IfNone result ((line : BookLine) → ¬ (Spells text.now line)) }
+{
+    if text.len() > LONGEST_LINE {
+        return None;
+    }
+    read_text(str::from_utf8(text).ok()?)
+}
+
+// The line by its fields.
+fn read_text(text: &str) -> Option<BookLine>
+    ensures read { IfSome result (Says (fields text.now)) }
+    ensures none { IfNone result ((line : BookLine) → ¬ (Says (fields text.now) line)) }
+{
+    let (word, others) = first_field(text);
+    match word_of(word)? {
+        Word::Offering => Some(BookLine::Offering(read_offering(others)?)),
+        Word::Noncompetitive => Some(BookLine::Bid(read_noncompetitive(others)?)),
+        Word::Competitive => Some(BookLine::Bid(read_competitive(others)?)),
+        Word::End => read_end(others),
+    }
+}
+
+fn read_end(others: Option<&str>) -> Option<BookLine>
+    ensures { SomeIff result (fields_of others.entry ≡ []) BookLine.End }
+{
+    match others {
+        None => Some(BookLine::End),
+        Some(_) => None,
+    }
+}
+
+fn read_offering(others: Option<&str>) -> Option<Offering>
+    ensures read { IfSome result (AreOfferingFields (fields_of others.entry)) }
+    ensures none { IfNone result ((offering : Offering) → ¬ (AreOfferingFields (fields_of others.entry) offering)) }
+{
+    let (amount, floor, days) = three_fields(others)?;
+    let amount = read_multiple(amount, OFFERING_UNIT, MOST)?;
+    let floor = read_multiple(floor, BID_UNIT, amount.value)?;
+    let days = Days::read(days)?;
+    Some(Offering {
+        amount,
+        floor,
+        days,
+    })
+}
+
+fn read_noncompetitive(others: Option<&str>) -> Option<Bid>
+    ensures read { IfSome result (IsBidLine (codes "n") (fields_of others.entry)) }
+    ensures none { IfNone result ((bid : Bid) → ¬ (IsBidLine (codes "n") (fields_of others.entry) bid)) }
+{
+    let (bidder, amount) = two_fields(others)?;
+    let bidder = Ident::read(bidder)?;
+    let amount = read_multiple(amount, BID_UNIT, MOST)?;
+    Some(Bid {
+        bidder,
+        rate: None,
+        amount,
+    })
+}
+
+fn read_competitive(others: Option<&str>) -> Option<Bid>
+    ensures read { IfSome result (IsBidLine (codes "c") (fields_of others.entry)) }
+    ensures none { IfNone result ((bid : Bid) → ¬ (IsBidLine (codes "c") (fields_of others.entry) bid)) }
+{
+    let (bidder, rate, amount) = three_fields(others)?;
+    let bidder = Ident::read(bidder)?;
+    let rate = Rate::read(rate).ok()?;
+    let amount = read_multiple(amount, BID_UNIT, MOST)?;
+    Some(Bid {
+        bidder,
+        rate: Some(rate),
+        amount,
+    })
+}
+
+// A multiple of the unit, from one unit to the most.
+fn read_multiple(text: &str, unit: u128, most: u128) -> Option<Dollars>
+    requires unit { 0 < unit }
+    requires most { most ≤ 10 ^ 12 }
+    ensures read { IfSome result (λ amount. (text.now ≡ decimal amount.value) × IsMultiple unit most amount.value) }
+    ensures none { IfNone result ((n : ℕ) → IsMultiple unit most n → text.now ≢ decimal n) }
+{
+    let amount = Dollars::read(text)?;
+    if !is_multiple(amount, unit, most) {
+        return None;
+    }
+    Some(amount)
+}
+
+fn is_multiple(amount: Dollars, unit: u128, most: u128) -> bool
+    requires { 0 < unit }
+    ensures yes { result ≡ true → IsMultiple unit most amount.value }
+    ensures no { result ≡ false → ¬ (IsMultiple unit most amount.value) }
+{
+    amount.value % unit == 0 && unit <= amount.value && amount.value <= most
+}

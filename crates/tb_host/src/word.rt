@@ -1,0 +1,31 @@
+//! The words that lines of a book begin with.
+ghost use Rattle.std.specs.Prelude.{◌≡◌, ◌≢◌, IfSome, IfNone};
+ghost use Rattle.tb_host.specs.Words.{spelling_of};
+ghost use Rattle.tb_host.specs.declared.word.Word.{Word};
+
+/// The first word of a line.
+#[derive(Clone, Copy, Debug, PartialEq, Eq)]
+pub enum Word {
+    Offering,
+    Noncompetitive,
+    Competitive,
+    End,
+}
+
+/// The word that the text is.
+pub fn word_of(text: &str) -> Option<Word>
+    ensures word { IfSome result (λ word. text.now ≡ spelling_of word) }
+    ensures none { IfNone result ((word : Word) → text.now ≢ spelling_of word) }
+{
+    if text == "offering" {
+        Some(Word::Offering)
+    } else if text == "n" {
+        Some(Word::Noncompetitive)
+    } else if text == "c" {
+        Some(Word::Competitive)
+    } else if text == "end" {
+        Some(Word::End)
+    } else {
+        None
+    }
+}

@@ -1,0 +1,4 @@
+pub mod Decimals
+pub mod Rates
+pub mod Names
+pub mod Padding
