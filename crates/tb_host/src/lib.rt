@@ -14,6 +14,8 @@ mod host;
 mod input;
 mod line_end;
 mod read_line;
+#[cfg(test)]
+mod tests;
 mod word;
 
 pub use host::host_main;

@@ -1,0 +1,100 @@
+use super::*;
+use std::alloc::Global;
+use std::test::Fail;
+use tb_link::{TextSink, TextSource};
+
+const BOOK: &str = "offering 1000000000 1000000 91\n\
+    n n1 100000000\n\
+    c a 5.320 300000000\n\
+    c b 5.325 350000000\n\
+    c c 5.330 300000000\n\
+    c d 5.330 150000000\n\
+    end\n";
+
+const TEXT: &str = "high 5.330\nallotted 55.56\nprice 98.652694\n";
+
+const ROOM: usize = 100;
+
+/// How a run ended, and what its sinks have taken.
+#[derive(Drop)]
+struct Ended {
+    status: u8,
+    out: TextSink,
+    err: TextSink,
+}
+
+/// Runs the host. The reads and writes of these numbers fail.
+fn run(
+    alloc: Global,
+    words: &[&str],
+    text: &str,
+    piece: usize,
+    failing_reads: &[u64],
+    failing_writes: &[u64],
+) -> Result<Ended, Fail> {
+    let mut owned = Vec::new(alloc);
+    for word in words {
+        owned.push(word.to_string(alloc)?)?;
+    }
+    let mut input = TextSource::new(text.as_bytes().to_vec(alloc)?, piece, failing_reads.to_vec(alloc)?);
+    let mut out = TextSink::new(alloc, ROOM, failing_writes.to_vec(alloc)?)?;
+    let mut err = TextSink::new(alloc, ROOM, Vec::new(alloc))?;
+    let status = host_main(alloc, &owned, &mut input, &mut out, &mut err);
+    Ok(Ended { status, out, err })
+}
+
+#[test]
+fn the_stop_is_printed_however_the_book_is_cut_into_pieces(rt: HostRuntime) -> Result<(), Fail> {
+    for piece in [1, 2, 7, BOOK.len()] {
+        let run = run(rt.alloc(), &["award"], BOOK, piece, &[], &[])?;
+        assert_eq!(rt; run.status, 0, "pieces of {piece}");
+        assert_eq!(rt; run.out.bytes(), TEXT.as_bytes());
+        assert_eq!(rt; run.err.bytes(), b"".as_slice());
+    }
+    Ok(())
+}
+
+#[test]
+fn each_read_that_fails_ends_the_run(rt: HostRuntime) -> Result<(), Fail> {
+    let mut call = 0;
+    loop {
+        let run = run(rt.alloc(), &["award"], BOOK, 1, &[call], &[])?;
+        if run.status == 0 {
+            break;
+        }
+        assert_eq!(rt; run.status, 4, "read {call}");
+        assert_eq!(rt; run.out.bytes(), b"".as_slice());
+        assert_eq!(rt; run.err.bytes(), b"read fault\n".as_slice());
+        call += 1;
+    }
+    // Each byte of the book is a read.
+    assert_eq!(rt; call, BOOK.len() as u64);
+    Ok(())
+}
+
+#[test]
+fn each_write_that_fails_ends_the_run(rt: HostRuntime) -> Result<(), Fail> {
+    let failed = run(rt.alloc(), &["award"], BOOK, BOOK.len(), &[], &[0])?;
+    assert_eq!(rt; failed.status, 5);
+    assert_eq!(rt; failed.out.bytes(), b"".as_slice());
+    assert_eq!(rt; failed.err.bytes(), b"write fault\n".as_slice());
+    let done = run(rt.alloc(), &["award"], BOOK, BOOK.len(), &[], &[1])?;
+    assert_eq!(rt; done.status, 0, "there is one write");
+    Ok(())
+}
+
+#[test]
+fn faulty_words_and_books_are_told(rt: HostRuntime) -> Result<(), Fail> {
+    for (words, text, status, told) in [
+        ([].as_slice(), BOOK, 2, "usage\n"),
+        (["award", "more"].as_slice(), BOOK, 2, "usage\n"),
+        (["award"].as_slice(), "", 3, "bad input\n"),
+        (["award"].as_slice(), "offering 1000000000 1000000 91\nend\n", 3, "bad input\n"),
+    ] {
+        let run = run(rt.alloc(), words, text, 7, &[], &[])?;
+        assert_eq!(rt; run.status, status);
+        assert_eq!(rt; run.out.bytes(), b"".as_slice());
+        assert_eq!(rt; run.err.bytes(), told.as_bytes());
+    }
+    Ok(())
+}
