@@ -36,7 +36,11 @@ fn run(
     for word in words {
         owned.push(word.to_string(alloc)?)?;
     }
-    let mut input = TextSource::new(text.as_bytes().to_vec(alloc)?, piece, failing_reads.to_vec(alloc)?);
+    let mut input = TextSource::new(
+        text.as_bytes().to_vec(alloc)?,
+        piece,
+        failing_reads.to_vec(alloc)?,
+    );
     let mut out = TextSink::new(alloc, ROOM, failing_writes.to_vec(alloc)?)?;
     let mut err = TextSink::new(alloc, ROOM, Vec::new(alloc))?;
     let status = host_main(alloc, &owned, &mut input, &mut out, &mut err);
@@ -89,7 +93,12 @@ fn faulty_words_and_books_are_told(rt: HostRuntime) -> Result<(), Fail> {
         ([].as_slice(), BOOK, 2, "usage\n"),
         (["award", "more"].as_slice(), BOOK, 2, "usage\n"),
         (["award"].as_slice(), "", 3, "bad input\n"),
-        (["award"].as_slice(), "offering 1000000000 1000000 91\nend\n", 3, "bad input\n"),
+        (
+            ["award"].as_slice(),
+            "offering 1000000000 1000000 91\nend\n",
+            3,
+            "bad input\n",
+        ),
     ] {
         let run = run(rt.alloc(), words, text, 7, &[], &[])?;
         assert_eq!(rt; run.status, status);
