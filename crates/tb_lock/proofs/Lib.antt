@@ -1,0 +1,15 @@
+pub mod CallerLemmas
+pub mod ClosingLemmas
+pub mod EntryLemmas
+pub mod FaultLemmas
+pub mod GiveLemmas
+pub mod KeptLemmas
+pub mod PrefixLemmas
+pub mod QueueLemmas
+pub mod SeatLemmas
+pub mod SeenLemmas
+pub mod ShareLemmas
+pub mod StepLemmas
+pub mod TakeLemmas
+pub mod TallyLemmas
+pub mod ViewLemmas

@@ -1,0 +1,54 @@
+-- Calls, and the entries that they make.
+use Rattle.std.specs.Prelude.{◌≡◌, ℕ, List, [], ◌∷◌, ◌++◌, ◌≤◌, take}
+use Rattle.tb_lock.specs.declared.view.Call.{Call}
+use Rattle.tb_lock.specs.Meanings.{History, IsPrefix, Answer, accepted, repeated, faulted, entryless, Meanings}
+
+-- a call so answered may add an entry: it was accepted, or met a fault
+abbrev pub MayAdd : Answer → Type 0
+MayAdd accepted = Unit {0}
+MayAdd repeated = ⊥
+MayAdd faulted = Unit {0}
+MayAdd entryless = ⊥
+
+-- an entry before others, where the call was accepted
+abbrev pub added_if : Answer → List ℕ → History → History
+added_if accepted entry others = entry ∷ others
+added_if repeated entry others = others
+added_if faulted entry others = others
+added_if entryless entry others = others
+
+-- the calls that are told, each with as many first entries of the history as are told for it, between these counts of faults
+abbrev pub calls_on : History → ℕ → ℕ → List (List ℕ × ℕ) → List Call
+calls_on history before after [] = []
+calls_on history before after (c ∷ cs) =
+    (record { code = c.0; prefix = take c.1 history; faults_before = before; faults_after = after })
+    ∷ calls_on history before after cs
+
+-- the call's counts of faults lie between two numbers, the one before not above the one after
+pub record IsBetween (low high : ℕ) (c : Call) : Type 0 where
+  pub least : low ≤ c.faults_before
+  pub rising : c.faults_before ≤ c.faults_after
+  pub most : c.faults_after ≤ high
+
+module _ {T : Type 0} (m : Meanings T) (fixed : List ℕ) where
+  abbrev pub entry_of : Call → List ℕ
+  entry_of c = m.entry fixed c.prefix c.code
+
+  -- the call was answered on a beginning of the history, and there its entry follows where it was accepted
+  pub record Stands (history : History) (c : Call) : Type 0 where
+    pub answered : m.answered fixed c.prefix c.code c.faults_before c.faults_after
+    pub prefix : IsPrefix c.prefix history
+    pub entry : m.answer c.code ≡ accepted → IsPrefix (c.prefix ++ entry_of c ∷ []) history
+
+  -- the entry is that of the call, which was accepted or met a fault
+  abbrev pub Makes : List ℕ → Call → Type 0
+  Makes entry c = MayAdd (m.answer c.code) × (entry_of c ≡ entry)
+
+  -- the entry is that of the call, which met a fault
+  abbrev pub Leaves : List ℕ → Call → Type 0
+  Leaves entry c = (m.answer c.code ≡ faulted) × (entry_of c ≡ entry)
+
+  -- the entries of the calls that were accepted, in order
+  abbrev pub accepted_of : List Call → History
+  accepted_of [] = []
+  accepted_of (c ∷ cs) = added_if (m.answer c.code) (entry_of c) (accepted_of cs)

@@ -1,0 +1,18 @@
+//! A lock whose turns go by tickets, and whose passes know what they have seen and said.
+#![tactic(auto)]
+
+mod annals;
+mod lock;
+mod pass;
+mod rule;
+mod steps;
+mod tally;
+#[cfg(test)]
+mod tests;
+mod turn;
+mod view;
+
+pub use annals::{Annals, Told};
+pub use lock::{TurnLock, Unserved};
+pub use pass::Pass;
+pub use view::{Call, Stage, View};
