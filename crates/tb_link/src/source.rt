@@ -1,5 +1,5 @@
 //! Sources of bytes.
-ghost use Rattle.std.specs.Prelude.{◌<◌, length, IfOk, OnErr};
+ghost use Rattle.std.specs.Prelude.{◌<◌, length, codes, Some, IfOk, OnErr};
 ghost use Rattle.tb_link.specs.Sources.{SourceState, Gives, FailsToGive};
 ghost use Rattle.tb_link.specs.Sinks.{SinkState, LeavesSink, no_sink};
 
@@ -11,6 +11,8 @@ use std::fmt;
 pub struct Failed;
 
 impl fmt::Display for Failed {
+    ghost output = { λ _. Some (codes "a stream or a device failed") };
+
     fn fmt<W: fmt::Write>(&self, f: &mut fmt::Formatter<W>) -> fmt::Result {
         write!(f, "a stream or a device failed")
     }

@@ -1,0 +1,4 @@
+pub mod PlaceLemmas
+pub mod HoldingLemmas
+pub mod PledgeLemmas
+pub mod KeptLemmas
