@@ -1,1 +1,3 @@
 pub mod Prices
+pub mod Payments
+pub mod Investments

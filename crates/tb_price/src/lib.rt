@@ -1,8 +1,14 @@
-//! Prices of Treasury bills (31 CFR Part 356, Appendix B).
+//! Prices, payments and investment rates of Treasury bills (31 CFR Part 356, Appendix B).
 #![tactic(auto)]
 
+mod investing;
+mod paying;
 mod pricing;
 #[cfg(test)]
 mod tests;
+mod yearly;
 
+pub use investing::investment;
+pub use paying::payment;
 pub use pricing::{above_zero, price};
+pub use yearly::Investment;

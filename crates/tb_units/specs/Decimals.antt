@@ -22,3 +22,7 @@ price_text millionths = with_decimals 6 millionths
 -- a percentage, from its hundredths
 abbrev pub percent_text : ℕ → List ℕ
 percent_text hundredths = with_decimals 2 hundredths
+
+-- money in dollars, from its cents
+abbrev pub cents_text : ℕ → List ℕ
+cents_text cents = with_decimals 2 cents

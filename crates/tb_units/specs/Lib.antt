@@ -2,3 +2,4 @@ pub mod Decimals
 pub mod Rates
 pub mod Names
 pub mod Padding
+pub mod Years

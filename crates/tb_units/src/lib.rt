@@ -1,11 +1,14 @@
-//! Numbers, names and short texts of bills: amounts, rates, prices, percentages and days, each with its one
-//! printed form and the reader of its spellings. Nothing here takes memory.
+//! Numbers, names and short texts of bills: amounts, rates, prices, percentages, terms, days and moments, with the
+//! printed form and the reader of those that are printed and read. Nothing here takes memory.
 #![tactic(auto)]
 
 mod amount;
+mod cents;
+mod day;
 mod ident;
 mod lines;
 mod memory;
+mod moment;
 mod number;
 mod percent;
 mod price;
@@ -14,14 +17,19 @@ mod short;
 mod term;
 #[cfg(test)]
 mod tests;
+mod year;
 
 pub use amount::Dollars;
+pub use cents::Cents;
+pub use day::Day;
 pub use ident::Ident;
 pub use lines::RateLine;
 pub use memory::OutOfMemory;
+pub use moment::Moment;
 pub use number::{read_number, read_within};
 pub use percent::Percent;
 pub use price::Price;
 pub use rate::{Rate, RateFault};
 pub use short::Short;
 pub use term::Days;
+pub use year::YearLength;

@@ -1,4 +1,4 @@
-//! A printed number: at most 48 bytes, kept in place.
+//! A printed number or day: at most 48 bytes, kept in place.
 ghost use Rattle.std.specs.Prelude.{◌≡◌, ℕ, ◌+◌, ◌<◌, ◌≤◌, ◌^◌, List, [], ◌∷◌, ◌++◌, length, take};
 ghost use Rattle.std.specs.Fmt.{decimal};
 ghost use Rattle.tb_units.specs.Decimals.{last_digits, with_decimals};
@@ -28,7 +28,8 @@ impl Short {
         &self.bytes[..self.used]
     }
 
-    fn new() -> Short
+    /// The empty text.
+    pub fn new() -> Short
         ensures { result ≡ [] }
     {
         Short {
@@ -37,7 +38,8 @@ impl Short {
         }
     }
 
-    fn push(&mut self, byte: u8)
+    /// Puts a byte, which is ASCII, at the end.
+    pub fn push(&mut self, byte: u8)
         requires { length self.old < 48 }
         ensures { self.new ≡ self.old ++ byte ∷ [] }
     {
@@ -58,7 +60,8 @@ impl Short {
         self.push(b'0' + (number % 10) as u8);
     }
 
-    fn push_last_digits(&mut self, number: u128, places: usize)
+    /// Puts so many last digits of a number at the end, with zeros in front where it has fewer.
+    pub fn push_last_digits(&mut self, number: u128, places: usize)
         requires { length self.old + places ≤ 48 }
         ensures { self.new ≡ self.old ++ last_digits places number }
     {

@@ -43,6 +43,24 @@ fn numbers_are_printed_with_all_their_decimals(rt: HostRuntime) {
         .print(),
         "1000000000000",
     );
+    for (value, wanted) in [(0, "0.00"), (5, "0.05"), (989_206, "9892.06")] {
+        shows(&rt, Cents { value }.print(), wanted);
+    }
+}
+
+#[test]
+fn texts_are_put_together(rt: HostRuntime) {
+    let mut text = Short::new();
+    text.push_last_digits(2024, 4);
+    text.push(b'-');
+    text.push_last_digits(2, 2);
+    shows(&rt, text, "2024-02");
+}
+
+#[test]
+fn years_have_their_days(rt: HostRuntime) {
+    assert_eq!(rt; YearLength::Y365.days(), 365);
+    assert_eq!(rt; YearLength::Y366.days(), 366);
 }
 
 #[test]

@@ -1,0 +1,6 @@
+pub mod Rule
+pub mod CalendarFacts
+pub mod EasternFacts
+pub mod TextFacts
+pub mod YearFacts
+pub mod PayableFacts

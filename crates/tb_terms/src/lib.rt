@@ -1,0 +1,20 @@
+//! Announcements of auctions: their terms, checked and dated in Eastern time.
+#![tactic(auto)]
+
+mod announcement;
+mod civil;
+mod cusip;
+mod eastern;
+mod length;
+mod paying;
+#[cfg(test)]
+mod tests;
+mod texts;
+mod zone;
+
+pub use announcement::{Announcement, Terms, TermsFault};
+pub use cusip::Cusip;
+pub use eastern::EasternDays;
+pub use length::year_length;
+pub use paying::payment_date;
+pub use texts::{print_day, print_minute, read_day, read_minute};
