@@ -1,0 +1,25 @@
+-- The disk in memory, as contracts see it.
+use Rattle.std.specs.Prelude.{◌≡◌, ◌⊎◌, ℕ, ◌+◌, min, Some, Contains}
+use Rattle.tb_link.specs.Counts.{last_count}
+use Rattle.tb_disk.specs.Disks.{DiskState}
+use Rattle.tb_disk.specs.Logging.{recorded, taken_of, HasRoom}
+use Rattle.tb_disk.specs.declared.memory_disk.MemoryDisk.{MemoryDisk}
+
+-- it tells all
+abbrev pub memory_disk : MemoryDisk → DiskState
+memory_disk d = record { past = Some (recorded d.torn d.log); faults = d.faults }
+
+-- the call that writes so many bytes fails: it is one of those that are to fail, or there is no room in the log
+abbrev pub MustFail : MemoryDisk → ℕ → Type 0
+MustFail d size = Contains d.fails.items d.calls ⊎ (HasRoom d.log size → ⊥)
+
+-- what any call does, which writes so many bytes: it is counted, it takes its room in the log where there is as much,
+-- and what the disk was made with stays
+pub record CountsCall (size : ℕ) (old new : MemoryDisk) : Type 0 where
+  pub calls : new.calls ≡ min (old.calls + 1) last_count
+  pub noted : HasRoom old.log size → taken_of new.log ≡ taken_of old.log + 32 + size
+  pub full : (HasRoom old.log size → ⊥) → new.log ≡ old.log
+  pub log_room : new.log.room ≡ old.log.room
+  pub room : new.room ≡ old.room
+  pub torn : new.torn ≡ old.torn
+  pub fails : new.fails ≡ old.fails

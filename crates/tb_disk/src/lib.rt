@@ -1,0 +1,18 @@
+//! A disk that may fail and crash: what its calls promise, what a crash may leave, a disk in memory that tells all of
+//! it, and an adapter over a real file that tells nothing.
+#![tactic(auto)]
+
+mod bytes;
+mod disk;
+mod file_disk;
+mod laws;
+mod log;
+mod memory_disk;
+mod note;
+#[cfg(test)]
+mod tests;
+
+pub use disk::Disk;
+pub use file_disk::FileDisk;
+pub use laws::contents_may_be_left;
+pub use memory_disk::MemoryDisk;

@@ -1,0 +1,9 @@
+pub mod Gates
+pub mod Calls
+pub mod Spelling
+pub mod Settling
+pub mod Reading
+pub mod OpeningLemmas
+pub mod Knowing
+pub mod Placing
+pub mod Exactness

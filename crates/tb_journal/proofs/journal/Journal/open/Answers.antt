@@ -1,0 +1,14 @@
+use Rattle.std.proofs.Common.{Ok, Err}
+use Rattle.tb_journal.proofs.OpeningLemmas.{Finds, Refuses}
+use Rattle.tb_journal.proofs.Exactness.{exact_told}
+use Rattle.tb_journal.proofs.journal.Journal.open.Goals as goal
+
+pub returns-in-Ok-with_capacity-clause-exact : goal.returns-in-Ok-with_capacity-clause-exact
+returns-in-Ok-with_capacity-clause-exact g c =
+    let d = g.D.Disk.disk in
+    exact_told (Ok c.in-Ok.frames) (Finds c.in-Ok.frames c.in-Ok.gate) (d c.args.disk) (d c.find.new.disk) (λ before now finds. finds.0) c.in-Ok.ensures.ok
+
+pub returns-in-Err-clause-exact_refusal : goal.returns-in-Err-clause-exact_refusal
+returns-in-Err-clause-exact_refusal g c =
+    let d = g.D.Disk.disk in
+    exact_told (Err c.in-Err.fault) (Refuses c.in-Err.fault) (d c.args.disk) (d c.find.new.disk) (λ before now refuses. refuses.0) c.in-Err.ensures.err

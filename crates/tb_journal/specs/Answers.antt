@@ -1,0 +1,34 @@
+-- What an opening may answer.
+use Rattle.std.specs.Prelude.{◌≡◌, ◌≢◌, ℕ, List, Result, Ok, Err}
+use Rattle.tb_journal.specs.Image.{StandsFor, IsNoJournal, IsDamaged}
+use Rattle.tb_journal.specs.declared.fault.JournalFault.{JournalFault}
+use Rattle.tb_journal.specs.declared.fault.JournalFault.TheVariants.{DiskFault, NotAJournal, Damaged, OutOfMemory}
+
+-- the payloads that were found, or the refusal
+abbrev pub Answer : Type 0
+Answer = Result (List (List ℕ)) JournalFault
+
+-- the answer is true of the file
+abbrev pub IsTrueOf : List ℕ → Answer → Type 0
+IsTrueOf file (Ok payloads) = StandsFor payloads file
+IsTrueOf file (Err (NotAJournal found)) = IsNoJournal file found
+IsTrueOf file (Err (Damaged place)) = IsDamaged file place
+IsTrueOf file (Err DiskFault) = Unit {0}
+IsTrueOf file (Err OutOfMemory) = Unit {0}
+
+-- the answer speaks of the file, and not of a failing disk or of memory
+abbrev pub SpeaksOfFile : Answer → Type 0
+SpeaksOfFile answer = (answer ≢ Err DiskFault) × (answer ≢ Err OutOfMemory)
+
+-- It is true of the file, and no other is: so where the disk doesn't fail and memory doesn't run out, each answer is
+-- given exactly where it is true.
+pub record IsExact (file : List ℕ) (answer : Answer) : Type 0 where
+  pub is_true : IsTrueOf file answer
+  pub only : (other : Answer) → IsTrueOf file other → SpeaksOfFile other → SpeaksOfFile answer → answer ≡ other
+
+-- a refusal of a file that is no journal, or damaged, leaves it as it was
+abbrev pub LeavesRefused : JournalFault → List ℕ → List ℕ → Type 0
+LeavesRefused (NotAJournal found) before now = now ≡ before
+LeavesRefused (Damaged place) before now = now ≡ before
+LeavesRefused DiskFault before now = Unit {0}
+LeavesRefused OutOfMemory before now = Unit {0}

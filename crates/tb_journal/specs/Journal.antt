@@ -1,0 +1,89 @@
+-- What a journal's disk holds, between calls and in doubt.
+use Rattle.std.specs.Prelude.{◌≡◌, ◌≢◌, ◌⊎◌, ℕ, ◌+◌, List, [], ◌∷◌, ◌++◌, length, Option, Some, None}
+use Rattle.tb_disk.specs.Past.{Past, Then, contents_of, MayLeave, IsSynced, Leaves}
+use Rattle.tb_disk.specs.Steps.{Wrote, Synced}
+use Rattle.tb_disk.specs.Disks.{DiskState}
+use Rattle.tb_journal.specs.Frames.{IsPayload, ArePayloads, framed, front}
+use Rattle.tb_journal.specs.Image.{IsFramed, StandsFor}
+
+-- a gate byte that may be 1: where it is, the frame of this payload stands whole behind it, and then a closed gate
+pub record IsDoubtful (payloads : List (List ℕ)) (payload file : List ℕ) : Type 0 where
+  pub sizes : ArePayloads payloads
+  pub size : IsPayload payload
+  pub gate : ℕ
+  pub rest : List ℕ
+  pub is : file ≡ front payloads ++ gate ∷ rest
+  pub whole : gate ≡ 1 → (next : ℕ) × (more : List ℕ) × (rest ≡ framed payload ++ next ∷ more) × (next ≢ 1)
+
+-- the file stands for the payloads, with one more or without it
+abbrev pub WithOrWithout : List (List ℕ) → List ℕ → List ℕ → Type 0
+WithOrWithout payloads payload file = StandsFor payloads file ⊎ StandsFor (payloads ++ payload ∷ []) file
+
+-- the payloads and a closed gate at this place, all of it on the disk
+pub record Holds (payloads : List (List ℕ)) (gate : ℕ) (past : Past) : Type 0 where
+  pub place : length (front payloads) ≡ gate
+  pub file : IsFramed payloads (contents_of past)
+  pub synced : IsSynced past
+
+-- the payloads and a gate at this place, and one more payload that may count or not; behind it the gate is at `next`
+pub record InDoubt (payloads : List (List ℕ)) (payload : List ℕ) (gate next : ℕ) (past : Past) : Type 0 where
+  pub place : length (front payloads) ≡ gate
+  pub after : gate + 1 + length (framed payload) ≡ next
+  pub file : IsDoubtful payloads payload (contents_of past)
+  pub images : (c : List ℕ) → MayLeave past c → IsDoubtful payloads payload c
+
+-- the frame of one more payload stands behind the closed gate, all of it on the disk
+pub record IsStaged (payloads : List (List ℕ)) (payload : List ℕ) (gate : ℕ) (past : Past) : Type 0 where
+  pub place : length (front payloads) ≡ gate
+  pub sizes : ArePayloads payloads
+  pub size : IsPayload payload
+  pub closed : ℕ
+  pub more : List ℕ
+  pub is : contents_of past ≡ front payloads ++ closed ∷ (framed payload ++ 0 ∷ more)
+  pub shut : closed ≢ 1
+  pub synced : IsSynced past
+
+-- what a call did to a disk: one that told what had happened to it tells it again, and then P holds of both; one
+-- that told nothing tells nothing
+pub record Told (old new : DiskState) (P : Past → Past → Type 0) : Type 0 where
+  pub silent : old.past ≡ None → new.past ≡ None
+  pub told : (before : Past) → old.past ≡ Some before → (now : Past) × (new.past ≡ Some now) × P before now
+
+-- the frame of a payload and a closed gate were written behind the gate, and synced
+abbrev pub staged_past : List ℕ → ℕ → Past → Past
+staged_past payload gate before = Then Synced (Then (Wrote (gate + 1) (framed payload ++ 0 ∷ [])) before)
+
+-- the byte 1 was written on the gate, and synced
+abbrev pub opened_past : ℕ → Past → Past
+opened_past gate before = Then Synced (Then (Wrote gate (1 ∷ [])) before)
+
+-- behind a closed gate one more payload may count or not, and all images since stand for the payloads with it or
+-- without
+abbrev pub Doubts : List ℕ → ℕ → ℕ → Past → Past → Type 0
+Doubts payload gate next before now = (payloads : List (List ℕ)) → Holds payloads gate before
+    → InDoubt payloads payload gate next now × Leaves (WithOrWithout payloads payload) before now
+
+-- one more payload is staged
+abbrev pub Stages : List ℕ → ℕ → Past → Past → Type 0
+Stages payload gate before now = (payloads : List (List ℕ)) → Holds payloads gate before
+    → IsStaged payloads payload gate now × Leaves (WithOrWithout payloads payload) before now
+
+-- what was staged may count or not
+abbrev pub MaybeCounts : List ℕ → ℕ → ℕ → Past → Past → Type 0
+MaybeCounts payload gate next before now = (payloads : List (List ℕ)) → IsStaged payloads payload gate before
+    → InDoubt payloads payload gate next now × Leaves (WithOrWithout payloads payload) before now
+
+-- what was staged counts
+abbrev pub Counts : List ℕ → ℕ → ℕ → Past → Past → Type 0
+Counts payload gate next before now = (payloads : List (List ℕ)) → IsStaged payloads payload gate before
+    → Holds (payloads ++ payload ∷ []) next now × Leaves (WithOrWithout payloads payload) before now
+
+-- one more payload
+abbrev pub Adds : List ℕ → ℕ → ℕ → Past → Past → Type 0
+Adds payload gate next before now = (payloads : List (List ℕ)) → Holds payloads gate before
+    → Holds (payloads ++ payload ∷ []) next now × Leaves (WithOrWithout payloads payload) before now
+
+-- what a journal knows of its disk: where its gate is, and if a payload is in doubt, where the gate is behind it
+abbrev pub Keeps : ℕ → Option ℕ → Past → Type 0
+Keeps gate None past = (payloads : List (List ℕ)) × Holds payloads gate past
+Keeps gate (Some next) past = (payloads : List (List ℕ)) × (payload : List ℕ) × InDoubt payloads payload gate next past

@@ -1,0 +1,6 @@
+pub mod Frames
+pub mod Image
+pub mod Journal
+pub mod Opening
+pub mod Payloads
+pub mod Answers

@@ -1,0 +1,79 @@
+//! The device calls of a journal: two put a frame behind the gate, two open the gate, two look at it.
+ghost use Rattle.std.specs.Prelude.{◌≡◌, ◌⊎◌, ◌+◌, ◌<◌, ◌≤◌, ◌↔◌, ◌^◌, ℕ, List, [], ◌∷◌, ◌++◌, length, slice_index, vec_capacity, IfOk, OnOk, OnErr, IsTrue};
+ghost use Rattle.tb_link.specs.Counts.{Rose, NeverFalls};
+ghost use Rattle.tb_disk.specs.Steps.{Synced};
+ghost use Rattle.tb_disk.specs.Past.{Then, contents_of};
+ghost use Rattle.tb_disk.specs.Disks.{Reaches};
+ghost use Rattle.tb_journal.specs.Frames.{IsPayload, framed};
+ghost use Rattle.tb_journal.specs.Journal.{Told, Stages, Doubts, Counts, MaybeCounts, staged_past, opened_past};
+
+use tb_disk::Disk;
+use tb_link::Failed;
+
+/// The bytes of a frame without its gate byte, and a closed gate: what is written behind the standing gate.
+#[tactic(auto, unfolding(crate::specs::Frames::framed))]
+pub fn spell(block: &mut Vec<u8>, payload: &[u8])
+    requires size { IsPayload payload.now }
+    requires room { length payload.now + 5 ≤ vec_capacity block.old }
+    ensures bytes { block.new.items ≡ framed payload.now ++ 0 ∷ [] }
+    ensures room { vec_capacity block.old ≤ vec_capacity block.new }
+{
+    block.clear();
+    let length = payload.len() as u32;
+    block.extend_from_slice(&length.to_be_bytes()).unwrap();
+    block.extend_from_slice(payload).unwrap();
+    block.push(0).unwrap();
+}
+
+/// Puts the frame of a payload behind the closed gate.
+pub fn stage<D: Disk>(
+    disk: &mut D,
+    gate: u64,
+    payload: &[u8],
+    block: &mut Vec<u8>,
+) -> Result<(), Failed>
+    requires size { IsPayload payload.now }
+    requires room { length payload.now + 5 ≤ vec_capacity block.old }
+    requires place { Reaches (D.disk disk.old) (gate + 1) }
+    requires end { gate + 6 + length payload.now < 2 ^ 42 }
+    ensures ok { OnOk result (Told (D.disk disk.old) (D.disk disk.new) (Stages payload.now gate)) }
+    ensures steps { OnOk result (Told (D.disk disk.old) (D.disk disk.new) (λ before now. now ≡ staged_past payload.now gate before)) }
+    ensures err { OnErr result (Told (D.disk disk.old) (D.disk disk.new) (Doubts payload.now gate (gate + 5 + length payload.now))) }
+    ensures fault { OnErr result (Rose (D.disk disk.old).faults (D.disk disk.new).faults) }
+    ensures count { NeverFalls (D.disk disk.old).faults (D.disk disk.new).faults }
+    ensures room { vec_capacity block.old ≤ vec_capacity block.new }
+{
+    spell(block, payload);
+    disk.write_at(gate + 1, block)?;
+    // The frame is on the disk before its gate opens.
+    disk.sync()
+}
+
+/// Opens the gate before a frame that is on the disk.
+pub fn open_gate<D: Disk>(disk: &mut D, gate: u64) -> Result<(), Failed>
+    requires place { Reaches (D.disk disk.old) gate }
+    requires end { gate + 1 < 2 ^ 42 }
+    ensures ok { OnOk result ((payload : List ℕ) → Told (D.disk disk.old) (D.disk disk.new) (Counts payload gate (gate + 5 + length payload))) }
+    ensures steps { OnOk result (Told (D.disk disk.old) (D.disk disk.new) (λ before now. now ≡ opened_past gate before)) }
+    ensures err { OnErr result ((payload : List ℕ) → Told (D.disk disk.old) (D.disk disk.new) (MaybeCounts payload gate (gate + 5 + length payload))) }
+    ensures fault { OnErr result (Rose (D.disk disk.old).faults (D.disk disk.new).faults) }
+    ensures count { NeverFalls (D.disk disk.old).faults (D.disk disk.new).faults }
+{
+    // The gate byte comes last: a crash before it leaves the old payloads.
+    disk.write_at(gate, &[1])?;
+    disk.sync()
+}
+
+/// Syncs, and says whether the gate byte is 1.
+pub fn gate_is_open<D: Disk>(disk: &mut D, gate: u64) -> Result<bool, Failed>
+    ensures ok { IfOk result (λ counts. Told (D.disk disk.old) (D.disk disk.new) (λ before now. (now ≡ Then Synced before)
+        × (gate < length (contents_of before) → IsTrue counts ↔ (slice_index (contents_of before) gate ≡ 1)))) }
+    ensures err { OnErr result (Told (D.disk disk.old) (D.disk disk.new) (λ before now. (now ≡ before) ⊎ (now ≡ Then Synced before))) }
+    ensures fault { OnErr result (Rose (D.disk disk.old).faults (D.disk disk.new).faults) }
+    ensures count { NeverFalls (D.disk disk.old).faults (D.disk disk.new).faults }
+{
+    disk.sync()?;
+    let mut byte = [0u8];
+    let count = disk.read(gate, &mut byte)?;
+    Ok(count == 1 && byte[0] == 1)
+}
