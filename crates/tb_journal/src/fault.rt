@@ -1,5 +1,5 @@
 //! Why a journal isn't opened, and why a payload isn't acknowledged.
-ghost use Rattle.std.specs.Prelude.{◌≡◌};
+ghost use Rattle.std.specs.Prelude.{◌≡◌, Some, codes};
 ghost use Rattle.tb_journal.specs.declared.fault.JournalFault.TheVariants.{OutOfMemory, DiskFault};
 
 use std::alloc::{AllocError, AllocFailed};
@@ -12,6 +12,8 @@ use tb_link::Failed;
 pub struct DiskFault;
 
 impl fmt::Display for DiskFault {
+    ghost output = { λ _. Some (codes "the disk failed") };
+
     fn fmt<W: fmt::Write>(&self, f: &mut fmt::Formatter<W>) -> fmt::Result {
         write!(f, "the disk failed")
     }
