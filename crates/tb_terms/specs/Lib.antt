@@ -6,3 +6,4 @@ pub mod Payable
 pub mod Cusips
 pub mod Announcements
 pub mod Zone
+pub mod Refusals

@@ -230,3 +230,19 @@ fn faults_are_told_in_their_order(rt: HostRuntime) -> Result<(), OutOfMemory> {
     refused(&rt, &days, &announcement, TermsFault::BadDates);
     Ok(())
 }
+
+#[test]
+fn refusals_are_told_by_number_and_name(rt: HostRuntime) {
+    let payment = Day { number: 20_125 };
+    for (refusal, number, name) in [
+        (Refusal::UnknownKey, 1, "UnknownKey"),
+        (Refusal::BadShape(Field::NcClose), 6, "BadShape"),
+        (Refusal::BidQuota, 21, "BidQuota"),
+        (Refusal::NotDue { payment }, 81, "NotDue"),
+    ] {
+        assert_eq!(rt; refusal.number(), number, "{name}");
+        assert_eq!(rt; refusal.name(), name.as_bytes(), "{name}");
+    }
+    assert_eq!(rt; Field::Body.member(), b"body".as_slice());
+    assert_eq!(rt; Field::NcClose.member(), b"nc_close".as_slice());
+}

@@ -3,3 +3,4 @@ pub mod Rates
 pub mod Names
 pub mod Padding
 pub mod Years
+pub mod LineOrder
