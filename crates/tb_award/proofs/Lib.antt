@@ -1,0 +1,5 @@
+pub mod CutLemmas
+pub mod BidLemmas
+pub mod CallerLemmas
+pub mod SettleLemmas
+pub mod PassLemmas

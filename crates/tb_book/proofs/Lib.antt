@@ -1,0 +1,5 @@
+pub mod ListLemmas
+pub mod OrderLemmas
+pub mod RateLineLemmas
+pub mod ChangeLemmas
+pub mod BookLemmas

@@ -1,0 +1,10 @@
+//! The sealed book of one auction: its live bids, in order of rate. It knows nothing of rules, moments or messages.
+#![tactic(auto)]
+
+mod book;
+mod book_line;
+#[cfg(test)]
+mod tests;
+
+pub use book::Book;
+pub use book_line::BookLine;

@@ -1,0 +1,11 @@
+//! The rules that a bid must meet when it comes (31 CFR 356.11 and 356.12), and when a report of a position is in time.
+//! They look at the terms of the auction and at what stands of the bidder in it.
+#![tactic(auto)]
+
+mod own;
+#[cfg(test)]
+mod tests;
+mod verdicts;
+
+pub use own::Own;
+pub use verdicts::{bid_verdict, position_verdict};

@@ -1,0 +1,118 @@
+//! Verdicts on bids and on reports of positions.
+ghost use Rattle.std.specs.Prelude.{◌≡◌, ◌+◌, ◌%◌, ◌<◌, ◌≤◌, ◌⊎◌, ◌↔◌, IsTrue, false, IfSome, IsSome, IsNone};
+ghost use Rattle.tb_rules.specs.BidRules.{Breaks, IsFirstBroken, LacksPrice};
+ghost use Rattle.tb_rules.specs.BidRules as rules;
+ghost use Rattle.tb_terms.specs.declared.refusal.Refusal.{Refusal};
+ghost use Rattle.tb_terms.specs.declared.refusal.Refusal.TheVariants as refusal;
+
+use crate::own::Own;
+use tb_price::above_zero;
+use tb_terms::{Refusal, Terms};
+use tb_units::{Dollars, Moment, Rate};
+
+// Accepted bids of a bidder in an auction.
+const MOST_BIDS: u32 = 1000;
+
+/// The first rule that a bid breaks, in the order of the refusals' numbers: 12, 13, 16, 17, 18, 19, 20, 21. `None` where
+/// it breaks none. A bid without a rate is noncompetitive.
+pub fn bid_verdict(
+    terms: &Terms,
+    own: &Own,
+    rate: Option<Rate>,
+    amount: Dollars,
+    moment: Moment,
+) -> Option<Refusal>
+    ensures first { IfSome result (IsFirstBroken terms.now own.now rate amount.value moment) }
+    ensures none { IsNone result ↔ ((refusal : Refusal) → ¬ (Breaks terms.now own.now rate amount.value moment refusal)) }
+{
+    if amount.value < terms.announcement.minimum.value {
+        return Some(Refusal::BelowMinimum);
+    }
+    if is_no_multiple(amount) {
+        return Some(Refusal::NotMultiple);
+    }
+    if lacks_price(terms, rate) {
+        return Some(Refusal::RateTooHigh);
+    }
+    let closing = closing_for(terms, rate);
+    if moment.seconds >= closing.seconds {
+        return Some(Refusal::Late { moment, closing });
+    }
+    if passes_ceiling(terms, own, rate, amount) {
+        return Some(Refusal::NoncompetitiveCeiling);
+    }
+    if par_of_other_kind(own, rate).value > 0 {
+        return Some(Refusal::MixedBids);
+    }
+    if lacks_report(terms, own, rate, amount) {
+        return Some(Refusal::PositionRequired);
+    }
+    if own.accepted >= MOST_BIDS {
+        return Some(Refusal::BidQuota);
+    }
+    None
+}
+
+fn is_no_multiple(amount: Dollars) -> bool
+    ensures { IsTrue result ↔ ((amount.value ≡ 0) ⊎ ¬ (amount.value % 100 ≡ 0)) }
+{
+    amount.value == 0 || amount.value % 100 != 0
+}
+
+fn lacks_price(terms: &Terms, rate: Option<Rate>) -> bool
+    ensures { IsTrue result ↔ LacksPrice terms.now rate }
+{
+    match rate {
+        Some(rate) => !above_zero(rate, terms.days),
+        None => false,
+    }
+}
+
+fn closing_for(terms: &Terms, rate: Option<Rate>) -> Moment
+    ensures { result ≡ rules.closing_for terms.now rate }
+{
+    match rate {
+        Some(_) => terms.c_moment,
+        None => terms.nc_moment,
+    }
+}
+
+fn passes_ceiling(terms: &Terms, own: &Own, rate: Option<Rate>, amount: Dollars) -> bool
+    ensures { IsTrue result
+        ↔ (IsNone rate × (terms.now.announcement.nc_ceiling.value < own.now.noncompetitive.value + amount.value)) }
+{
+    rate.is_none() && own.noncompetitive.value + amount.value > terms.announcement.nc_ceiling.value
+}
+
+fn par_of_other_kind(own: &Own, rate: Option<Rate>) -> Dollars
+    ensures { result.value ≡ rules.par_of_other_kind own.now rate }
+{
+    match rate {
+        Some(_) => own.noncompetitive,
+        None => own.competitive,
+    }
+}
+
+fn lacks_report(terms: &Terms, own: &Own, rate: Option<Rate>, amount: Dollars) -> bool
+    ensures { IsTrue result
+        ↔ (IsSome rate × (terms.now.announcement.nlp_threshold.value ≤ own.now.competitive.value + amount.value)
+        × (own.now.reported ≡ false)) }
+{
+    rate.is_some()
+        && own.competitive.value + amount.value >= terms.announcement.nlp_threshold.value
+        && !own.reported
+}
+
+/// `Late` where a report comes at or after the competitive closing; else `None`.
+pub fn position_verdict(terms: &Terms, moment: Moment) -> Option<Refusal>
+    ensures late { IfSome result (λ refused. (refused ≡ refusal.Late moment terms.now.c_moment) × (terms.now.c_moment.seconds ≤ moment.seconds)) }
+    ensures none { IsNone result ↔ (moment.seconds < terms.now.c_moment.seconds) }
+{
+    if moment.seconds < terms.c_moment.seconds {
+        return None;
+    }
+    Some(Refusal::Late {
+        moment,
+        closing: terms.c_moment,
+    })
+}
