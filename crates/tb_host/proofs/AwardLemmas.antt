@@ -1,92 +1,117 @@
--- The lines of the competitive bids.
-use Rattle.std.proofs.Common.{◌≡◌, ℕ, ◌+◌, ◌*◌, ◌^◌, ◌<◌, ◌≤◌, Bool, true, false, cond, List, [], ◌∷◌, ◌++◌, length, take, get_or, sym, subst, ap, ◌∙◌, refl, arith}
-use Rattle.std.specs.Prelude.{Option, Some, None, All, is_some, ◌||◌}
-use Rattle.std.proofs.lemmas.List.{length-append}
-use Rattle.std.proofs.lemmas.List.Elements.{All-push}
-use Rattle.std.proofs.lemmas.List.Sums.{sum_by_push, sum_by-le, sum_by_more_le_part}
-use Rattle.tb_units.specs.declared.rate.Rate.{Rate}
-use Rattle.tb_price.specs.Prices.{HasPrice}
-use Rattle.tb_host.specs.AwardLines.{AddsLine}
-use Rattle.std.specs.List.{list_any, sum_by}
+-- What each bidder gets, and the lines that say so.
+use Rattle.std.proofs.Common.{◌≡◌, ℕ, suc, ◌+◌, ◌*◌, ◌/◌, ◌<◌, ◌≤◌, ◌==◌, Bool, true, false, cond, List, [], ◌∷◌, ◌++◌, length, get_or, set, slice_index, sym, subst, ap, ◌∙◌, refl, arith, append_assoc, append-nil, inl, inr}
+use Rattle.std.proofs.lemmas.Bool.{cases_eq, cases_order, eq-eqb, ne_eqb}
+use Rattle.std.proofs.lemmas.List.{length-append, length-set, get_or-set_same, get_or-set_other}
+use Rattle.std.proofs.lemmas.List.Sums.{sum_by_push, sum_by-le-sum_by}
+use Rattle.std.proofs.Math.Nat.{mul-le-mul_left}
 use Rattle.tb_units.specs.declared.lines.RateLine.{RateLine}
-use Rattle.tb_host.specs.Books.{is_competitive, HasRules}
-use Rattle.tb_host.specs.Cuts.{par_of, par_bid, total_of, amount_of, competitive_par, noncompetitive, noncompetitive_par, IsCut}
-use Rattle.tb_host.specs.SoundBooks.{IsSoundBid, IsSoundLine, IsSoundBook}
-use Rattle.tb_host.specs.declared.book_line.Bid.{Bid}
-use Rattle.tb_host.specs.declared.book_line.Offering.{Offering}
+use Rattle.tb_price.specs.Payments.{IsPayment}
+use Rattle.tb_award.specs.Awards.{AreAwards, IsAward, IsProrated, awarded_to}
+use Rattle.tb_award.specs.Cuts.{amount_of, total_of}
+use Rattle.tb_host.specs.BookRun.{AreAwardLines, award_line, nothing_lines}
+use Rattle.tb_host.specs.Tallies.{sum_of_way}
+use Rattle.tb_host.specs.declared.way.Way.{Way}
 
--- the lines of the bids so far
-pub record LinesSoFar (days : ℕ) (bids : List Bid) (lines : List RateLine) : Type 0 where
-  pub par : (passes : ℕ → Bool) → par_of lines passes ≡ par_bid bids passes
-  pub each : All (IsSoundLine days) lines
-  pub some : list_any is_competitive bids ≡ true → 0 < length lines
-  pub few : length lines ≤ length bids
+-- one line more
+pub award-lines-more : (amounts : ℕ → ℕ) (price number : ℕ) (names : List (List ℕ)) (text name : List ℕ) (cents : ℕ) → AreAwardLines amounts price number names text → IsPayment (amounts (number + length names)) price cents → AreAwardLines amounts price number (names ++ name ∷ []) (text ++ award_line name (amounts (number + length names)) cents)
+award-lines-more amounts price number [] text name cents are paid =
+    let here : number + 0 ≡ number = omega arith in (
+      cents,
+      [],
+      subst (λ (n : ℕ). IsPayment (amounts n) price cents) here paid,
+      ap (λ t. t ++ award_line name (amounts (number + 0)) cents) are ∙ ap (λ n. award_line name (amounts n) cents) here ∙ sym (append-nil (award_line name (amounts number) cents)),
+      refl,
+    )
+award-lines-more amounts price number (n ∷ names) text name cents are paid =
+    let next : number + suc (length names) ≡ suc number + length names = omega arith in (
+      are.0,
+      are.1 ++ award_line name (amounts (number + suc (length names))) cents,
+      are.2,
+      ap (λ t. t ++ award_line name (amounts (number + suc (length names))) cents) are.3 ∙ append_assoc (award_line n (amounts number) are.0) are.1 (award_line name (amounts (number + suc (length names))) cents),
+      subst (λ (k : ℕ). AreAwardLines amounts price (suc number) (names ++ name ∷ []) (are.1 ++ award_line name (amounts k) cents)) (sym next)
+          (award-lines-more amounts price (suc number) names are.1 name cents are.4 (subst (λ (k : ℕ). IsPayment (amounts k) price cents) next paid)),
+    )
 
--- a bid of one kind adds to the sums of that kind
-sums_more : (passes : ℕ → Bool) (bids : List Bid) (bid : Bid) → par_bid (bids ++ bid ∷ []) passes ≡ par_bid bids passes + competitive_par passes bid.rate bid.amount.value
-sums_more passes bids bid = sum_by_push (λ (b : Bid). competitive_par passes b.rate b.amount.value) bids bid
+-- lines for amounts that are the same
+pub award-lines-same : (f g : ℕ → ℕ) (price number : ℕ) (names : List (List ℕ)) (text : List ℕ) → ((k : ℕ) → k < number + length names → f k ≡ g k) → AreAwardLines f price number names text → AreAwardLines g price number names text
+award-lines-same f g price number [] text same are = are
+award-lines-same f g price number (name ∷ names) text same are =
+    let here : f number ≡ g number = same number (omega arith) in (
+      are.0,
+      are.1,
+      subst (λ (n : ℕ). IsPayment n price are.0) here are.2,
+      are.3 ∙ ap (λ n. award_line name n are.0 ++ are.1) here,
+      award-lines-same f g price (suc number) names are.1 (λ k below. same k (omega arith)) are.4,
+    )
 
-any_more : (bids : List Bid) (bid : Bid) → list_any is_competitive (bids ++ bid ∷ []) ≡ (list_any is_competitive bids || is_some bid.rate)
-any_more [] bid = or_false (is_some bid.rate)
-  where
-    or_false : (b : Bool) → (b || false) ≡ b
-    or_false true = refl
-    or_false false = refl
-any_more (b ∷ bids) bid = ap (λ t. is_competitive b || t) (any_more bids bid) ∙ or_assoc (is_competitive b) (list_any is_competitive bids) (is_some bid.rate)
-  where
-    or_assoc : (x y z : Bool) → (x || (y || z)) ≡ ((x || y) || z)
-    or_assoc true y z = refl
-    or_assoc false y z = refl
+pub nothing-lines-more : (names : List (List ℕ)) (name : List ℕ) → nothing_lines (names ++ name ∷ []) ≡ nothing_lines names ++ award_line name 0 0
+nothing-lines-more [] name = append-nil (award_line name 0 0)
+nothing-lines-more (n ∷ names) name = ap (λ t. award_line n 0 0 ++ t) (nothing-lines-more names name) ∙ sym (append_assoc (award_line n 0 0) (nothing_lines names) (award_line name 0 0))
 
-or_none : (b : Bool) → (b || false) ≡ true → b ≡ true
-or_none true is = refl
-or_none false is = is
+-- one award more
+pub awards-more : (stop percent : ℕ) (lines awards : List RateLine) (line award : RateLine) → AreAwards stop percent lines awards → award.rate ≡ line.rate → award.bidder ≡ line.bidder → IsAward stop percent line.rate.steps line.amount.value award.amount.value → AreAwards stop percent (lines ++ line ∷ []) (awards ++ award ∷ [])
+awards-more stop percent [] [] line award are rate bidder is = (rate, bidder, is, tt)
+awards-more stop percent (l ∷ lines) (a ∷ awards) line award are rate bidder is = (are.0, are.1, are.2, awards-more stop percent lines awards line award are.3 rate bidder is)
+awards-more stop percent [] (a ∷ awards) line award are rate bidder is = absurd are
+awards-more stop percent (l ∷ lines) [] line award are rate bidder is = absurd are
 
-adds : (offering : Offering) (bids : List Bid) (bid : Bid) (bidder : ℕ) (rate : Option Rate) (lines new : List RateLine) → bid.rate ≡ rate → LinesSoFar offering.days.count bids lines → IsSoundBid offering bid → AddsLine bidder rate bid.amount lines new → LinesSoFar offering.days.count (bids ++ bid ∷ []) new
-adds offering bids bid bidder None lines new is so_far sound same = record {
-  par = λ passes. ap (λ ls. par_of ls passes) same ∙ so_far.par passes ∙ sym (sums_more passes bids bid ∙ ap (λ r. par_bid bids passes + competitive_par passes r bid.amount.value) is ∙ omega arith);
-  each = subst (All (IsSoundLine offering.days.count)) (sym same) so_far.each;
-  some = λ any. subst (λ (ls : List RateLine). 0 < length ls) (sym same) (so_far.some (or_none (list_any is_competitive bids) (sym (any_more bids bid ∙ ap (λ r. list_any is_competitive bids || is_some r) is) ∙ any)));
-  few = omega (arith, ap length same, so_far.few, length-append bids (bid ∷ []));
+-- an award is the amount, raised by less than 100
+prorated-le : (percent amount award : ℕ) → percent ≤ 10000 → IsProrated percent amount award → award ≤ amount + 100
+prorated-le percent amount award small is =
+    let least : award ≤ (amount / 100 + 1) * 100 = is.least ((amount / 100 + 1) * 100) (omega arith) (let more = mul-le-mul_left amount small in omega (arith, more)) in
+    omega (arith, least)
+
+pub award-le : (stop percent steps amount award : ℕ) → percent ≤ 10000 → IsAward stop percent steps amount award → award ≤ amount + 100
+award-le stop percent steps amount award small is = elim (cases_order steps stop) [
+  | inl same ↦ prorated-le percent amount award small (is.prorated same)
+  | inr (inl less) ↦ omega (arith, is.whole less)
+  | inr (inr more) ↦ omega (arith, is.nothing more)
+]
+
+part-le : (b : Bool) (n : ℕ) → cond b n 0 ≤ n
+part-le true n = omega arith
+part-le false n = omega arith
+
+pub awarded_to-le : (bidder : ℕ) (awards : List RateLine) → awarded_to bidder awards ≤ total_of awards
+awarded_to-le bidder awards = sum_by-le-sum_by (λ (a : RateLine). cond (a.bidder == bidder) a.amount.value 0) amount_of awards (λ a. part-le (a.bidder == bidder) a.amount.value)
+
+pub awarded_to-more : (bidder : ℕ) (awards : List RateLine) (award : RateLine) → awarded_to bidder (awards ++ award ∷ []) ≡ awarded_to bidder awards + cond (award.bidder == bidder) award.amount.value 0
+awarded_to-more bidder awards award = sum_by_push (λ (a : RateLine). cond (a.bidder == bidder) a.amount.value 0) awards award
+
+pub total_of-more : (lines : List RateLine) (line : RateLine) → total_of (lines ++ line ∷ []) ≡ total_of lines + amount_of line
+total_of-more lines line = sum_by_push amount_of lines line
+
+-- what each bidder gets by the lines so far
+pub record AmountsSoFar (stop percent : ℕ) (lines : List RateLine) (ways : List Way) (amounts : List ℕ) : Type 0 where
+  pub awards : List RateLine
+  pub awarded : AreAwards stop percent lines awards
+  pub size : length amounts ≡ length ways
+  pub are : (bidder : ℕ) (d : Way) → bidder < length ways → slice_index amounts bidder ≡ awarded_to bidder awards + sum_of_way (get_or ways bidder d)
+  pub bounded : total_of awards ≤ total_of lines + 100 * length lines
+
+same_bidder : (bidder : ℕ) (awards : List RateLine) (award : RateLine) → award.bidder ≡ bidder → awarded_to bidder (awards ++ award ∷ []) ≡ awarded_to bidder awards + award.amount.value
+same_bidder bidder awards award same = awarded_to-more bidder awards award ∙ ap (λ b. awarded_to bidder awards + cond b award.amount.value 0) (eq-eqb award.bidder bidder same)
+
+other_bidder : (bidder : ℕ) (awards : List RateLine) (award : RateLine) → ¬ (award.bidder ≡ bidder) → awarded_to bidder (awards ++ award ∷ []) ≡ awarded_to bidder awards
+other_bidder bidder awards award other = awarded_to-more bidder awards award ∙ ap (λ b. awarded_to bidder awards + cond b award.amount.value 0) (ne_eqb award.bidder bidder other) ∙ omega arith
+
+-- one line's award more
+pub amounts-more : (stop percent : ℕ) (lines : List RateLine) (line award : RateLine) (ways : List Way) (amounts : List ℕ) (amount : ℕ) → AmountsSoFar stop percent lines ways amounts → percent ≤ 10000 → line.bidder < length ways → award.rate ≡ line.rate → award.bidder ≡ line.bidder → IsAward stop percent line.rate.steps line.amount.value award.amount.value → amount ≡ slice_index amounts line.bidder + award.amount.value → AmountsSoFar stop percent (lines ++ line ∷ []) ways (set amounts line.bidder amount)
+amounts-more stop percent lines line award ways amounts amount so_far small known rate bidder is amount_is = record {
+  awards = so_far.awards ++ award ∷ [];
+  awarded = awards-more stop percent lines so_far.awards line award so_far.awarded rate bidder is;
+  size = length-set amounts line.bidder amount ∙ so_far.size;
+  are = λ b d below. elim (cases_eq line.bidder b) [
+    | inl same ↦ ap (λ k. get_or (set amounts line.bidder amount) k 0) (sym same) ∙ get_or-set_same amounts line.bidder amount 0 (omega (arith, known, so_far.size))
+        ∙ (let here = so_far.are b d below in let there = same_bidder b so_far.awards award (bidder ∙ same) in
+        let moved : slice_index amounts line.bidder ≡ slice_index amounts b = ap (slice_index amounts) same in
+        omega (arith, amount_is, moved, here, there))
+    | inr other ↦ get_or-set_other amounts line.bidder b amount 0 (λ same. other (sym same)) ∙ so_far.are b d below
+        ∙ ap (λ n. n + sum_of_way (get_or ways b d)) (sym (other_bidder b so_far.awards award (λ same. other (sym bidder ∙ same))))
+  ];
+  bounded = omega (arith, total_of-more so_far.awards award, total_of-more lines line, length-append lines (line ∷ []), so_far.bounded, award-le stop percent line.rate.steps line.amount.value award.amount.value small is);
 }
-adds offering bids bid bidder (Some rate) lines new is so_far sound more = record {
-  par = λ passes. ap (λ ls. par_of ls passes) more ∙ sum_by_push (λ (line : RateLine). cond (passes line.rate.steps) line.amount.value 0) lines (record { rate = rate; bidder = bidder; amount = bid.amount })
-      ∙ sym (sums_more passes bids bid ∙ ap (λ r. par_bid bids passes + competitive_par passes r bid.amount.value) is ∙ ap (λ n. n + competitive_par passes (Some rate) bid.amount.value) (sym (so_far.par passes)));
-  each = subst (All (IsSoundLine offering.days.count)) (sym more) (All-push (IsSoundLine offering.days.count) lines (record { rate = rate; bidder = bidder; amount = bid.amount }) so_far.each
-      (record { some = sound.some; most = sound.most; priced = (subst (λ (r : Option Rate). HasRules offering r bid.amount.value) is sound.within).0 }));
-  some = λ any. omega (arith, ap length more, length-append lines (record { rate = rate; bidder = bidder; amount = bid.amount } ∷ []));
-  few = omega (arith, ap length more, length-append lines (record { rate = rate; bidder = bidder; amount = bid.amount } ∷ []), so_far.few, length-append bids (bid ∷ []));
-}
 
-pub LinesSoFar-more : (offering : Offering) (bids : List Bid) (bid : Bid) (bidder : ℕ) (lines new : List RateLine) → LinesSoFar offering.days.count bids lines → IsSoundBid offering bid → AddsLine bidder bid.rate bid.amount lines new → LinesSoFar offering.days.count (bids ++ bid ∷ []) new
-LinesSoFar-more offering bids bid bidder lines new so_far sound more = adds offering bids bid bidder bid.rate lines new refl so_far sound more
-
--- amounts of at most 10^12 in fewer than a million lines
-pub total_of-fits : (days : ℕ) (lines : List RateLine) → All (IsSoundLine days) lines → length lines < 1000000 → total_of lines ≤ 10 ^ 22
-total_of-fits days lines each few =
-    let most : total_of lines ≤ length lines * 10 ^ 12 = sum_by-le amount_of (10 ^ 12) lines (λ k d below. (each k d below).most) in
-    omega arith
-
--- the noncompetitive amounts before a place, with one amount more, fit
-pub noncompetitive-fits : (offering : Offering) (bids : List Bid) (place : ℕ) (d : Bid) → place < length bids → IsSoundBook offering bids → noncompetitive (take place bids) + (get_or bids place d).amount.value ≤ 10 ^ 18
-noncompetitive-fits offering bids place d below sound =
-    let part = sum_by_more_le_part (λ (b : Bid). noncompetitive_par b.rate b.amount.value) (λ (b : Bid). b.amount.value) bids place d below (λ b. part-le b.rate b.amount.value) in
-    let most : sum_by (λ (b : Bid). b.amount.value) bids ≤ length bids * 10 ^ 12 = sum_by-le (λ (b : Bid). b.amount.value) (10 ^ 12) bids (λ k e inside. (sound.each k e inside).most) in
-    omega (arith, part, most, sound.few)
-  where
-    part-le : (rate : Option Rate) (amount : ℕ) → noncompetitive_par rate amount ≤ amount
-    part-le None amount = omega arith
-    part-le (Some rate) amount = omega arith
-
--- the cut speaks of par alone
-pub IsCut-same : (par par' : (ℕ → Bool) → ℕ) (sought stop percent : ℕ) → ((passes : ℕ → Bool) → par passes ≡ par' passes) → IsCut par sought stop percent → IsCut par' sought stop percent
-IsCut-same par par' sought stop percent same cut = let one : par ≡ par' = (λ i passes. same passes i) in subst (λ (p : (ℕ → Bool) → ℕ). IsCut p sought stop percent) one cut
-
--- the stop is the rate of a line, which has a price
-pub HasPrice-stop : (days : ℕ) (lines : List RateLine) (stop : Rate) → All (IsSoundLine days) lines → (place : ℕ) → place < length lines → ((line : RateLine) → (get_or lines place line).rate ≡ stop) → (line : RateLine) → HasPrice stop.steps days
-HasPrice-stop days lines stop each place within is line = subst (λ (rate : Rate). HasPrice rate.steps days) (is line) (each place line within).priced
-
--- some line of lines that aren't none
-pub first_line : (lines : List RateLine) → 0 < length lines → RateLine
-first_line [] some = absurd (omega arith)
-first_line (line ∷ lines) some = line
+-- no bidder gets more than all awards, and what it bids noncompetitively
+pub amounts-within : (stop percent : ℕ) (lines : List RateLine) (ways : List Way) (amounts : List ℕ) (bidder : ℕ) (d : Way) → AmountsSoFar stop percent lines ways amounts → bidder < length ways → slice_index amounts bidder ≤ total_of lines + 100 * length lines + sum_of_way (get_or ways bidder d)
+amounts-within stop percent lines ways amounts bidder d so_far below = omega (arith, so_far.are bidder d below, awarded_to-le bidder so_far.awards, so_far.bounded)

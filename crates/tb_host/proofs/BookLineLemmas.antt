@@ -8,6 +8,7 @@ use Rattle.tb_host.specs.declared.word.Word.{Word}
 use Rattle.tb_host.specs.declared.word.Word.TheVariants as word
 use Rattle.tb_host.specs.declared.book_line.BookLine.{BookLine}
 use Rattle.tb_host.specs.declared.book_line.BookLine.TheVariants as kind
+use Rattle.tb_host.specs.declared.book_line.Entry.TheVariants as entry
 use Rattle.tb_host.specs.declared.book_line.Offering.{Offering}
 use Rattle.tb_host.specs.BookLines.{Says, AreBidFields, AreOfferingFields, IsMultiple}
 use Rattle.tb_host.proofs.DecimalLemmas.{decimal-one}
@@ -20,7 +21,8 @@ AreBidFields-word text texts bidder (Some rate) amount written = (word.Competiti
 -- every line begins with one of the words
 pub Says-word : (text : List ℕ) (texts : List (List ℕ)) (line : BookLine) → Says (text ∷ texts) line → (w : Word) × (text ≡ spelling_of w)
 Says-word text texts (kind.Offering offering) says = (word.Offering, says.0)
-Says-word text texts (kind.Bid bid) says = AreBidFields-word text texts bid.bidder bid.rate bid.amount.value says.written
+Says-word text texts (kind.Entry (entry.Bid bid)) says = AreBidFields-word text texts bid.bidder bid.rate bid.amount.value says.written
+Says-word text texts (kind.Entry (entry.Report report)) says = (word.Position, says.word_is)
 Says-word text texts kind.End says = (word.End, says.0)
 
 -- where the offering is read, its floor is within it

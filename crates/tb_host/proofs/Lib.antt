@@ -1,5 +1,6 @@
 pub mod FieldLemmas
 pub mod DecimalLemmas
+pub mod PositionLemmas
 pub mod BookLineLemmas
 pub mod LineLemmas
 pub mod ReaderLemmas
@@ -7,6 +8,9 @@ pub mod NameLemmas
 pub mod SameLemmas
 pub mod BookLemmas
 pub mod ReadLemmas
-pub mod CutLemmas
+pub mod TallyLemmas
+pub mod NumberingLemmas
+pub mod OrderLemmas
 pub mod AwardLemmas
+pub mod TextLemmas
 pub mod CompleteLemmas

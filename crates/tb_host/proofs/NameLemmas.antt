@@ -29,7 +29,7 @@ cases : (b : Bool) → (b ≡ true) ⊎ (b ≡ false)
 cases true = inl refl
 cases false = inr refl
 
-name_eq-other : (x y : List ℕ) → name_eq x y ≡ false → x ≢ y
+pub name_eq-other : (x y : List ℕ) → name_eq x y ≡ false → x ≢ y
 name_eq-other x y is same = let h : name_eq x x ≡ false = subst (λ (z : List ℕ). name_eq x z ≡ false) (sym same) is in absurd (let t : true ≡ false = sym (name_eq-itself x) ∙ h in cc)
 
 symmetric : (x y : List ℕ) → name_eq x y ≡ name_eq y x

@@ -1,7 +1,7 @@
 -- Lines that one text spells are one line.
-use Rattle.std.proofs.Common.{◌≡◌, ℕ, ◌*◌, ◌≤◌, ◌^◌, List, [], ◌∷◌, get_or, length, sym, ap, ◌∙◌, refl, arith}
+use Rattle.std.proofs.Common.{◌≡◌, ℕ, ℤ, pos, negsuc, suc, ◌*◌, ◌≤◌, ◌^◌, List, [], ◌∷◌, get_or, length, sym, ap, ◌∙◌, refl, arith}
 use Rattle.std.specs.Prelude.{Option, Some, None, codes}
-use Rattle.std.specs.Fmt.{decimal}
+use Rattle.std.specs.Fmt.{decimal, signed_decimal}
 use Rattle.std.proofs.Math.Bridge.{le_prop}
 use mathlib.Core.HLevel.{is_prop→PathP}
 use Rattle.tb_units.specs.declared.amount.Dollars.{Dollars}
@@ -9,12 +9,14 @@ use Rattle.tb_units.specs.declared.term.Days.{Days}
 use Rattle.tb_units.specs.declared.rate.Rate.{Rate}
 use Rattle.tb_units.specs.Rates.{thousandths_of}
 use Rattle.tb_host.specs.Fields.{fields}
-use Rattle.tb_host.specs.BookLines.{Says, Spells, IsBidLine, AreBidFields, AreOfferingFields}
+use Rattle.tb_host.specs.BookLines.{Says, Spells, IsBidLine, IsReportLine, IsPosition, AreBidFields, AreOfferingFields}
 use Rattle.tb_host.specs.declared.book_line.BookLine.{BookLine}
 use Rattle.tb_host.specs.declared.book_line.BookLine.TheVariants as kind
 use Rattle.tb_host.specs.declared.book_line.Offering.{Offering}
 use Rattle.tb_host.specs.declared.book_line.Bid.{Bid}
-use Rattle.tb_host.proofs.DecimalLemmas.{decimal-one}
+use Rattle.tb_host.specs.declared.book_line.Report.{Report}
+use Rattle.tb_host.specs.declared.book_line.Entry.TheVariants as entry
+use Rattle.tb_host.proofs.DecimalLemmas.{decimal-one, decimal-unsigned}
 
 -- amounts, rates and days are told by their numbers
 same_dollars : (a b : Dollars) → a.value ≡ b.value → a ≡ b
@@ -51,10 +53,26 @@ end-c is = absurd (omega (arith, ap length is))
 n-c : {X : Type 0} → codes "n" ≡ codes "c" → X
 n-c is = absurd (omega (arith, ap (λ text. get_or text 0 0) is))
 
--- a word of a bid is none of an offering or the end
+offering-p : {X : Type 0} → codes "offering" ≡ codes "p" → X
+offering-p is = absurd (omega (arith, ap length is))
+
+end-p : {X : Type 0} → codes "end" ≡ codes "p" → X
+end-p is = absurd (omega (arith, ap length is))
+
+n-p : {X : Type 0} → codes "n" ≡ codes "p" → X
+n-p is = absurd (omega (arith, ap (λ text. get_or text 0 0) is))
+
+c-p : {X : Type 0} → codes "c" ≡ codes "p" → X
+c-p is = absurd (omega (arith, ap (λ text. get_or text 0 0) is))
+
+-- a word of a bid is none of an offering, a report or the end
 bid-offering : {X : Type 0} (word : List ℕ) (texts : List (List ℕ)) (bidder : List ℕ) (rate : Option Rate) (amount : ℕ) → AreBidFields word texts bidder rate amount → word ≡ codes "offering" → X
 bid-offering word texts bidder None amount written is = offering-n (sym is ∙ written.0)
 bid-offering word texts bidder (Some rate) amount written is = offering-c (sym is ∙ written.0)
+
+bid-report : {X : Type 0} (word : List ℕ) (texts : List (List ℕ)) (bidder : List ℕ) (rate : Option Rate) (amount : ℕ) → AreBidFields word texts bidder rate amount → word ≡ codes "p" → X
+bid-report word texts bidder None amount written is = n-p (sym written.0 ∙ is)
+bid-report word texts bidder (Some rate) amount written is = c-p (sym written.0 ∙ is)
 
 bid-end : {X : Type 0} (word : List ℕ) (texts : List (List ℕ)) (bidder : List ℕ) (rate : Option Rate) (amount : ℕ) → AreBidFields word texts bidder rate amount → word ≡ codes "end" → X
 bid-end word texts bidder None amount written is = end-n (sym is ∙ written.0)
@@ -94,17 +112,42 @@ bid-one word texts a b is_a is_b =
     let same = bid_fields-one word texts a.bidder b.bidder a.rate b.rate a.amount.value b.amount.value is_a.amount.within is_b.amount.within is_a.written is_b.written in
     same_bid a b same.bidder same.rate (same_dollars a.amount b.amount same.amount)
 
+-- positions are told by their decimals
+signed-one : (a b : ℤ) → IsPosition a → IsPosition b → signed_decimal a ≡ signed_decimal b → a ≡ b
+signed-one (pos a) (pos b) small small' is = ap pos (decimal-one (decimal a) a b small small' refl is)
+signed-one (negsuc a) (negsuc b) small small' is =
+    let same : decimal (suc a) ≡ decimal (suc b) = (cc) in
+    let one : suc a ≡ suc b = decimal-one (decimal (suc a)) (suc a) (suc b) small small' refl same in
+    ap negsuc (omega arith)
+signed-one (pos a) (negsuc b) small small' is = absurd (decimal-unsigned a (decimal (suc b)) small is)
+signed-one (negsuc a) (pos b) small small' is = absurd (decimal-unsigned b (decimal (suc a)) small' (sym is))
+
+same_report : (a b : Report) → a.bidder ≡ b.bidder → a.position ≡ b.position → a ≡ b
+same_report a b bidder position = λ i. record { bidder = bidder i; position = position i }
+
+report-one : (word : List ℕ) (texts : List (List ℕ)) (a b : Report) → IsReportLine word texts a → IsReportLine word texts b → a ≡ b
+report-one word texts a b is_a is_b =
+    let same : a.bidder ∷ signed_decimal a.position ∷ [] ≡ b.bidder ∷ signed_decimal b.position ∷ [] = sym is_a.written ∙ is_b.written in
+    same_report a b (cc) (signed-one a.position b.position is_a.position is_b.position (cc))
+
 -- fields say one line
 Says-one : (texts : List (List ℕ)) (a b : BookLine) → Says texts a → Says texts b → a ≡ b
 Says-one [] a b is_a is_b = absurd is_a
 Says-one (word ∷ texts) (kind.Offering a) (kind.Offering b) is_a is_b = ap kind.Offering (offering-one texts a b is_a.1 is_b.1)
-Says-one (word ∷ texts) (kind.Offering a) (kind.Bid b) is_a is_b = bid-offering word texts b.bidder b.rate b.amount.value is_b.written is_a.0
+Says-one (word ∷ texts) (kind.Offering a) (kind.Entry (entry.Bid b)) is_a is_b = bid-offering word texts b.bidder b.rate b.amount.value is_b.written is_a.0
+Says-one (word ∷ texts) (kind.Offering a) (kind.Entry (entry.Report b)) is_a is_b = offering-p (sym is_a.0 ∙ is_b.word_is)
 Says-one (word ∷ texts) (kind.Offering a) kind.End is_a is_b = offering-end (sym is_a.0 ∙ is_b.0)
-Says-one (word ∷ texts) (kind.Bid a) (kind.Offering b) is_a is_b = bid-offering word texts a.bidder a.rate a.amount.value is_a.written is_b.0
-Says-one (word ∷ texts) (kind.Bid a) (kind.Bid b) is_a is_b = ap kind.Bid (bid-one word texts a b is_a is_b)
-Says-one (word ∷ texts) (kind.Bid a) kind.End is_a is_b = bid-end word texts a.bidder a.rate a.amount.value is_a.written is_b.0
+Says-one (word ∷ texts) (kind.Entry (entry.Bid a)) (kind.Offering b) is_a is_b = bid-offering word texts a.bidder a.rate a.amount.value is_a.written is_b.0
+Says-one (word ∷ texts) (kind.Entry (entry.Bid a)) (kind.Entry (entry.Bid b)) is_a is_b = ap (λ bid. kind.Entry (entry.Bid bid)) (bid-one word texts a b is_a is_b)
+Says-one (word ∷ texts) (kind.Entry (entry.Bid a)) (kind.Entry (entry.Report b)) is_a is_b = bid-report word texts a.bidder a.rate a.amount.value is_a.written is_b.word_is
+Says-one (word ∷ texts) (kind.Entry (entry.Bid a)) kind.End is_a is_b = bid-end word texts a.bidder a.rate a.amount.value is_a.written is_b.0
+Says-one (word ∷ texts) (kind.Entry (entry.Report a)) (kind.Offering b) is_a is_b = offering-p (sym is_b.0 ∙ is_a.word_is)
+Says-one (word ∷ texts) (kind.Entry (entry.Report a)) (kind.Entry (entry.Bid b)) is_a is_b = bid-report word texts b.bidder b.rate b.amount.value is_b.written is_a.word_is
+Says-one (word ∷ texts) (kind.Entry (entry.Report a)) (kind.Entry (entry.Report b)) is_a is_b = ap (λ report. kind.Entry (entry.Report report)) (report-one word texts a b is_a is_b)
+Says-one (word ∷ texts) (kind.Entry (entry.Report a)) kind.End is_a is_b = end-p (sym is_b.0 ∙ is_a.word_is)
 Says-one (word ∷ texts) kind.End (kind.Offering b) is_a is_b = offering-end (sym is_b.0 ∙ is_a.0)
-Says-one (word ∷ texts) kind.End (kind.Bid b) is_a is_b = bid-end word texts b.bidder b.rate b.amount.value is_b.written is_a.0
+Says-one (word ∷ texts) kind.End (kind.Entry (entry.Bid b)) is_a is_b = bid-end word texts b.bidder b.rate b.amount.value is_b.written is_a.0
+Says-one (word ∷ texts) kind.End (kind.Entry (entry.Report b)) is_a is_b = end-p (sym is_a.0 ∙ is_b.word_is)
 Says-one (word ∷ texts) kind.End kind.End is_a is_b = refl
 
 pub Spells-one : (text : List ℕ) (a b : BookLine) → Spells text a → Spells text b → a ≡ b

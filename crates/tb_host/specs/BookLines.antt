@@ -1,6 +1,6 @@
 -- The lines of a text book of bids (our own form).
-use Rattle.std.specs.Prelude.{◌≡◌, ℕ, ◌*◌, ◌%◌, ◌^◌, ◌≤◌, List, [], ◌∷◌, length, codes, Option, Some, None, true}
-use Rattle.std.specs.Fmt.{decimal}
+use Rattle.std.specs.Prelude.{◌≡◌, ℕ, ℤ, pos, negsuc, suc, ◌*◌, ◌%◌, ◌^◌, ◌≤◌, List, [], ◌∷◌, length, codes, Option, Some, None, true}
+use Rattle.std.specs.Fmt.{decimal, signed_decimal}
 use Rattle.std.specs.Str.{IsUtf8}
 use Rattle.tb_units.specs.declared.rate.Rate.{Rate}
 use Rattle.tb_units.specs.Names.{is_name}
@@ -10,6 +10,8 @@ use Rattle.tb_host.specs.declared.book_line.BookLine.{BookLine}
 use Rattle.tb_host.specs.declared.book_line.BookLine.TheVariants as kind
 use Rattle.tb_host.specs.declared.book_line.Offering.{Offering}
 use Rattle.tb_host.specs.declared.book_line.Bid.{Bid}
+use Rattle.tb_host.specs.declared.book_line.Report.{Report}
+use Rattle.tb_host.specs.declared.book_line.Entry.TheVariants as entry
 
 -- a multiple of a unit, from one unit to the most
 pub record IsMultiple (unit most amount : ℕ) : Type 0 where
@@ -44,11 +46,24 @@ pub record IsBidLine (word : List ℕ) (texts : List (List ℕ)) (bid : Bid) : T
   pub bidder : is_name bid.bidder ≡ true
   pub amount : IsMultiple 100 (10 ^ 12) bid.amount.value
 
+-- at most 10^12 on either side of zero
+abbrev pub IsPosition : ℤ → Type 0
+IsPosition (pos n) = n ≤ 10 ^ 12
+IsPosition (negsuc n) = suc n ≤ 10 ^ 12
+
+-- `p BIDDER POSITION` is a report of a position in whole dollars by a bidder with a name
+pub record IsReportLine (word : List ℕ) (texts : List (List ℕ)) (report : Report) : Type 0 where
+  pub word_is : word ≡ codes "p"
+  pub written : texts ≡ report.bidder ∷ signed_decimal report.position ∷ []
+  pub bidder : is_name report.bidder ≡ true
+  pub position : IsPosition report.position
+
 -- what the line says by its fields
 abbrev pub Says : List (List ℕ) → BookLine → Type 0
 Says [] line = ⊥
 Says (word ∷ texts) (kind.Offering offering) = (word ≡ codes "offering") × AreOfferingFields texts offering
-Says (word ∷ texts) (kind.Bid bid) = IsBidLine word texts bid
+Says (word ∷ texts) (kind.Entry (entry.Bid bid)) = IsBidLine word texts bid
+Says (word ∷ texts) (kind.Entry (entry.Report report)) = IsReportLine word texts report
 Says (word ∷ texts) kind.End = (word ≡ codes "end") × (texts ≡ [])
 
 -- bytes that a line may have, without its line feed and the one carriage return before that

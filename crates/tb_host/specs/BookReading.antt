@@ -2,10 +2,10 @@
 use Rattle.std.specs.Prelude.{◌≡◌, ℕ, ◌+◌, ◌<◌, List, [], ◌∷◌, ◌++◌, length, Option, Some}
 use Rattle.std.specs.Str.Lines.{lines}
 use Rattle.tb_host.specs.BookLines.{Spells}
-use Rattle.tb_host.specs.Books.{AreBids, Ends, IsBadNext, most_lines}
+use Rattle.tb_host.specs.Books.{AreEntries, Book, empty_book, IsBadNext, most_lines}
 use Rattle.tb_host.specs.declared.book_line.BookLine.{BookLine}
+use Rattle.tb_host.specs.declared.book_line.BookLine.TheVariants as kind
 use Rattle.tb_host.specs.declared.book_line.Offering.{Offering}
-use Rattle.tb_host.specs.declared.book_line.Bid.{Bid}
 
 -- where the bytes to come are told, this is so of them
 abbrev pub WhereTold : Option (List ℕ) → (List ℕ → Type 0) → Type 0
@@ -24,30 +24,31 @@ abbrev pub HasNoLine : List (List ℕ) → Type 0
 HasNoLine [] = Unit {0}
 HasNoLine (text ∷ texts) = (line : BookLine) → ¬ (Spells text line)
 
--- of the text behind the offering, these bids have been read, up to line count, and so much follows
-pub record HasBids (count : ℕ) (offering : Offering) (bids : List Bid) (behind : Option (List ℕ)) (text : List ℕ) : Type 0 where
+-- of the text behind the offering, the entries of this book have been read, up to line count, and so much follows
+pub record HasEntries (count : ℕ) (offering : Offering) (book : Book) (behind : Option (List ℕ)) (text : List ℕ) : Type 0 where
   pub read : List (List ℕ)
   pub rest : List ℕ
   pub behind_is : behind ≡ Some rest
   pub lines_are : lines text ≡ read ++ lines rest
-  pub are : AreBids offering [] read bids
+  pub are : AreEntries offering empty_book read book
   pub size : length read + 1 ≡ count
 
--- the text behind the offering is these bids and the end of the book, and then anything
-pub record EndsBids (offering : Offering) (bids : List Bid) (text : List ℕ) : Type 0 where
+-- the text behind the offering is the entries of this book and its end, and then anything
+pub record EndsEntries (offering : Offering) (book : Book) (text : List ℕ) : Type 0 where
   pub read : List (List ℕ)
   pub last : List ℕ
   pub rest : List (List ℕ)
   pub lines_are : lines text ≡ read ++ last ∷ rest
-  pub are : AreBids offering [] read bids
-  pub end : Ends bids last
+  pub are : AreEntries offering empty_book read book
+  pub end : Spells last kind.End
   pub few : length read + 1 < most_lines
 
--- behind the offering and some bids stands the first line outside the grammar
-pub record StopsBids (offering : Offering) (text : List ℕ) : Type 0 where
-  pub bids : List Bid
+-- behind the offering and some entries stands the first line outside the grammar, the line of this number in the input
+pub record StopsEntries (number : ℕ) (offering : Offering) (text : List ℕ) : Type 0 where
+  pub book : Book
   pub read : List (List ℕ)
   pub rest : List (List ℕ)
   pub lines_are : lines text ≡ read ++ rest
-  pub are : AreBids offering [] read bids
-  pub bad : IsBadNext offering bids (length read + 1) rest
+  pub are : AreEntries offering empty_book read book
+  pub bad : IsBadNext offering book (length read + 1) rest
+  pub number_is : length read + 2 ≡ number

@@ -1,5 +1,6 @@
 -- How a command ends, and what it says of that.
 use Rattle.std.specs.Prelude.{ℕ, ◌⊎◌, List, [], ◌∷◌, ◌++◌, codes}
+use Rattle.std.specs.Fmt.{decimal}
 use Rattle.tb_link.specs.Sinks.{SinkState, Takes, FailsToTake}
 use Rattle.tb_host.specs.declared.ending.Ending.{Ending}
 use Rattle.tb_host.specs.declared.ending.Ending.TheVariants as ending
@@ -8,16 +9,19 @@ use Rattle.tb_host.specs.declared.ending.Ending.TheVariants as ending
 abbrev pub status_of : Ending → ℕ
 status_of ending.Done = 0
 status_of ending.Usage = 2
-status_of ending.BadInput = 3
+status_of (ending.BadInput line) = 3
 status_of ending.ReadFault = 4
 status_of ending.WriteFault = 5
 status_of ending.OutOfMemory = 9
+
+abbrev pub bad_input_message : ℕ → List ℕ
+bad_input_message line = codes "bad input at line " ++ decimal line ++ 10 ∷ []
 
 -- what is told of a status
 abbrev pub message_of : Ending → List ℕ
 message_of ending.Done = []
 message_of ending.Usage = codes "usage" ++ 10 ∷ []
-message_of ending.BadInput = codes "bad input" ++ 10 ∷ []
+message_of (ending.BadInput line) = bad_input_message line
 message_of ending.ReadFault = codes "read fault" ++ 10 ∷ []
 message_of ending.WriteFault = codes "write fault" ++ 10 ∷ []
 message_of ending.OutOfMemory = codes "out of memory" ++ 10 ∷ []

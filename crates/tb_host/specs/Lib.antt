@@ -6,10 +6,11 @@ pub mod Lines
 pub mod Books
 pub mod BookReading
 pub mod BookFaults
-pub mod SoundBooks
-pub mod Cuts
-pub mod AwardLines
+pub mod Bids
+pub mod SoundLines
+pub mod Tallies
 pub mod BookRun
+pub mod AwardTexts
 pub mod Commands
 pub mod Endings
 pub mod AwardRun

@@ -7,4 +7,5 @@ abbrev pub spelling_of : Word → List ℕ
 spelling_of word.Offering = codes "offering"
 spelling_of word.Noncompetitive = codes "n"
 spelling_of word.Competitive = codes "c"
+spelling_of word.Position = codes "p"
 spelling_of word.End = codes "end"

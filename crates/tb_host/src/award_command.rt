@@ -8,19 +8,20 @@ use crate::ending::Ending;
 use std::alloc::Global;
 use tb_link::{Sink, Source};
 
-/// Reads a book from the input and prints where its auction stops. Nothing is written before the book's end was read.
-pub fn award<I: Source, O: Sink>(alloc: Global, input: &mut I, out: &mut O) -> Ending
-    ensures ends { AwardEnds result (I.source input.old) (I.source input.new) (O.sink out.old) (O.sink out.new) }
+/// Reads a book from the input and prints where its auction stops, and where it is asked for in full what each bidder gets.
+/// Nothing is written before the book's end was read.
+pub fn award<I: Source, O: Sink>(alloc: Global, full: bool, input: &mut I, out: &mut O) -> Ending
+    ensures ends { AwardEnds full result (I.source input.old) (I.source input.new) (O.sink out.old) (O.sink out.new) }
     ensures input_count { NeverFalls (I.source input.old).faults (I.source input.new).faults }
     ensures out_count { NeverFalls (O.sink out.old).faults (O.sink out.new).faults }
 {
     let book = match read_book(alloc, input) {
         Ok(book) => book,
-        Err(BookFault::BadLine) => return Ending::BadInput,
+        Err(BookFault::BadLine(line)) => return Ending::BadInput(line),
         Err(BookFault::Read) => return Ending::ReadFault,
         Err(BookFault::OutOfMemory) => return Ending::OutOfMemory,
     };
-    match award_text(alloc, &book) {
+    match award_text(alloc, book, full) {
         Ok(text) => match out.write(&text) {
             Ok(()) => Ending::Done,
             Err(_) => Ending::WriteFault,

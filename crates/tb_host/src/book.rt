@@ -1,41 +1,32 @@
 //! Reading a text book of bids from a source.
-ghost use Rattle.std.specs.Prelude.{◌≡◌, ◌≢◌, ◌++◌, ◌↔◌, [], ◌∷◌, map, Err, IfOk, OnOk, OnErr, IsErrOf, IsTrue};
-ghost use Rattle.std.specs.List.{list_any};
+ghost use Rattle.std.specs.Prelude.{◌≡◌, ◌≢◌, ◌<◌, ℕ, length, Err, IfOk, OnOk, IsErrOf};
 ghost use Rattle.std.specs.Str.Lines.{lines};
 ghost use Rattle.tb_link.specs.Counts.{NeverFalls, Rose};
-ghost use Rattle.tb_host.specs.Books.{bidder_of, is_competitive, HasCompetitive, IsWithinRules, MayFollow, BeginsWithBook, HasBadLine};
-ghost use Rattle.tb_host.specs.BookReading.{WhereTold, ReadsLine, HasNoLine, EndsBids, StopsBids};
+ghost use Rattle.tb_host.specs.Books.{Adds, Book, IsBadLine, empty_book, most_lines};
+ghost use Rattle.tb_host.specs.BookReading.{WhereTold, ReadsLine, HasNoLine, StopsEntries};
 ghost use Rattle.tb_host.specs.Lines.{ahead};
-ghost use Rattle.tb_host.specs.SoundBooks.{IsLine, IsSoundOffering, IsSoundBook};
+ghost use Rattle.tb_host.specs.SoundLines.{IsLine, IsSoundOffering};
+ghost use Rattle.tb_host.specs.Tallies.{HasReadEntries, IsReadFrom, IsTally};
 ghost use Rattle.tb_host.specs.BookFaults.{of_input};
+ghost use Rattle.tb_host.specs.declared.book_line.BookLine.TheVariants as kind;
 ghost use Rattle.tb_host.specs.declared.book.BookFault.TheVariants as fault;
 
-use crate::bidders::add_bidder;
-use crate::book_line::{Bid, BookLine, Offering};
+use crate::book_line::{BookLine, Entry};
 use crate::input::{InputFault, LineReader};
 use crate::line_end::NextLine;
 use crate::read_line::read_book_line;
-use indexmap::IndexSet;
+use crate::text_book::{AddFault, TextBook};
 use std::alloc::Global;
 use tb_link::Source;
-use tb_price::above_zero;
-use tb_units::{Ident, OutOfMemory};
 
 /// Lines of a book, at most.
 const MOST_LINES: u64 = 1_000_000;
 
-/// A book up to its end.
-#[derive(Drop)]
-pub struct TextBook {
-    pub offering: Offering,
-    pub bids: Vec<Bid>,
-}
-
 /// Why no book was read.
 #[derive(Clone, Copy, Debug, PartialEq, Eq)]
 pub enum BookFault {
-    /// The first line outside the grammar was reached.
-    BadLine,
+    /// The first line outside the grammar was reached, the line of this number, counted from 1.
+    BadLine(u64),
     Read,
     OutOfMemory,
 }
@@ -51,141 +42,85 @@ impl From<InputFault> for BookFault {
     }
 }
 
-impl From<OutOfMemory> for BookFault {
-    ghost from_gives = { λ _ to. to ≡ fault.OutOfMemory };
-
-    fn from(_error: OutOfMemory) -> BookFault {
-        BookFault::OutOfMemory
-    }
-}
-
-// The next line, if it is one of a book's.
+// The next line, the line of this number, if it is one of a book's.
 fn next_book_line<I: Source>(
     reader: &mut LineReader,
+    number: u64,
     alloc: Global,
     input: &mut I,
 ) -> Result<BookLine, BookFault>
     ensures line { IfOk result (λ line. WhereTold (ahead reader.old (I.source input.old)) (ReadsLine line (ahead reader.new (I.source input.new)))) }
     ensures spelled { IfOk result IsLine }
-    ensures bad { IsErrOf result BookFault.BadLine → WhereTold (ahead reader.old (I.source input.old)) (λ text. HasNoLine (lines text)) }
+    ensures bad { (line : ℕ) → IsErrOf result (fault.BadLine line) → (line ≡ number) × WhereTold (ahead reader.old (I.source input.old)) (λ text. HasNoLine (lines text)) }
     ensures fault { IsErrOf result BookFault.Read → Rose (I.source input.old).faults (I.source input.new).faults }
     ensures count { NeverFalls (I.source input.old).faults (I.source input.new).faults }
 {
     match reader.next_line(alloc, input)? {
         NextLine::Line => match read_book_line(reader.line()) {
             Some(line) => Ok(line),
-            None => Err(BookFault::BadLine),
+            None => Err(BookFault::BadLine(number)),
         },
-        NextLine::End => Err(BookFault::BadLine),
-        NextLine::TooLong => Err(BookFault::BadLine),
-    }
-}
-
-// The bid's rate has a price above zero, and the bid is within 35 percent of the offering.
-fn is_within_rules(offering: &Offering, bid: &Bid) -> bool
-    ensures { IsTrue result ↔ IsWithinRules offering.now bid.now }
-{
-    match bid.rate {
-        None => true,
-        Some(rate) => {
-            above_zero(rate, offering.days) && 100 * bid.amount.value <= 35 * offering.amount.value
-        }
-    }
-}
-
-impl TextBook {
-    // Adds a bid, where it may stand behind those before it.
-    fn add(&mut self, known: &mut IndexSet<Ident>, bid: Bid) -> Result<(), BookFault>
-        requires { known.old.keys ≡ map bidder_of self.old.bids.items }
-        ensures added { OnOk result (self.new.bids.items ≡ self.old.bids.items ++ bid ∷ []) }
-        ensures follows { OnOk result (MayFollow self.old.offering self.old.bids.items bid) }
-        ensures known { OnOk result (known.new.keys ≡ map bidder_of self.new.bids.items) }
-        ensures offering { self.new.offering ≡ self.old.offering }
-        ensures bad { IsErrOf result BookFault.BadLine → ¬ (MayFollow self.old.offering self.old.bids.items bid) }
-        ensures fault { result ≢ Err BookFault.Read }
-    {
-        if !is_within_rules(&self.offering, &bid) {
-            return Err(BookFault::BadLine);
-        }
-        if !add_bidder(known, bid.bidder)? {
-            return Err(BookFault::BadLine);
-        }
-        push_bid(&mut self.bids, bid)
-    }
-}
-
-fn push_bid(bids: &mut Vec<Bid>, bid: Bid) -> Result<(), BookFault>
-    ensures added { OnOk result (bids.new.items ≡ bids.old.items ++ bid ∷ []) }
-    ensures memory { OnErr result (result ≡ Err BookFault.OutOfMemory) }
-{
-    match bids.push(bid) {
-        Ok(()) => Ok(()),
-        Err(_) => Err(BookFault::OutOfMemory),
+        NextLine::End => Err(BookFault::BadLine(number)),
+        NextLine::TooLong => Err(BookFault::BadLine(number)),
     }
 }
 
 /// Reads a book up to its line `end`. Nothing behind that is looked at.
 pub fn read_book<I: Source>(alloc: Global, input: &mut I) -> Result<TextBook, BookFault>
-    ensures book { IfOk result (λ book. WhereTold (I.source input.old).left (λ text. BeginsWithBook (lines text) book.offering book.bids.items)) }
-    ensures sound { IfOk result (λ book. IsSoundBook book.offering book.bids.items) }
-    ensures bad { IsErrOf result BookFault.BadLine → WhereTold (I.source input.old).left (λ text. HasBadLine (lines text)) }
+    ensures book { IfOk result (IsReadFrom (I.source input.old).left) }
+    ensures bad { (line : ℕ) → IsErrOf result (fault.BadLine line) → WhereTold (I.source input.old).left (λ text. IsBadLine line (lines text)) }
     ensures fault { IsErrOf result BookFault.Read → Rose (I.source input.old).faults (I.source input.new).faults }
     ensures count { NeverFalls (I.source input.old).faults (I.source input.new).faults }
 {
     let mut reader = LineReader::new(alloc);
-    let offering = match next_book_line(&mut reader, alloc, input)? {
+    let offering = match next_book_line(&mut reader, 1, alloc, input)? {
         BookLine::Offering(offering) => offering,
-        _ => return Err(BookFault::BadLine),
+        _ => return Err(BookFault::BadLine(1)),
     };
-    let mut book = TextBook {
-        offering,
-        bids: Vec::new(alloc),
-    };
-    read_bids(&mut book, &mut reader, alloc, input)?;
+    let mut book = TextBook::new(alloc, offering);
+    read_entries(&mut book, &mut reader, alloc, input)?;
     Ok(book)
 }
 
 // Reads the lines behind the offering.
-fn read_bids<I: Source>(
+fn read_entries<I: Source>(
     book: &mut TextBook,
     reader: &mut LineReader,
     alloc: Global,
     input: &mut I,
 ) -> Result<(), BookFault>
-    requires empty { book.old.bids.items ≡ [] }
+    requires empty { IsTally empty_book book.old }
     requires offered { IsSoundOffering book.old.offering }
-    ensures sound { OnOk result (IsSoundBook book.old.offering book.new.bids.items) }
     ensures offering { book.new.offering ≡ book.old.offering }
-    ensures book { OnOk result (WhereTold (ahead reader.old (I.source input.old)) (EndsBids book.old.offering book.new.bids.items)) }
-    ensures bad { IsErrOf result BookFault.BadLine → WhereTold (ahead reader.old (I.source input.old)) (StopsBids book.old.offering) }
+    ensures book { OnOk result (HasReadEntries (ahead reader.old (I.source input.old)) book.new) }
+    ensures bad { (line : ℕ) → IsErrOf result (fault.BadLine line) → WhereTold (ahead reader.old (I.source input.old)) (StopsEntries line book.old.offering) }
     ensures fault { IsErrOf result BookFault.Read → Rose (I.source input.old).faults (I.source input.new).faults }
     ensures count { NeverFalls (I.source input.old).faults (I.source input.new).faults }
 {
-    let mut known = IndexSet::new(alloc);
-    for line in 1..MOST_LINES {
-        match next_book_line(reader, alloc, input)? {
-            BookLine::Bid(bid) => book.add(&mut known, bid)?,
-            BookLine::End => return end_of(&book.bids),
-            BookLine::Offering(_) => return Err(BookFault::BadLine),
+    for read in 1..MOST_LINES {
+        let number = read + 1;
+        match next_book_line(reader, number, alloc, input)? {
+            BookLine::Entry(entry) => add_entry(book, entry, number)?,
+            BookLine::End => return Ok(()),
+            BookLine::Offering(_) => return Err(BookFault::BadLine(number)),
         }
     }
-    Err(BookFault::BadLine)
+    Err(BookFault::BadLine(MOST_LINES + 1))
 }
 
-// A book ends where one of its bids is competitive.
-fn end_of(bids: &[Bid]) -> Result<(), BookFault>
-    ensures ok { OnOk result (HasCompetitive bids.now) }
-    ensures bad { OnErr result ((result ≡ Err BookFault.BadLine) × (¬ (HasCompetitive bids.now))) }
+// Adds the entry of the line of this number.
+fn add_entry(book: &mut TextBook, entry: Entry, number: u64) -> Result<(), BookFault>
+    requires tally { (b : Book) × IsTally b book.old × (length b.names < most_lines) × (length b.entries < most_lines) }
+    requires spelled { IsLine (kind.Entry entry) }
+    ensures added { OnOk result ((b : Book) → IsTally b book.old → (new : Book) × Adds book.old.offering b entry new × IsTally new book.new) }
+    ensures bad { (line : ℕ) → IsErrOf result (fault.BadLine line) → (line ≡ number)
+        × ((b : Book) → IsTally b book.old → (new : Book) → ¬ (Adds book.old.offering b entry new)) }
+    ensures offering { book.new.offering ≡ book.old.offering }
+    ensures read { result ≢ Err BookFault.Read }
 {
-    if has_competitive(bids) {
-        Ok(())
-    } else {
-        Err(BookFault::BadLine)
+    match book.add(entry) {
+        Ok(()) => Ok(()),
+        Err(AddFault::BadLine) => Err(BookFault::BadLine(number)),
+        Err(AddFault::OutOfMemory) => Err(BookFault::OutOfMemory),
     }
-}
-
-fn has_competitive(bids: &[Bid]) -> bool
-    ensures { result ≡ list_any is_competitive bids.now }
-{
-    bids.iter().any(|bid| bid.rate.is_some())
 }

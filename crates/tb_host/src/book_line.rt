@@ -18,10 +18,24 @@ pub struct Bid {
     pub amount: Dollars,
 }
 
+/// The line `p BIDDER POSITION`: a bidder's net long position in whole dollars.
+#[derive(Clone, Copy, Debug, PartialEq, Eq)]
+pub struct Report {
+    pub bidder: Ident,
+    pub position: i64,
+}
+
+/// A line of a bidder.
+#[derive(Clone, Copy, Debug, PartialEq, Eq)]
+pub enum Entry {
+    Bid(Bid),
+    Report(Report),
+}
+
 /// A line of a book.
 #[derive(Clone, Copy, Debug, PartialEq, Eq)]
 pub enum BookLine {
     Offering(Offering),
-    Bid(Bid),
+    Entry(Entry),
     End,
 }

@@ -3,19 +3,20 @@
 
 mod award;
 mod award_command;
-mod bidders;
 mod book;
 mod book_line;
 mod command;
-mod cut;
 mod ending;
 mod fields;
 mod host;
 mod input;
 mod line_end;
 mod read_line;
+mod sorted_lines;
 #[cfg(test)]
 mod tests;
+mod text_book;
+mod way;
 mod word;
 
 pub use host::host_main;

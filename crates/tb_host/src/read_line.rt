@@ -1,14 +1,15 @@
 //! Reading the lines of a text book of bids.
-ghost use Rattle.std.specs.Prelude.{◌≡◌, ◌≢◌, ◌*◌, ◌^◌, ◌<◌, ◌≤◌, ◌↔◌, ℕ, [], codes, true, false, IfSome, IfNone};
-ghost use Rattle.std.specs.Fmt.{decimal};
+ghost use Rattle.std.specs.Prelude.{◌≡◌, ◌≢◌, ◌*◌, ◌^◌, ◌<◌, ◌≤◌, ◌↔◌, ℕ, ℤ, [], ◌∷◌, codes, true, false, IfSome, IfNone};
+ghost use Rattle.std.specs.Fmt.{decimal, signed_decimal};
 ghost use Rattle.std.specs.Option.{SomeIff};
 ghost use Rattle.tb_host.specs.Fields.{fields, fields_of};
-ghost use Rattle.tb_host.specs.BookLines.{IsMultiple, AreOfferingFields, IsBidLine, Says, Spells};
+ghost use Rattle.tb_host.specs.BookLines.{IsMultiple, AreOfferingFields, IsBidLine, IsReportLine, IsPosition, Says, Spells};
 ghost use Rattle.tb_host.specs.declared.book_line.BookLine.{BookLine};
 ghost use Rattle.tb_host.specs.declared.book_line.Offering.{Offering};
 ghost use Rattle.tb_host.specs.declared.book_line.Bid.{Bid};
+ghost use Rattle.tb_host.specs.declared.book_line.Report.{Report};
 
-use crate::book_line::{Bid, BookLine, Offering};
+use crate::book_line::{Bid, BookLine, Entry, Offering, Report};
 use crate::fields::{first_field, three_fields, two_fields};
 use crate::word::{Word, word_of};
 use std::str;
@@ -42,8 +43,9 @@ fn read_text(text: &str) -> Option<BookLine>
     let (word, others) = first_field(text);
     match word_of(word)? {
         Word::Offering => Some(BookLine::Offering(read_offering(others)?)),
-        Word::Noncompetitive => Some(BookLine::Bid(read_noncompetitive(others)?)),
-        Word::Competitive => Some(BookLine::Bid(read_competitive(others)?)),
+        Word::Noncompetitive => Some(BookLine::Entry(Entry::Bid(read_noncompetitive(others)?))),
+        Word::Competitive => Some(BookLine::Entry(Entry::Bid(read_competitive(others)?))),
+        Word::Position => Some(BookLine::Entry(Entry::Report(read_report(others)?))),
         Word::End => read_end(others),
     }
 }
@@ -99,6 +101,39 @@ fn read_competitive(others: Option<&str>) -> Option<Bid>
         rate: Some(rate),
         amount,
     })
+}
+
+fn read_report(others: Option<&str>) -> Option<Report>
+    ensures read { IfSome result (IsReportLine (codes "p") (fields_of others.entry)) }
+    ensures none { IfNone result ((report : Report) → ¬ (IsReportLine (codes "p") (fields_of others.entry) report)) }
+{
+    let (bidder, position) = two_fields(others)?;
+    let bidder = Ident::read(bidder)?;
+    let position = read_position(position)?;
+    Some(Report { bidder, position })
+}
+
+// A whole number of dollars, at most 10^12 on either side of zero, without leading zeros; zero has no sign.
+fn read_position(text: &str) -> Option<i64>
+    ensures read { IfSome result (λ position. (text.now ≡ signed_decimal position) × IsPosition position) }
+    ensures none { IfNone result ((position : ℤ) → IsPosition position → text.now ≢ signed_decimal position) }
+{
+    match text.strip_prefix('-') {
+        None => Some(Dollars::read(text)?.value as i64),
+        Some(digits) => read_below_zero(digits),
+    }
+}
+
+// The number below zero whose digits these are.
+fn read_below_zero(digits: &str) -> Option<i64>
+    ensures read { IfSome result (λ position. (45 ∷ digits.now ≡ signed_decimal position) × IsPosition position) }
+    ensures none { IfNone result ((position : ℤ) → IsPosition position → 45 ∷ digits.now ≢ signed_decimal position) }
+{
+    let below = Dollars::read(digits)?.value;
+    if below == 0 {
+        return None;
+    }
+    Some(-(below as i64))
 }
 
 // A multiple of the unit, from one unit to the most.

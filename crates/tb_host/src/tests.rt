@@ -13,7 +13,19 @@ const BOOK: &str = "offering 1000000000 1000000 91\n\
 
 const TEXT: &str = "high 5.330\nallotted 55.56\nprice 98.652694\n";
 
-const ROOM: usize = 100;
+const BIDDERS: &str = "award n1 100000000 98652694.00\n\
+    award a 300000000 295958082.00\n\
+    award b 350000000 345284429.00\n\
+    award c 166680000 164434310.36\n\
+    award d 83340000 82217155.18\n";
+
+/// Nothing is recognised of a bidder whose position passes the limit of 35 percent.
+const POSITION_ALONE: &str = "offering 1000000000 1000000 91\n\
+    p z 400000000\n\
+    c z 5.100 100000000\n\
+    end\n";
+
+const ROOM: usize = 300;
 
 /// How a run ended, and what its sinks have taken.
 #[derive(Drop)]
@@ -59,6 +71,30 @@ fn the_stop_is_printed_however_the_book_is_cut_into_pieces(rt: HostRuntime) -> R
 }
 
 #[test]
+fn awards_are_printed_where_they_are_asked_for(rt: HostRuntime) -> Result<(), Fail> {
+    let run = run(rt.alloc(), &["award", "full"], BOOK, 7, &[], &[])?;
+    assert_eq!(rt; run.status, 0);
+    let (cut, bidders) = run
+        .out
+        .bytes()
+        .split_at(TEXT.len().min(run.out.bytes().len()));
+    assert_eq!(rt; cut, TEXT.as_bytes());
+    assert_eq!(rt; bidders, BIDDERS.as_bytes());
+    Ok(())
+}
+
+#[test]
+fn nobody_gets_an_award_where_nothing_is_recognised(rt: HostRuntime) -> Result<(), Fail> {
+    let alone = run(rt.alloc(), &["award"], POSITION_ALONE, 7, &[], &[])?;
+    assert_eq!(rt; alone.status, 0);
+    assert_eq!(rt; alone.out.bytes(), b"no awards\n".as_slice());
+    let full = run(rt.alloc(), &["award", "full"], POSITION_ALONE, 7, &[], &[])?;
+    assert_eq!(rt; full.status, 0);
+    assert_eq!(rt; full.out.bytes(), b"no awards\naward z 0 0.00\n".as_slice());
+    Ok(())
+}
+
+#[test]
 fn each_read_that_fails_ends_the_run(rt: HostRuntime) -> Result<(), Fail> {
     // Each byte of the book is a read, and nothing is read behind them.
     let reads = BOOK.len() as u64;
@@ -89,12 +125,19 @@ fn faulty_words_and_books_are_told(rt: HostRuntime) -> Result<(), Fail> {
     for (words, text, status, told) in [
         ([].as_slice(), BOOK, 2, "usage\n"),
         (["award", "more"].as_slice(), BOOK, 2, "usage\n"),
-        (["award"].as_slice(), "", 3, "bad input\n"),
+        (["award", "full", "full"].as_slice(), BOOK, 2, "usage\n"),
+        (["award"].as_slice(), "", 3, "bad input at line 1\n"),
         (
             ["award"].as_slice(),
-            "offering 1000000000 1000000 91\nend\n",
+            "offering 1000000000 1000000 91\nn a 100\n",
             3,
-            "bad input\n",
+            "bad input at line 3\n",
+        ),
+        (
+            ["award", "full"].as_slice(),
+            "offering 1000000000 1000000 91\nn a 100\nc a 5.000 100\nend\n",
+            3,
+            "bad input at line 3\n",
         ),
     ] {
         let run = run(rt.alloc(), words, text, 7, &[], &[])?;

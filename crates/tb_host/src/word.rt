@@ -9,6 +9,7 @@ pub enum Word {
     Offering,
     Noncompetitive,
     Competitive,
+    Position,
     End,
 }
 
@@ -23,6 +24,8 @@ pub fn word_of(text: &str) -> Option<Word>
         Some(Word::Noncompetitive)
     } else if text == "c" {
         Some(Word::Competitive)
+    } else if text == "p" {
+        Some(Word::Position)
     } else if text == "end" {
         Some(Word::End)
     } else {

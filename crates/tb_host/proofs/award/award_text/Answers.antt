@@ -1,12 +1,29 @@
+use Rattle.std.proofs.Common.{◌≤◌, ◌^◌, List, refl, subst, sym, arith}
+use Rattle.std.specs.Prelude.{All}
 use Rattle.std.proofs.lemmas.Result.{IfOk-weaker}
+use Rattle.tb_host.specs.Tallies.{sum_of_way}
+use Rattle.tb_host.specs.declared.way.Way.{Way}
+use Rattle.tb_host.proofs.TextLemmas.{cut-text, lines-fit, lines-priced, nothing-text, ways-fit}
 use Rattle.tb_host.proofs.award.award_text.Goals as goal
 
+pub cut-requires-clause-priced : goal.cut-requires-clause-priced
+cut-requires-clause-priced c = lines-priced c.requires.0 c.args.book c.deref.result.now c.in_ok-recognised.recognised.lines c.requires.1.tally c.in_ok-recognised.ensures.recognised
+
+pub cut-requires-clause-fits : goal.cut-requires-clause-fits
+cut-requires-clause-fits c = omega (arith, c.in_ok-recognised.ensures.within, lines-fit c.requires.0 c.args.book c.requires.1)
+
+pub returns-in-NoAwards : goal.returns-in-NoAwards
+returns-in-NoAwards c = IfOk-weaker c.nothing_text.result _ _ (λ text has kept is.
+    nothing-text c.args.full kept c.args.book c.as_slice.result.now c.deref.result.now c.in_ok-recognised.recognised.lines text.items is.tally c.as_slice.ensures.keys c.deref.ensures.value
+    c.in_ok-recognised.ensures.recognised (c.in-NoAwards.ensures.none.0 refl) has) c.nothing_text.ensures
+
+pub cut_text-requires-clause-fits : goal.cut_text-requires-clause-fits
+cut_text-requires-clause-fits c = omega (arith, c.in_ok-recognised.ensures.within, lines-fit c.requires.0 c.args.book c.requires.1)
+
+pub cut_text-requires-clause-amounts : goal.cut_text-requires-clause-amounts
+cut_text-requires-clause-amounts c = subst (λ (ws : List Way). All (λ way. sum_of_way way ≤ 10 ^ 19) ws) (sym c.deref-in-Cut.ensures.value) (ways-fit c.requires.0 c.args.book c.requires.1)
+
 pub returns : goal.returns
-returns c = IfOk-weaker c.cut_lines.result _ _ (λ text is. record {
-  stop = c.in_ok-cut.cut.stop.steps;
-  percent = c.in_ok-cut.cut.percent.hundredths;
-  price = c.price.result.millionths;
-  cut = rw c.deref.ensures.value at c.in_ok-cut.ensures.cut;
-  priced = c.price.ensures;
-  is = is;
-}) c.cut_lines.ensures
+returns c = IfOk-weaker c.cut_text.result _ _ (λ text has kept is.
+    cut-text c.args.full kept c.args.book c.as_slice-in-Cut.result.now c.deref-in-Cut.result.now c.deref.result.now c.in_ok-recognised.recognised.lines c.in-Cut.cut c.sought-sought.result.value text.items is.tally
+    c.as_slice-in-Cut.ensures.keys c.deref-in-Cut.ensures.value c.deref.ensures.value c.in_ok-recognised.ensures.recognised c.sought-sought.ensures (c.in-Cut.ensures.cut c.in-Cut.cut refl) has) c.cut_text.ensures

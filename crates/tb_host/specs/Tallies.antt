@@ -1,0 +1,71 @@
+-- What is kept of a book while it is read, and what it stands for.
+use Rattle.std.specs.Prelude.{◌≡◌, ℕ, pos, ◌*◌, ◌^◌, ◌<◌, ◌≤◌, List, Option, length, slice_index_or, All, Bool, true, false}
+use Rattle.std.specs.Str.Lines.{lines}
+use Rattle.tb_units.specs.declared.lines.RateLine.{RateLine}
+use Rattle.tb_award.specs.Recognition.{bid_in}
+use Rattle.tb_host.specs.Books.{Book, Numbered, BeginsWithBook, most_lines, has_entry, is_competitive, is_noncompetitive}
+use Rattle.tb_host.specs.Bids.{bid_at, noncompetitive_in, noncompetitive_of, position_of}
+use Rattle.tb_host.specs.BookReading.{EndsEntries, WhereTold}
+use Rattle.tb_host.specs.SoundLines.{IsSoundLine, IsSoundOffering}
+use Rattle.tb_host.specs.declared.way.Way.{Way}
+use Rattle.tb_host.specs.declared.way.Way.TheVariants as way
+use Rattle.tb_host.specs.declared.text_book.TextBook.{TextBook}
+
+abbrev pub is_competitive_way : Way → Bool
+is_competitive_way way.Open = false
+is_competitive_way way.Competitive = true
+is_competitive_way (way.Noncompetitive sum) = false
+
+abbrev pub is_noncompetitive_way : Way → Bool
+is_noncompetitive_way way.Open = false
+is_noncompetitive_way way.Competitive = false
+is_noncompetitive_way (way.Noncompetitive sum) = true
+
+abbrev pub sum_of_way : Way → ℕ
+sum_of_way way.Open = 0
+sum_of_way way.Competitive = 0
+sum_of_way (way.Noncompetitive sum) = sum.value
+
+-- the way says how the bidder bids in these entries
+pub record IsWayOf (entries : List Numbered) (bidder : ℕ) (way : Way) : Type 0 where
+  pub competitive : has_entry is_competitive bidder entries ≡ is_competitive_way way
+  pub noncompetitive : has_entry is_noncompetitive bidder entries ≡ is_noncompetitive_way way
+  pub sum : noncompetitive_of entries bidder ≡ sum_of_way way
+
+-- the lines are the competitive bids of the book
+pub record AreLinesOf (days : ℕ) (book : Book) (lines : List RateLine) : Type 0 where
+  pub bids : (bidder steps : ℕ) → bid_in lines bidder steps ≡ bid_at book.entries bidder steps
+  pub known : All (λ line. line.bidder < length book.names) lines
+  pub sound : All (IsSoundLine days) lines
+  pub few : length lines ≤ length book.entries
+
+-- the text book stands for this book
+pub record IsTally (book : Book) (kept : TextBook) : Type 0 where
+  pub names : kept.bidders.keys ≡ book.names
+  pub known : All (λ numbered. numbered.bidder < length book.names) book.entries
+  pub positions_size : length kept.positions.items ≡ length book.names
+  pub positions : (bidder : ℕ) → bidder < length book.names → slice_index_or kept.positions.items bidder (pos 0) ≡ position_of book.entries bidder
+  pub ways_size : length kept.ways.items ≡ length book.names
+  pub ways : (bidder : ℕ) (d : Way) → bidder < length book.names → IsWayOf book.entries bidder (slice_index_or kept.ways.items bidder d)
+  pub lines : AreLinesOf kept.offering.days.count book kept.lines.items
+  pub noncompetitive : kept.noncompetitive.value ≡ noncompetitive_in book.entries
+  pub bounded : kept.noncompetitive.value ≤ 10 ^ 12 * length book.entries
+
+-- the text book stands for a book that is within the limits of the grammar
+pub record IsKept (book : Book) (kept : TextBook) : Type 0 where
+  pub tally : IsTally book kept
+  pub few : length book.entries < most_lines
+  pub offered : IsSoundOffering kept.offering
+
+-- the text book stands for the entries with which the text behind the offering begins, where that is told
+pub record HasReadEntries (told : Option (List ℕ)) (kept : TextBook) : Type 0 where
+  pub book : Book
+  pub tally : IsTally book kept
+  pub few : length book.entries < most_lines
+  pub ends : WhereTold told (EndsEntries kept.offering book)
+
+-- the text book stands for the book with which the input begins, where that is told
+pub record IsReadFrom (told : Option (List ℕ)) (kept : TextBook) : Type 0 where
+  pub book : Book
+  pub is_kept : IsKept book kept
+  pub begins : WhereTold told (λ text. BeginsWithBook (lines text) kept.offering book)

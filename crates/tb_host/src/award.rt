@@ -1,0 +1,202 @@
+//! What `award` prints for a book.
+ghost use Rattle.std.specs.Prelude.{◌≡◌, ℕ, ℤ, pos, ◌%◌, ◌<◌, ◌≤◌, ◌++◌, ◌^◌, ◌+◌, length, List, slice_index, slice_index_or, map, All, Bool, true, IfOk, OnOk};
+ghost use Rattle.tb_units.specs.declared.lines.RateLine.{RateLine};
+ghost use Rattle.tb_award.specs.Awards.{AreAwards, awarded_to};
+ghost use Rattle.tb_award.specs.Cuts.{total_of};
+ghost use Rattle.tb_award.specs.Limits.{cap_of};
+ghost use Rattle.tb_award.specs.Recognition.{AreRecognised, bid_in, limits_by};
+ghost use Rattle.tb_host.specs.Books.{Book};
+ghost use Rattle.tb_host.specs.BookRun.{AreAwardLines, IsAwardText, award_line, cut_text, labelled, no_awards_text, nothing_lines};
+ghost use Rattle.tb_host.specs.Tallies.{IsKept, sum_of_way};
+ghost use Rattle.tb_host.specs.AwardTexts.{HasCutText, HasNothingText, HasAmounts};
+
+use crate::sorted_lines::SortedLines;
+use crate::text_book::TextBook;
+use crate::way::Way;
+use std::alloc::Global;
+use std::marker::Brand;
+use std::sync::ledger::{Blank, Ledger};
+use tb_award::{Cut, Outcome, Recognised, award, cut, recognise, sought};
+use tb_price::payment;
+use tb_units::{Cents, Dollars, Ident, OutOfMemory, Price, RateLine, Steps};
+
+/// The lines `high`, `allotted` and `price` of the book's auction, or `no awards`, and where it is asked for in full a line
+/// for each bidder.
+pub fn award_text(alloc: Global, book: TextBook, full: bool) -> Result<Vec<u8>, OutOfMemory>
+    requires { (kept : Book) × IsKept kept book }
+    ensures { IfOk result (λ text. (kept : Book) → IsKept kept book → IsAwardText full book.offering kept text.items) }
+{
+    let TextBook {
+        offering,
+        bidders,
+        positions,
+        ways,
+        lines,
+        noncompetitive,
+    } = book;
+    let recognised = recognise_lines::<Brand>(
+        alloc,
+        Blank::new(1),
+        lines,
+        &positions,
+        offering.amount,
+    )?;
+    let sought = sought(offering.amount, noncompetitive, offering.floor);
+    match cut(&recognised, sought, offering.days) {
+        Outcome::NoAwards => nothing_text(alloc, bidders.as_slice(), full),
+        Outcome::Cut(cut) => cut_text(alloc, &cut, &recognised, bidders.as_slice(), &ways, full),
+    }
+}
+
+// What is recognised of the competitive bids. The steps are counted for no one.
+fn recognise_lines<L: Ledger>(
+    alloc: Global,
+    blank: Blank,
+    lines: Vec<RateLine>,
+    positions: &[i64],
+    offering: Dollars,
+) -> Result<Recognised, OutOfMemory>
+    requires name { blank.name ≡ L.name }
+    requires parts { blank.parts ≡ L.parts }
+    requires some { 0 < L.parts }
+    requires hundreds { offering.value % 100 ≡ 0 }
+    requires known { All (λ line. line.bidder < length positions.now) lines.items }
+    ensures recognised { IfOk result (λ recognised. AreRecognised (bid_in lines.items) (cap_of offering.value) (limits_by offering.value positions.now) (length positions.now) recognised.lines) }
+    ensures within { IfOk result (λ recognised. total_of recognised.lines ≤ total_of lines.items) }
+{
+    let sorted = SortedLines::new(lines)?;
+    let mut steps = Steps::<L>::new(blank);
+    recognise(alloc, &sorted, positions, offering, &mut steps)
+}
+
+// The text of an auction with a cut.
+fn cut_text(
+    alloc: Global,
+    cut: &Cut,
+    recognised: &Recognised,
+    bidders: &[Ident],
+    ways: &[Way],
+    full: bool,
+) -> Result<Vec<u8>, OutOfMemory>
+    requires sizes { length bidders.now ≡ length ways.now }
+    requires known { All (λ line. line.bidder < length ways.now) recognised.now.lines }
+    requires fits { total_of recognised.now.lines ≤ 10 ^ 19 }
+    requires amounts { All (λ way. sum_of_way way ≤ 10 ^ 19) ways.now }
+    ensures { IfOk result (λ text. HasCutText full cut.now recognised.now.lines bidders.now ways.now text.items) }
+{
+    let mut text = cut_lines(alloc, cut)?;
+    if full {
+        let amounts = amounts(alloc, cut, recognised, ways)?;
+        push_award_lines(&mut text, bidders, &amounts, cut.price)?;
+    }
+    Ok(text)
+}
+
+// The text of an auction in which nobody gets an award.
+fn nothing_text(alloc: Global, bidders: &[Ident], full: bool) -> Result<Vec<u8>, OutOfMemory>
+    ensures { IfOk result (λ text. HasNothingText full bidders.now text.items) }
+{
+    let mut text = Vec::new(alloc);
+    text.extend_from_slice(b"no awards\n")?;
+    if full {
+        push_nothing_lines(&mut text, bidders)?;
+    }
+    Ok(text)
+}
+
+fn cut_lines(alloc: Global, cut: &Cut) -> Result<Vec<u8>, OutOfMemory>
+    ensures { IfOk result (λ text. text.items ≡ cut_text cut.now.stop.steps cut.now.percent.hundredths cut.now.price.millionths) }
+{
+    let mut text = Vec::new(alloc);
+    push_line(&mut text, b"high", cut.stop.print().bytes())?;
+    push_line(&mut text, b"allotted", cut.percent.print().bytes())?;
+    push_line(&mut text, b"price", cut.price.print().bytes())?;
+    Ok(text)
+}
+
+fn push_line(text: &mut Vec<u8>, word: &[u8], value: &[u8]) -> Result<(), OutOfMemory>
+    ensures { OnOk result (text.new.items ≡ text.old.items ++ labelled word.now value.now) }
+{
+    text.extend_from_slice(word)?;
+    text.push(b' ')?;
+    text.extend_from_slice(value)?;
+    text.push(b'\n')?;
+    Ok(())
+}
+
+// What each bidder gets: its awards, and what it bids noncompetitively.
+fn amounts(
+    alloc: Global,
+    cut: &Cut,
+    recognised: &Recognised,
+    ways: &[Way],
+) -> Result<Vec<u128>, OutOfMemory>
+    requires known { All (λ line. line.bidder < length ways.now) recognised.now.lines }
+    requires fits { total_of recognised.now.lines ≤ 10 ^ 19 }
+    requires amounts { All (λ way. sum_of_way way ≤ 10 ^ 19) ways.now }
+    ensures { IfOk result (λ amounts. HasAmounts cut.now recognised.now.lines ways.now amounts.items) }
+{
+    let mut amounts = noncompetitive_amounts(alloc, ways)?;
+    for place in 0..recognised.count() {
+        let line = recognised.line(place);
+        amounts[line.bidder as usize] += award(cut, line.rate, line.amount).value;
+    }
+    Ok(amounts)
+}
+
+fn noncompetitive_amounts(alloc: Global, ways: &[Way]) -> Result<Vec<u128>, OutOfMemory>
+    ensures { IfOk result (λ amounts. amounts.items ≡ map sum_of_way ways.now) }
+{
+    let mut amounts = Vec::with_capacity(alloc, ways.len())?;
+    for way in ways {
+        amounts.push(way.noncompetitive().value)?;
+    }
+    Ok(amounts)
+}
+
+fn push_award_lines(
+    text: &mut Vec<u8>,
+    bidders: &[Ident],
+    amounts: &[u128],
+    price: Price,
+) -> Result<(), OutOfMemory>
+    requires sizes { length bidders.now ≡ length amounts.now }
+    requires fits { All (λ amount. amount ≤ 10 ^ 22) amounts.now }
+    ensures { OnOk result ((lines : List ℕ) × (text.new.items ≡ text.old.items ++ lines) × AreAwardLines (slice_index amounts.now) price.millionths 0 bidders.now lines) }
+{
+    for (number, bidder) in bidders.iter().enumerate() {
+        let amount = Dollars {
+            value: amounts[number],
+        };
+        push_award_line(text, bidder, amount, payment(amount, price))?;
+    }
+    Ok(())
+}
+
+fn push_nothing_lines(text: &mut Vec<u8>, bidders: &[Ident]) -> Result<(), OutOfMemory>
+    ensures { OnOk result (text.new.items ≡ text.old.items ++ nothing_lines bidders.now) }
+{
+    for bidder in bidders {
+        push_award_line(text, bidder, Dollars { value: 0 }, Cents { value: 0 })?;
+    }
+    Ok(())
+}
+
+// The line `award BIDDER AMOUNT PAYMENT`.
+fn push_award_line(
+    text: &mut Vec<u8>,
+    bidder: &Ident,
+    amount: Dollars,
+    payment: Cents,
+) -> Result<(), OutOfMemory>
+    ensures { OnOk result (text.new.items ≡ text.old.items ++ award_line bidder.now amount.value payment.value) }
+{
+    text.extend_from_slice(b"award ")?;
+    text.extend_from_slice(bidder.bytes())?;
+    text.push(b' ')?;
+    text.extend_from_slice(amount.print().bytes())?;
+    text.push(b' ')?;
+    text.extend_from_slice(payment.print().bytes())?;
+    text.push(b'\n')?;
+    Ok(())
+}
