@@ -2,7 +2,7 @@
 use Rattle.std.specs.Prelude.{◌≡◌, ℕ, ◌*◌, ◌%◌, ◌<◌, ◌≤◌, ◌==◌, if◌then◌else◌, List, [], ◌∷◌, sum_by}
 use Rattle.tb_units.specs.declared.lines.RateLine.{RateLine}
 
--- the least whole hundreds that are the percentage, in hundredths of a percent, of what is recognised
+-- the least multiple of 100 that is at least the percentage, in hundredths of a percent, of what is recognised
 pub record IsProrated (percent recognised award : ℕ) : Type 0 where
   pub hundreds : award % 100 ≡ 0
   pub enough : percent * recognised ≤ 10000 * award

@@ -6,6 +6,7 @@ use Rattle.tb_units.specs.declared.lines.RateLine.{RateLine}
 use Rattle.tb_price.specs.Prices.{IsPrice}
 use Rattle.tb_award.specs.declared.outcome.Cut.{Cut}
 
+-- tests of rates: up to the stop, under it, at it and over it
 abbrev pub up_to : ℕ → ℕ → Bool
 up_to stop steps = nat_le steps stop
 
@@ -33,6 +34,7 @@ pub record FallsShort (par : (ℕ → Bool) → ℕ) (sought stop percent : ℕ)
   pub greatest : par (over stop) ≡ 0
   pub whole : percent ≡ 10000
 
+-- the stop and the percentage of an auction, where the bids reach the amount sought or fall short of it
 abbrev pub IsCut : ((ℕ → Bool) → ℕ) → ℕ → ℕ → ℕ → Type 0
 IsCut par sought stop percent = Reaches par sought stop percent ⊎ FallsShort par sought stop percent
 
@@ -40,6 +42,7 @@ IsCut par sought stop percent = Reaches par sought stop percent ⊎ FallsShort p
 abbrev pub par_of : List RateLine → (ℕ → Bool) → ℕ
 par_of lines passes = sum_by (λ line. if passes line.rate.steps then line.amount.value else 0) lines
 
+-- a line's amount, and its rate in steps
 abbrev pub amount_of : RateLine → ℕ
 amount_of line = line.amount.value
 

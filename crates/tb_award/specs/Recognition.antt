@@ -19,16 +19,16 @@ sum_under f (suc n) = sum_under f n + f n
 abbrev pub capped : (ℕ → ℕ) → ℕ → ℕ → ℕ
 capped bids cap steps = min (bids steps) cap
 
--- what the bidder's limit lets through of its capped bids at the rates under one
+-- what the bidder's limit lets through of its capped bids at the rates under this one
 abbrev pub let_through : (ℕ → ℕ) → ℕ → ℕ → ℕ → ℕ
 let_through bids cap limit steps = min limit (sum_under (capped bids cap) steps)
 
--- the limit is applied from the lowest rate upward: at a rate that is recognised which the limit lets through more
--- with the bids at that rate than without them
+-- the limit is applied from the lowest rate upward: recognised at a rate is what it lets through with the bids at that
+-- rate, less what it lets through without them
 abbrev pub recognised_at : (ℕ → ℕ) → ℕ → ℕ → ℕ → ℕ
 recognised_at bids cap limit steps = let_through bids cap limit (suc steps) - let_through bids cap limit steps
 
--- the line is what is recognised of a bidder at a rate, and that is something
+-- the line is what is recognised of its bidder at its rate, and that is something
 pub record IsRecognised (bids : ℕ → ℕ → ℕ) (cap : ℕ) (limits : ℕ → ℕ) (bidders : ℕ) (line : RateLine) : Type 0 where
   pub known : line.bidder < bidders
   pub some : 0 < line.amount.value

@@ -14,8 +14,8 @@ use std::alloc::Global;
 use std::sync::ledger::Ledger;
 use tb_units::{Dollars, Lines, OutOfMemory, RateLine, Steps};
 
-/// What is recognised of lines in order, where each bidder has a reported position; a negative one counts as zero. The
-/// offering is a multiple of 100.
+/// What is recognised of lines in order. `positions` has each bidder's reported position by its number, in whole dollars; a
+/// negative one counts as zero. The offering is a multiple of 100. `OutOfMemory` where the memory for the result is wanting.
 pub fn recognise<B: Lines, L: Ledger>(
     alloc: Global,
     lines: &B,

@@ -43,6 +43,7 @@ pub record AreKept (lines : List BookLine) : Type 0 where
   pub apart : AllPairs AreApart lines
   pub limited : par_in lines ≤ most_bid
 
+-- the laws of a book
 abbrev pub IsKept : Bids → Type 0
 IsKept book = AreKept book.lines
 

@@ -56,6 +56,7 @@ impl Book {
         requires new { ¬ (HasBid line.bidder line.number self.old.lines) }
         requires fits { par_in self.old.lines + line.amount.value ≤ most_bid }
         ensures lines { IsInserted line self.old.lines self.new.lines }
+        ensures kept { IsKept self.new }
         ensures room { self.old.spare ≤ self.new.spare + 1 }
     {
         let place = place_of(&self.lines, &line);
@@ -67,6 +68,7 @@ impl Book {
         ensures none { IsNone result ↔ (¬ (HasBid bidder number self.old.lines)) }
         ensures taken { IfSome result (λ line. (line.bidder ≡ bidder) × (line.number ≡ number) × IsTakenOut line self.old.lines self.new.lines) }
         ensures unchanged { IfNone result (self.new.lines ≡ self.old.lines) }
+        ensures kept { IsKept self.new }
         ensures room { self.old.spare ≤ self.new.spare }
     {
         let place = find_bid(&self.lines, bidder, number)?;

@@ -13,6 +13,7 @@ use Rattle.tb_host.specs.declared.book_line.Entry.TheVariants as entry
 abbrev pub most_lines : ℕ
 most_lines = 1000000
 
+-- the name of an entry's bidder
 abbrev pub name_of : Entry → List ℕ
 name_of (entry.Bid bid) = bid.bidder
 name_of (entry.Report report) = report.bidder
@@ -27,6 +28,7 @@ pub record Book : Type 0 where
   pub names : List (List ℕ)
   pub entries : List Numbered
 
+-- no entry yet
 abbrev pub empty_book : Book
 empty_book = record { names = []; entries = [] }
 
@@ -42,6 +44,7 @@ GetsNumber name old number new =
     (StandsFirstAt name old number × (new ≡ old))
     ⊎ ((¬ (Contains old name)) × (number ≡ length old) × (new ≡ old ++ name ∷ []))
 
+-- a bid with a rate, and a bid without one
 abbrev pub is_competitive : Entry → Bool
 is_competitive (entry.Bid bid) = is_some bid.rate
 is_competitive (entry.Report report) = false
@@ -137,5 +140,6 @@ pub record StopsBehindFront (number : ℕ) (lines : List (List ℕ)) : Type 0 wh
 abbrev pub IsBadLine : ℕ → List (List ℕ) → Type 0
 IsBadLine number lines = (IsBadFirst lines × (number ≡ 1)) ⊎ StopsBehindFront number lines
 
+-- some line is the first outside the grammar
 abbrev pub HasBadLine : List (List ℕ) → Type 0
 HasBadLine lines = (number : ℕ) × IsBadLine number lines

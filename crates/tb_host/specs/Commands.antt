@@ -8,6 +8,7 @@ abbrev pub AreAward : Bool → List (List ℕ) → Type 0
 AreAward false words = words ≡ codes "award" ∷ []
 AreAward true words = words ≡ codes "award" ∷ codes "full" ∷ []
 
+-- whether what each bidder gets is asked for
 abbrev pub is_full : Command → Bool
 is_full (command.Award full) = full
 

@@ -14,6 +14,7 @@ status_of ending.ReadFault = 4
 status_of ending.WriteFault = 5
 status_of ending.OutOfMemory = 9
 
+-- the line that names the first line outside the grammar
 abbrev pub bad_input_message : ℕ → List ℕ
 bad_input_message line = codes "bad input at line " ++ decimal line ++ 10 ∷ []
 

@@ -11,6 +11,7 @@ use Rattle.tb_host.specs.declared.way.Way.{Way}
 use Rattle.tb_host.specs.declared.way.Way.TheVariants as way
 use Rattle.tb_host.specs.declared.text_book.TextBook.{TextBook}
 
+-- what a way says: bids with a rate, bids without one, and the sum of those
 abbrev pub is_competitive_way : Way → Bool
 is_competitive_way way.Open = false
 is_competitive_way way.Competitive = true

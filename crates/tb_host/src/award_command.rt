@@ -2,7 +2,7 @@
 ghost use Rattle.tb_link.specs.Counts.{NeverFalls};
 ghost use Rattle.tb_host.specs.AwardRun.{AwardEnds};
 
-use crate::award::award_text;
+use crate::auction_text::award_text;
 use crate::book::{BookFault, read_book};
 use crate::ending::Ending;
 use std::alloc::Global;

@@ -1,7 +1,7 @@
 //! The commands of the host, and the call that chooses among them.
 #![tactic(auto)]
 
-mod award;
+mod auction_text;
 mod award_command;
 mod book;
 mod book_line;

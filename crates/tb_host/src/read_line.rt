@@ -18,10 +18,13 @@ use tb_units::{Days, Dollars, Ident, Rate};
 /// The longest line, without its line feed and the one carriage return before that.
 pub const LONGEST_LINE: usize = 8192;
 
+/// Bids and floors are multiples of this, in whole dollars.
 const BID_UNIT: u128 = 100;
 
+/// Offerings are multiples of this, in whole dollars.
 const OFFERING_UNIT: u128 = 1_000_000;
 
+/// The largest amount, in whole dollars.
 const MOST: u128 = 1_000_000_000_000;
 
 /// Reads a line of a book. Every other text is `None`.

@@ -13,7 +13,8 @@ const BOOK: &str = "offering 1000000000 1000000 91\n\
 
 const TEXT: &str = "high 5.330\nallotted 55.56\nprice 98.652694\n";
 
-const BIDDERS: &str = "award n1 100000000 98652694.00\n\
+const FULL_TEXT: &str = "high 5.330\nallotted 55.56\nprice 98.652694\n\
+    award n1 100000000 98652694.00\n\
     award a 300000000 295958082.00\n\
     award b 350000000 345284429.00\n\
     award c 166680000 164434310.36\n\
@@ -60,26 +61,18 @@ fn run(
 }
 
 #[test]
-fn the_stop_is_printed_however_the_book_is_cut_into_pieces(rt: HostRuntime) -> Result<(), Fail> {
-    for piece in [1, 2, 7, BOOK.len()] {
-        let run = run(rt.alloc(), &["award"], BOOK, piece, &[], &[])?;
-        assert_eq!(rt; run.status, 0, "pieces of {piece}");
-        assert_eq!(rt; run.out.bytes(), TEXT.as_bytes());
-        assert_eq!(rt; run.err.bytes(), b"".as_slice());
+fn the_text_is_printed_however_the_book_is_cut_into_pieces(rt: HostRuntime) -> Result<(), Fail> {
+    for (words, text) in [
+        (["award"].as_slice(), TEXT),
+        (["award", "full"].as_slice(), FULL_TEXT),
+    ] {
+        for piece in [1, 2, 7, BOOK.len()] {
+            let run = run(rt.alloc(), words, BOOK, piece, &[], &[])?;
+            assert_eq!(rt; run.status, 0, "pieces of {piece}");
+            assert_eq!(rt; run.out.bytes(), text.as_bytes());
+            assert_eq!(rt; run.err.bytes(), b"".as_slice());
+        }
     }
-    Ok(())
-}
-
-#[test]
-fn awards_are_printed_where_they_are_asked_for(rt: HostRuntime) -> Result<(), Fail> {
-    let run = run(rt.alloc(), &["award", "full"], BOOK, 7, &[], &[])?;
-    assert_eq!(rt; run.status, 0);
-    let (cut, bidders) = run
-        .out
-        .bytes()
-        .split_at(TEXT.len().min(run.out.bytes().len()));
-    assert_eq!(rt; cut, TEXT.as_bytes());
-    assert_eq!(rt; bidders, BIDDERS.as_bytes());
     Ok(())
 }
 
@@ -98,25 +91,29 @@ fn nobody_gets_an_award_where_nothing_is_recognised(rt: HostRuntime) -> Result<(
 fn each_read_that_fails_ends_the_run(rt: HostRuntime) -> Result<(), Fail> {
     // Each byte of the book is a read, and nothing is read behind them.
     let reads = BOOK.len() as u64;
-    for call in 0..reads {
-        let run = run(rt.alloc(), &["award"], BOOK, 1, &[call], &[])?;
-        assert_eq!(rt; run.status, 4, "read {call}");
-        assert_eq!(rt; run.out.bytes(), b"".as_slice());
-        assert_eq!(rt; run.err.bytes(), b"read fault\n".as_slice());
+    for words in [["award"].as_slice(), ["award", "full"].as_slice()] {
+        for call in 0..reads {
+            let run = run(rt.alloc(), words, BOOK, 1, &[call], &[])?;
+            assert_eq!(rt; run.status, 4, "read {call}");
+            assert_eq!(rt; run.out.bytes(), b"".as_slice());
+            assert_eq!(rt; run.err.bytes(), b"read fault\n".as_slice());
+        }
+        let run = run(rt.alloc(), words, BOOK, 1, &[reads], &[])?;
+        assert_eq!(rt; run.status, 0);
     }
-    let run = run(rt.alloc(), &["award"], BOOK, 1, &[reads], &[])?;
-    assert_eq!(rt; run.status, 0);
     Ok(())
 }
 
 #[test]
 fn each_write_that_fails_ends_the_run(rt: HostRuntime) -> Result<(), Fail> {
-    let failed = run(rt.alloc(), &["award"], BOOK, BOOK.len(), &[], &[0])?;
-    assert_eq!(rt; failed.status, 5);
-    assert_eq!(rt; failed.out.bytes(), b"".as_slice());
-    assert_eq!(rt; failed.err.bytes(), b"write fault\n".as_slice());
-    let done = run(rt.alloc(), &["award"], BOOK, BOOK.len(), &[], &[1])?;
-    assert_eq!(rt; done.status, 0, "there is one write");
+    for words in [["award"].as_slice(), ["award", "full"].as_slice()] {
+        let failed = run(rt.alloc(), words, BOOK, BOOK.len(), &[], &[0])?;
+        assert_eq!(rt; failed.status, 5);
+        assert_eq!(rt; failed.out.bytes(), b"".as_slice());
+        assert_eq!(rt; failed.err.bytes(), b"write fault\n".as_slice());
+        let done = run(rt.alloc(), words, BOOK, BOOK.len(), &[], &[1])?;
+        assert_eq!(rt; done.status, 0, "there is one write");
+    }
     Ok(())
 }
 

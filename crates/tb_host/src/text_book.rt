@@ -20,7 +20,7 @@ use tb_units::{Dollars, Ident, OutOfMemory, Rate, RateLine};
 pub struct TextBook {
     pub offering: Offering,
     pub bidders: IndexSet<Ident>,
-    /// The reported position of each bidder.
+    /// The reported position of each bidder, in whole dollars.
     pub positions: Vec<i64>,
     /// The way in which each bidder bids.
     pub ways: Vec<Way>,
@@ -62,7 +62,7 @@ impl TextBook {
         }
     }
 
-    /// Adds an entry, where it may stand behind those before it.
+    /// Adds an entry, where it may stand behind those before it. After an error the book is of no further use.
     pub fn add(&mut self, entry: Entry) -> Result<(), AddFault>
         requires tally { (book : Book) × IsTally book self.old × (length book.names < most_lines) × (length book.entries < most_lines) }
         requires spelled { IsLine (kind.Entry entry) }

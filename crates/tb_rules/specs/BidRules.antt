@@ -20,7 +20,7 @@ abbrev pub closing_for : Terms → Option Rate → Moment
 closing_for terms None = terms.nc_moment
 closing_for terms (Some rate) = terms.c_moment
 
--- the par of the bidder's live bids of the other kind
+-- the par of the bidder's live bids of the other kind; each is at least 100, so it is zero just where there is none
 abbrev pub par_of_other_kind : Own → Option Rate → ℕ
 par_of_other_kind own None = own.competitive.value
 par_of_other_kind own (Some rate) = own.noncompetitive.value

@@ -13,8 +13,8 @@ use tb_units::{Dollars, Moment, Rate};
 // Accepted bids of a bidder in an auction.
 const MOST_BIDS: u32 = 1000;
 
-/// The first rule that a bid breaks, in the order of the refusals' numbers: 12, 13, 16, 17, 18, 19, 20, 21. `None` where
-/// it breaks none. A bid without a rate is noncompetitive.
+/// The first rule that a bid breaks at a running moment, in the order of the refusals' numbers: 12, 13, 16, 17, 18, 19, 20,
+/// 21. `None` where it breaks none. A bid without a rate is noncompetitive.
 pub fn bid_verdict(
     terms: &Terms,
     own: &Own,
@@ -103,7 +103,7 @@ fn lacks_report(terms: &Terms, own: &Own, rate: Option<Rate>, amount: Dollars) -
         && !own.reported
 }
 
-/// `Late` where a report comes at or after the competitive closing; else `None`.
+/// `Late` where a report's running moment is at or after the competitive closing; else `None`.
 pub fn position_verdict(terms: &Terms, moment: Moment) -> Option<Refusal>
     ensures late { IfSome result (λ refused. (refused ≡ refusal.Late moment terms.now.c_moment) × (terms.now.c_moment.seconds ≤ moment.seconds)) }
     ensures none { IsNone result ↔ (moment.seconds < terms.now.c_moment.seconds) }

@@ -93,7 +93,7 @@ pub enum Refusal {
     MaturityDiffers { maturity: Day },
     /// The name, the key, the enrolment or the holiday is entered already, as the name `operator` always is.
     Exists,
-    /// As many submitters, bidders or holidays are entered as there may be.
+    /// As many submitters, bidders, auctions or holidays are entered as there may be.
     RosterFull,
     /// The bidder is enrolled under another submitter.
     OtherSubmitter,

@@ -22,3 +22,6 @@ returns-clause-lines c =
     let kept = subst AreKept items (invariant_of-self c) in
     rw (← c.self.view_is) (subst (IsInserted c.args.line lines) (sym items)
     (IsInserted-insert c.args.line lines c.place_of-place.result kept.order))
+
+pub returns-clause-kept : goal.returns-clause-kept
+returns-clause-kept c = invariant_of-self c

@@ -38,3 +38,6 @@ returns-clause-taken c =
       rw (← c.self.view_is) (subst (IsTakenOut line lines) (sym c.remove.ensures.items)
           (IsTakenOut-remove line lines c.in_ok-place.place within c.remove.ensures.value)),
     )
+
+pub returns-clause-kept : goal.returns-clause-kept
+returns-clause-kept c = invariant_of-self c

@@ -1,6 +1,6 @@
 use Rattle.std.proofs.Common.{◌≡◌, ◌++◌, take}
 use Rattle.tb_host.specs.BookRun.{nothing_lines}
-use Rattle.tb_host.proofs.award.push_nothing_lines.Given as goal
+use Rattle.tb_host.proofs.auction_text.push_nothing_lines.Given as goal
 
 -- the lines of the bidders so far
 abbrev pub invariant-loop-bidder : goal.invariant-loop-bidder

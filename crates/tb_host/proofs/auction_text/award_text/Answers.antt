@@ -4,7 +4,7 @@ use Rattle.std.proofs.lemmas.Result.{IfOk-weaker}
 use Rattle.tb_host.specs.Tallies.{sum_of_way}
 use Rattle.tb_host.specs.declared.way.Way.{Way}
 use Rattle.tb_host.proofs.TextLemmas.{cut-text, lines-fit, lines-priced, nothing-text, ways-fit}
-use Rattle.tb_host.proofs.award.award_text.Goals as goal
+use Rattle.tb_host.proofs.auction_text.award_text.Goals as goal
 
 pub cut-requires-clause-priced : goal.cut-requires-clause-priced
 cut-requires-clause-priced c = lines-priced c.requires.0 c.args.book c.deref.result.now c.in_ok-recognised.recognised.lines c.requires.1.tally c.in_ok-recognised.ensures.recognised

@@ -3,7 +3,7 @@ use Rattle.std.proofs.lemmas.List.{take_more, length-take-le}
 use Rattle.tb_price.specs.Payments.{IsPayment}
 use Rattle.tb_host.specs.BookRun.{AreAwardLines, award_line}
 use Rattle.tb_host.proofs.AwardLemmas.{award-lines-more}
-use Rattle.tb_host.proofs.award.push_award_lines.Goals as goal
+use Rattle.tb_host.proofs.auction_text.push_award_lines.Goals as goal
 
 pub loop-number-preserved : goal.loop-number-preserved
 loop-number-preserved c =

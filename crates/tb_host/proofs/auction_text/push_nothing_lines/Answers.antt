@@ -2,7 +2,7 @@ use Rattle.std.proofs.Common.{◌≡◌, ◌+◌, ◌∷◌, [], ◌++◌, take,
 use Rattle.std.proofs.lemmas.List.{take_more}
 use Rattle.tb_host.specs.BookRun.{award_line, nothing_lines}
 use Rattle.tb_host.proofs.AwardLemmas.{nothing-lines-more}
-use Rattle.tb_host.proofs.award.push_nothing_lines.Goals as goal
+use Rattle.tb_host.proofs.auction_text.push_nothing_lines.Goals as goal
 
 pub loop-bidder-preserved : goal.loop-bidder-preserved
 loop-bidder-preserved c =

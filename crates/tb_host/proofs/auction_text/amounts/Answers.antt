@@ -7,7 +7,7 @@ use Rattle.tb_award.specs.Awards.{AreAwards}
 use Rattle.tb_award.specs.Cuts.{amount_of}
 use Rattle.tb_host.specs.declared.way.Way.TheVariants as way
 use Rattle.tb_host.proofs.AwardLemmas.{AmountsSoFar, amounts-more, amounts-within}
-use Rattle.tb_host.proofs.award.amounts.Goals as goal
+use Rattle.tb_host.proofs.auction_text.amounts.Goals as goal
 
 pub overflow_add-index_mut : goal.overflow_add-index_mut
 overflow_add-index_mut c =

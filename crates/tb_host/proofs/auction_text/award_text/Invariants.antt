@@ -1,4 +1,4 @@
-use Rattle.tb_host.proofs.award.award_text.Given as goal
+use Rattle.tb_host.proofs.auction_text.award_text.Given as goal
 
 -- the steps are counted in a ledger of their own
 abbrev pub ghosts-recognise_lines : goal.ghosts-recognise_lines

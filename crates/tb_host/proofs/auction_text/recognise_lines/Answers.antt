@@ -7,7 +7,7 @@ use Rattle.tb_award.specs.Limits.{cap_of}
 use Rattle.tb_award.specs.Recognition.{bid_in, limits_by}
 use Rattle.tb_award.proofs.BidLemmas.{bid_of}
 use Rattle.tb_award.proofs.CallerLemmas.{AreRecognised-same}
-use Rattle.tb_host.proofs.award.recognise_lines.Goals as goal
+use Rattle.tb_host.proofs.auction_text.recognise_lines.Goals as goal
 
 pub recognise-requires-clause-known : goal.recognise-requires-clause-known
 recognise-requires-clause-known g c = All-permutation (λ (l : RateLine). l.bidder < length c.args.positions.now) c.args.lines.items c.in_ok-sorted.sorted c.in_ok-sorted.ensures c.requires.known

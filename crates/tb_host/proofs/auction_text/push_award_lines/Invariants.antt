@@ -1,6 +1,6 @@
 use Rattle.std.proofs.Common.{◌≡◌, ℕ, List, ◌++◌, take, slice_index}
 use Rattle.tb_host.specs.BookRun.{AreAwardLines}
-use Rattle.tb_host.proofs.award.push_award_lines.Given as goal
+use Rattle.tb_host.proofs.auction_text.push_award_lines.Given as goal
 
 -- the lines of the bidders so far
 abbrev pub invariant-loop-number : goal.invariant-loop-number
