@@ -67,7 +67,7 @@ impl Book {
     pub fn take_out(&mut self, bidder: u32, number: u64) -> Option<BookLine>
         ensures none { IsNone result ↔ (¬ (HasBid bidder number self.old.lines)) }
         ensures taken { IfSome result (λ line. (line.bidder ≡ bidder) × (line.number ≡ number) × IsTakenOut line self.old.lines self.new.lines) }
-        ensures unchanged { IfNone result (self.new.lines ≡ self.old.lines) }
+        ensures unchanged { IfNone result (self.new ≡ self.old) }
         ensures kept { IsKept self.new }
         ensures room { self.old.spare ≤ self.new.spare }
     {
