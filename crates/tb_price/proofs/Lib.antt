@@ -1,2 +1,3 @@
 pub mod PriceLemmas
 pub mod InvestmentLemmas
+pub mod OneLemmas

@@ -9,8 +9,8 @@ pub record IsShortRate (millionths days year thousandths : ℕ) : Type 0 where
   pub lower : 2 * thousandths * (millionths * days) ≤ 200000 * (10 ^ 8 - millionths) * year + millionths * days
   pub upper : 200000 * (10 ^ 8 - millionths) * year < (2 * thousandths + 1) * (millionths * days)
 
--- for more than half a year, P (1 + (r - y/2) (i/y)) (1 + i/2) at a rate i of t halves of a thousandth, times what
--- it was multiplied by: 100 becomes 16 10^18 y
+-- for more than half a year: the left side of Appendix B's equation, P (1 + (r - y/2) (i/y)) (1 + i/2), at a rate i of
+-- t halves of a thousandth of a percent, multiplied by 16 * 10^16 * y; its right side, 100, becomes 16 * 10^18 * y
 abbrev pub grown : ℕ → ℕ → ℕ → ℕ → ℕ
 grown millionths days year t = millionths * (400000 * year + (2 * days - year) * t) * (400000 + t)
 

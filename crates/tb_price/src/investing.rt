@@ -6,10 +6,15 @@ ghost use Rattle.tb_price.specs.Investments.{grown, IsShortRate, IsLongRate};
 use crate::yearly::Investment;
 use tb_units::{Days, Price, YearLength};
 
+/// In thousandths of a percent, above every rate of a bill of more than half a year, also at the lowest price.
+const ABOVE: u64 = 1 << 36;
+
 /// The rate, zero or positive, to the nearest thousandth of a percent, a half rounded up.
 pub fn investment(price: Price, days: Days, year: YearLength) -> Investment
-    ensures short { 2 * days.count ≤ days_of_year year → IsShortRate price.millionths days.count (days_of_year year) result.thousandths }
-    ensures long { days_of_year year < 2 * days.count → IsLongRate price.millionths days.count (days_of_year year) result.thousandths }
+    ensures short { 2 * days.count ≤ days_of_year year
+        → IsShortRate price.millionths days.count (days_of_year year) result.thousandths }
+    ensures long { days_of_year year < 2 * days.count
+        → IsLongRate price.millionths days.count (days_of_year year) result.thousandths }
 {
     let year = year.days();
     if 2 * days.count <= year {
@@ -30,9 +35,6 @@ fn short_rate(price: Price, days: Days, year: u32) -> Investment
         thousandths: ((gain + cost) / (2 * cost)) as u128,
     }
 }
-
-// Above every rate of a bill of more than half a year, also at the lowest price.
-const ABOVE: u64 = 1 << 36;
 
 // The rate of a bill of more than half a year: the least one that half a thousandth more takes beyond 100.
 fn long_rate(price: Price, days: Days, year: u32) -> Investment

@@ -2,6 +2,7 @@
 #![tactic(auto)]
 
 mod investing;
+mod laws;
 mod paying;
 mod pricing;
 #[cfg(test)]
@@ -9,6 +10,7 @@ mod tests;
 mod yearly;
 
 pub use investing::investment;
+pub use laws::figures_are_one;
 pub use paying::payment;
 pub use pricing::{above_zero, price};
 pub use yearly::Investment;

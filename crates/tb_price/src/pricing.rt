@@ -1,12 +1,13 @@
 //! The price of a bill from its discount rate and its days (31 CFR Part 356, Appendix B).
 ghost use Rattle.std.specs.Prelude.{◌≡◌, ◌*◌, ◌↔◌, IsTrue};
-ghost use Rattle.tb_price.specs.Prices.{IsPrice, HasPrice};
+ghost use Rattle.tb_price.specs.Prices.{IsPrice, HasPrice, has_price};
 
 use tb_units::{Days, Price, Rate};
 
 /// Whether the price at this rate, rounded to millionths, is above zero.
 pub fn above_zero(rate: Rate, days: Days) -> bool
-    ensures { IsTrue result ↔ HasPrice rate.steps days.count }
+    ensures price { IsTrue result ↔ HasPrice rate.steps days.count }
+    ensures test { result ≡ has_price rate.steps days.count }
 {
     // What is left is a multiple of 125 ninths of a millionth, so it doesn't round to zero.
     discount(rate, days) < 900_000_000

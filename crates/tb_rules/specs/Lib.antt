@@ -1,1 +1,1 @@
-pub mod BidRules
+pub mod BidRule

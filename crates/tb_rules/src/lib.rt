@@ -1,4 +1,4 @@
-//! The rules that a bid must meet when it comes (31 CFR 356.11 and 356.12), and when a report of a position is in time.
+//! The rules that a bid must meet when it comes (31 CFR 356.12), and when a report of a position is in time (356.13).
 //! They look at the terms of the auction and at what stands of the bidder in it.
 #![tactic(auto)]
 

@@ -1,9 +1,8 @@
 //! Verdicts on bids and on reports of positions.
-ghost use Rattle.std.specs.Prelude.{◌≡◌, ◌+◌, ◌%◌, ◌<◌, ◌≤◌, ◌⊎◌, ◌↔◌, IsTrue, false, IfSome, IsSome, IsNone};
-ghost use Rattle.tb_rules.specs.BidRules.{Breaks, IsFirstBroken, LacksPrice};
-ghost use Rattle.tb_rules.specs.BidRules as rules;
-ghost use Rattle.tb_terms.specs.declared.refusal.Refusal.{Refusal};
-ghost use Rattle.tb_terms.specs.declared.refusal.Refusal.TheVariants as refusal;
+ghost use Rattle.std.specs.Prelude.{◌≡◌};
+ghost use Rattle.tb_terms.specs.Rows.{refusal_in};
+ghost use Rattle.tb_rules.specs.BidRule.{bid_rule, position_rule, standing_in, is_no_par};
+ghost use Rattle.tb_rules.specs.BidRule as rules;
 
 use crate::own::Own;
 use tb_price::above_zero;
@@ -13,8 +12,8 @@ use tb_units::{Dollars, Moment, Rate};
 // Accepted bids of a bidder in an auction.
 const MOST_BIDS: u32 = 1000;
 
-/// The first rule that a bid breaks at a running moment, in the order of the refusals' numbers: 12, 13, 16, 17, 18, 19, 20,
-/// 21. `None` where it breaks none. A bid without a rate is noncompetitive.
+/// The first rule that a bid breaks at a running moment, in the order of the refusals' numbers: 12, 13, 16, 17, 18,
+/// 19, 20, 21. `None` where it breaks none. A bid without a rate is noncompetitive.
 pub fn bid_verdict(
     terms: &Terms,
     own: &Own,
@@ -22,8 +21,7 @@ pub fn bid_verdict(
     amount: Dollars,
     moment: Moment,
 ) -> Option<Refusal>
-    ensures first { IfSome result (IsFirstBroken terms.now own.now rate amount.value moment) }
-    ensures none { IsNone result ↔ ((refusal : Refusal) → ¬ (Breaks terms.now own.now rate amount.value moment refusal)) }
+    ensures { result ≡ refusal_in (bid_rule terms.now.announcement (standing_in own.now) moment rate amount.value) }
 {
     if amount.value < terms.announcement.minimum.value {
         return Some(Refusal::BelowMinimum);
@@ -54,13 +52,13 @@ pub fn bid_verdict(
 }
 
 fn is_no_multiple(amount: Dollars) -> bool
-    ensures { IsTrue result ↔ ((amount.value ≡ 0) ⊎ ¬ (amount.value % 100 ≡ 0)) }
+    ensures { result ≡ is_no_par amount.value }
 {
     amount.value == 0 || amount.value % 100 != 0
 }
 
 fn lacks_price(terms: &Terms, rate: Option<Rate>) -> bool
-    ensures { IsTrue result ↔ LacksPrice terms.now rate }
+    ensures { result ≡ rules.lacks_price terms.now.announcement rate }
 {
     match rate {
         Some(rate) => !above_zero(rate, terms.days),
@@ -69,7 +67,7 @@ fn lacks_price(terms: &Terms, rate: Option<Rate>) -> bool
 }
 
 fn closing_for(terms: &Terms, rate: Option<Rate>) -> Moment
-    ensures { result ≡ rules.closing_for terms.now rate }
+    ensures { result ≡ rules.closing_for terms.now.announcement rate }
 {
     match rate {
         Some(_) => terms.c_moment,
@@ -78,14 +76,13 @@ fn closing_for(terms: &Terms, rate: Option<Rate>) -> Moment
 }
 
 fn passes_ceiling(terms: &Terms, own: &Own, rate: Option<Rate>, amount: Dollars) -> bool
-    ensures { IsTrue result
-        ↔ (IsNone rate × (terms.now.announcement.nc_ceiling.value < own.now.noncompetitive.value + amount.value)) }
+    ensures { result ≡ rules.passes_ceiling terms.now.announcement (standing_in own.now) rate amount.value }
 {
     rate.is_none() && own.noncompetitive.value + amount.value > terms.announcement.nc_ceiling.value
 }
 
 fn par_of_other_kind(own: &Own, rate: Option<Rate>) -> Dollars
-    ensures { result.value ≡ rules.par_of_other_kind own.now rate }
+    ensures { result.value ≡ rules.par_of_other_kind (standing_in own.now) rate }
 {
     match rate {
         Some(_) => own.noncompetitive,
@@ -94,9 +91,7 @@ fn par_of_other_kind(own: &Own, rate: Option<Rate>) -> Dollars
 }
 
 fn lacks_report(terms: &Terms, own: &Own, rate: Option<Rate>, amount: Dollars) -> bool
-    ensures { IsTrue result
-        ↔ (IsSome rate × (terms.now.announcement.nlp_threshold.value ≤ own.now.competitive.value + amount.value)
-        × (own.now.reported ≡ false)) }
+    ensures { result ≡ rules.lacks_report terms.now.announcement (standing_in own.now) rate amount.value }
 {
     rate.is_some()
         && own.competitive.value + amount.value >= terms.announcement.nlp_threshold.value
@@ -105,8 +100,7 @@ fn lacks_report(terms: &Terms, own: &Own, rate: Option<Rate>, amount: Dollars) -
 
 /// `Late` where a report's running moment is at or after the competitive closing; else `None`.
 pub fn position_verdict(terms: &Terms, moment: Moment) -> Option<Refusal>
-    ensures late { IfSome result (λ refused. (refused ≡ refusal.Late moment terms.now.c_moment) × (terms.now.c_moment.seconds ≤ moment.seconds)) }
-    ensures none { IsNone result ↔ (moment.seconds < terms.now.c_moment.seconds) }
+    ensures { result ≡ refusal_in (position_rule terms.now.announcement moment) }
 {
     if moment.seconds < terms.c_moment.seconds {
         return None;

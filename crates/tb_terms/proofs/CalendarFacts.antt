@@ -10,14 +10,15 @@ use Rattle.jiff_core.proofs.MarchLemmas.{day_count-early}
 use Rattle.jiff_core.proofs.CalendarLemmas.{days_from_civil-day_count, day_count-day_of_year, days_of_months_mono, days_of_months_all}
 use Rattle.jiff_core.proofs.DateLemmas.{civil}
 use Rattle.jiff_tz.proofs.YearLemmas.{back_year}
-use Rattle.tb_terms.specs.Calendar.{days_in_month, days_before, new_year, first_of, year_of, last_month, month_of, day_of_month, IsDated}
-use Rattle.tb_terms.proofs.Rule.{in_years}
+use Rattle.tb_terms.specs.Calendar.{days_in_month, days_before, new_year, month_start, year_of, last_month, month_of, day_of_month, IsDated}
+use Rattle.tb_terms.proofs.EasternRule.{in_years}
 
 -- the months of a year have the days that jiff says
 pub days_before-days_of_months : (year months : ℕ) → days_before year months ≡ days_of_months (pos year) months
 unfolding days_before days_of_months
 days_before-days_of_months year zero = refl
-days_before-days_of_months year (suc months) = ap (λ (n : ℕ). n + days_in_month year (suc months)) (days_before-days_of_months year months)
+days_before-days_of_months year (suc months) =
+    ap (λ (n : ℕ). n + days_in_month year (suc months)) (days_before-days_of_months year months)
 
 -- a year from 2000 on
 pub record IsOurs (year : ℕ) : Type 0 where
@@ -27,13 +28,18 @@ pub record IsOurs (year : ℕ) : Type 0 where
 -- 1 January is where jiff has it
 pub new_year-days_from_civil : (year : ℕ) → IsOurs year → days_from_civil (pos year) 1 1 ≡ pos (new_year year)
 new_year-days_from_civil year ours =
-    let count = day_count-early (pos year) (year + 9999) 1 1 (omega (arith, signed_arith)) (omega arith) (omega arith) (omega arith) in
+    let count =
+    day_count-early (pos year) (year + 9999) 1 1 (omega (arith, signed_arith)) (omega arith) (omega arith)
+    (omega arith) in
     let number = days_from_civil-day_count (pos year) 1 1 in
     omega (arith, signed_arith)
 
 -- and so is each day of a month
-pub first_of-days_from_civil : (year month day : ℕ) → IsOurs year → 1 ≤ day → days_from_civil (pos year) month day +ℤ pos 1 ≡ pos (first_of year month + day)
-first_of-days_from_civil year month day ours some =
+pub month_start-days_from_civil : (year month day : ℕ)
+    → IsOurs year
+    → 1 ≤ day
+    → days_from_civil (pos year) month day +ℤ pos 1 ≡ pos (month_start year month + day)
+month_start-days_from_civil year month day ours some =
     let first = new_year-days_from_civil year ours in
     let january = days_from_civil-day_count (pos year) 1 1 in
     let number = days_from_civil-day_count (pos year) month day in
@@ -60,22 +66,30 @@ days_before-mono year less more le =
     omega arith
 
 -- the month of a day is the one whose days it lies among
-pub last_month-is : (year day month months : ℕ) → 1 ≤ month → month ≤ months → first_of year month ≤ day → ((later : ℕ) → month < later → later ≤ months → day < first_of year later) → last_month year day months ≡ month
+pub last_month-is : (year day month months : ℕ)
+    → 1 ≤ month
+    → month ≤ months
+    → month_start year month ≤ day
+    → ((later : ℕ) → month < later → later ≤ months → day < month_start year later)
+    → last_month year day months ≡ month
 unfolding last_month
 last_month-is year day month zero some in_months begun last = absurd (omega arith)
 last_month-is year day month (suc months) some in_months begun last = elim (leb_tells (suc month) (suc months)) [
   | inl later ↦
       let not_yet = last (suc months) later.1 (omega arith) in
-      let shorter = last_month-is year day month months some (omega arith) begun (λ m above within. last m above (omega arith)) in
+      let shorter =
+      last_month-is year day month months some (omega arith) begun (λ m above within. last m above (omega arith)) in
       grind (arith, nat_tests)
   | inr same ↦
       let is : month ≡ suc months = omega arith in
-      let begun_too : first_of year (suc months) ≤ day = omega (arith, ap (first_of year) is) in
+      let begun_too : month_start year (suc months) ≤ day = omega (arith, ap (month_start year) is) in
       grind (arith, nat_tests)
 ]
 
 -- the days before a month and those of the month
-days_before-more : (year month : ℕ) → 1 ≤ month → days_before year month ≡ days_before year (month - 1) + days_in_month year month
+days_before-more : (year month : ℕ)
+    → 1 ≤ month
+    → days_before year month ≡ days_before year (month - 1) + days_in_month year month
 unfolding days_before
 days_before-more year zero some = absurd (omega arith)
 days_before-more year (suc month) some = let back : suc month - 1 ≡ month = omega arith in rw back
@@ -87,7 +101,7 @@ pub record IsCivil (year month day number : ℕ) : Type 0 where
   pub month_to : month ≤ 12
   pub day_from : 1 ≤ day
   pub day_to : day ≤ days_in_month year month
-  pub place : number + 1 ≡ first_of year month + day
+  pub place : number + 1 ≡ month_start year month + day
 
 -- such a day lies in its year
 IsCivil-year : (year month day number : ℕ) → IsCivil year month day number → year_of number ≡ year
@@ -97,6 +111,7 @@ IsCivil-year year month day number is =
     let next = new_year-next year is.ours in
     year_of-is year number is.ours (omega arith) (omega arith)
 
+-- a date is not before its year
 pub IsCivil-starts : (year month day number : ℕ) → IsCivil year month day number → new_year year ≤ number
 IsCivil-starts year month day number is =
     let place = is.place in
@@ -122,8 +137,10 @@ IsCivil-month year month day number is =
 
 -- and is that day of it
 pub IsCivil-month_of : (year month day number : ℕ) → IsCivil year month day number → month_of number ≡ month
-IsCivil-month_of year month day number is = rw (IsCivil-year year month day number is) (IsCivil-month year month day number is)
+IsCivil-month_of year month day number is =
+    rw (IsCivil-year year month day number is) (IsCivil-month year month day number is)
 
+-- and its day of the month
 pub IsCivil-day_of_month : (year month day number : ℕ) → IsCivil year month day number → day_of_month number ≡ day
 IsCivil-day_of_month year month day number is =
     rw (IsCivil-month_of year month day number is, IsCivil-year year month day number is) (omega (arith, is.place))
@@ -132,20 +149,26 @@ IsCivil-day_of_month year month day number is =
 record HasBegun (year day month months : ℕ) : Type 0 where
   from : 1 ≤ month
   to : month ≤ months
-  begun : first_of year month ≤ day
-  last : month < months → day < first_of year (month + 1)
+  begun : month_start year month ≤ day
+  last : month < months → day < month_start year (month + 1)
 
-last_month-begun : (year day months : ℕ) → 1 ≤ months → first_of year 1 ≤ day → HasBegun year day (last_month year day months) months
+-- the last month that has begun is one of the year
+last_month-begun : (year day months : ℕ)
+    → 1 ≤ months
+    → month_start year 1 ≤ day
+    → HasBegun year day (last_month year day months) months
 unfolding last_month
 last_month-begun year day zero some begun = absurd (omega arith)
 last_month-begun year day (suc zero) some begun =
-    elim (leb_tells (first_of year 1) day) [
-      | inl has ↦ rw has.0 (record { from = omega arith; to = omega arith; begun = begun; last = λ below. absurd (omega arith) })
+    elim (leb_tells (month_start year 1) day) [
+      | inl has ↦ rw has.0 (record
+          { from = omega arith; to = omega arith; begun = begun; last = λ below. absurd (omega arith) })
       | inr lacks ↦ absurd (omega (arith, lacks.1))
     ]
 last_month-begun year day (suc (suc months)) some begun =
-    elim (leb_tells (first_of year (suc (suc months))) day) [
-      | inl has ↦ rw has.0 (record { from = omega arith; to = omega arith; begun = has.1; last = λ below. absurd (omega arith) })
+    elim (leb_tells (month_start year (suc (suc months))) day) [
+      | inl has ↦ rw has.0 (record
+          { from = omega arith; to = omega arith; begun = has.1; last = λ below. absurd (omega arith) })
       | inr lacks ↦
           let before = last_month-begun year day (suc months) (omega arith) begun in
           rw lacks.0 (record {
@@ -162,17 +185,26 @@ last_month-begun year day (suc (suc months)) some begun =
     ]
 
 -- each day of ours has its place in the calendar
-pub IsCivil-of : (number : ℕ) → 10957 ≤ number → number ≤ 47481 → IsCivil (year_of number) (month_of number) (day_of_month number) number
-IsCivil-of number from to = IsCivil-found (year_of number) number (record { from = omega arith; to = omega arith }) (omega arith) (omega arith)
+pub IsCivil-of : (number : ℕ)
+    → 10957 ≤ number
+    → number ≤ 47481
+    → IsCivil (year_of number) (month_of number) (day_of_month number) number
+IsCivil-of number from to =
+    IsCivil-found (year_of number) number (record { from = omega arith; to = omega arith }) (omega arith) (omega arith)
   where
-    IsCivil-found : (year number : ℕ) → IsOurs year → new_year year ≤ number → number < new_year (year + 1) → IsCivil year (last_month year number 12) (number + 1 - first_of year (last_month year number 12)) number
+    IsCivil-found : (year number : ℕ)
+        → IsOurs year
+        → new_year year ≤ number
+        → number < new_year (year + 1)
+        → IsCivil year (last_month year number 12) (number + 1 - month_start year (last_month year number 12)) number
     IsCivil-found year number ours low high =
         let none : days_before year 0 ≡ 0 = unfold days_before in refl in
         let found = last_month-begun year number 12 (omega arith) (omega arith) in
         let more = days_before-more year (last_month year number 12) found.from in
         let next = new_year-next year ours in
         let back : last_month year number 12 + 1 - 1 ≡ last_month year number 12 = omega arith in
-        let ends : number < new_year year + days_before year (last_month year number 12) = elim (leb_tells (suc (last_month year number 12)) 12) [
+        let ends : number < new_year year + days_before year (last_month year number 12) =
+        elim (leb_tells (suc (last_month year number 12)) 12) [
           | inl earlier ↦ rw back at (found.last earlier.1)
           | inr late ↦
               let is : last_month year number 12 ≡ 12 = omega (arith, found.to, late.1) in
@@ -189,7 +221,8 @@ IsCivil-of number from to = IsCivil-found (year_of number) number (record { from
 
 -- a year of jiff as a plain number
 natural_year : (z : ℤ) → IsBetween (pos 2000) (pos 2099) z → (year : ℕ) × (z ≡ pos year) × IsOurs year
-natural_year (pos n) between = (n, refl, record { from = omega (arith, signed_arith, between); to = omega (arith, signed_arith, between) })
+natural_year (pos n) between =
+    (n, refl, record { from = omega (arith, signed_arith, between); to = omega (arith, signed_arith, between) })
 natural_year (negsuc n) between = absurd (omega (arith, signed_arith, between))
 
 -- the date that jiff has for a day
@@ -199,12 +232,17 @@ pub record IsDateOfNumber (date : Date) (number : ℕ) : Type 0 where
   pub day_is : date.day ≡ day_of_month number
   pub ours : IsOurs (year_of number)
 
-pub IsDateOfNumber-from : (date : Date) (number : ℕ) → epoch_day date ≡ pos number → 10957 ≤ number → number ≤ 47481 → IsDateOfNumber date number
+-- of a day of ours it is so
+pub IsDateOfNumber-from : (date : Date) (number : ℕ)
+    → epoch_day date ≡ pos number
+    → 10957 ≤ number
+    → number ≤ 47481
+    → IsDateOfNumber date number
 IsDateOfNumber-from date number is from to =
     let (year, year_is, ours) = natural_year date.year (in_years date number is from to) in
     let civil_date : IsCivilDate (pos year) date.month date.day = rw year_is at (civil date) in
     let number_is : days_from_civil (pos year) date.month date.day ≡ pos number = rw year_is at is in
-    let place = first_of-days_from_civil year date.month date.day ours civil_date.2.0 in
+    let place = month_start-days_from_civil year date.month date.day ours civil_date.2.0 in
     let fits : IsCivil year date.month date.day number = record {
       ours = ours;
       month_from = civil_date.1.0;
@@ -228,12 +266,17 @@ pub year_cast : (z : ℤ) (year : ℕ) → z ≡ pos year → IsOurs year → to
 year_cast z year is ours = rw is (back_year (pos year) (omega (arith, signed_arith), omega (arith, signed_arith)))
 
 -- a day with this date has its place there
-pub IsDated-civil : (number year month day : ℕ) → 10957 ≤ number → number ≤ 47481 → IsDated number year month day → IsCivil year month day number
+pub IsDated-civil : (number year month day : ℕ)
+    → 10957 ≤ number
+    → number ≤ 47481
+    → IsDated number year month day
+    → IsCivil year month day number
 IsDated-civil number year month day from to dated =
     subst (λ (y : ℕ). IsCivil y month day number) dated.in_year
     (subst (λ (m : ℕ). IsCivil (year_of number) m day number) dated.in_month
     (subst (λ (d : ℕ). IsCivil (year_of number) (month_of number) d number) dated.on_day (IsCivil-of number from to)))
 
+-- a month has at most 31 days
 pub days_in_month-most : (year month : ℕ) → days_in_month year month ≤ 31
 days_in_month-most year month = grind arith
 
@@ -245,11 +288,17 @@ pub record IsNumbered (date : Date) (year month day : ℕ) : Type 0 where
   pub to : number ≤ 47481
   pub dated : IsDated number year month day
 
-pub IsNumbered-of : (date : Date) (year month day : ℕ) → IsOurs year → date.year ≡ pos year → date.month ≡ month → date.day ≡ day → IsNumbered date year month day
+-- of a date of ours it is so
+pub IsNumbered-of : (date : Date) (year month day : ℕ)
+    → IsOurs year
+    → date.year ≡ pos year
+    → date.month ≡ month
+    → date.day ≡ day
+    → IsNumbered date year month day
 IsNumbered-of date year month day ours year_is month_is day_is =
     let civil_date : IsCivilDate (pos year) date.month date.day = rw year_is at (civil date) in
-    let place = first_of-days_from_civil year date.month date.day ours civil_date.2.0 in
-    let number = first_of year date.month + date.day - 1 in
+    let place = month_start-days_from_civil year date.month date.day ours civil_date.2.0 in
+    let number = month_start year date.month + date.day - 1 in
     let fits : IsCivil year date.month date.day number = record {
       ours = ours;
       month_from = civil_date.1.0;
@@ -275,14 +324,24 @@ IsNumbered-of date year month day ours year_is month_is day_is =
     }
 
 -- the same, of the signed numbers that jiff takes
-pub IsNumbered-from : (date : Date) (year month day : ℕ) → IsOurs year → month ≤ 12 → day ≤ 31 → date.year ≡ to_z w16 year → pos date.month ≡ to_z w8 month → pos date.day ≡ to_z w8 day → IsNumbered date year month day
+pub IsNumbered-from : (date : Date) (year month day : ℕ)
+    → IsOurs year
+    → month ≤ 12
+    → day ≤ 31
+    → date.year ≡ to_z w16 year
+    → pos date.month ≡ to_z w8 month
+    → pos date.day ≡ to_z w8 day
+    → IsNumbered date year month day
 IsNumbered-from date year month day ours months days year_is month_is day_is =
     let high = ours.to in
     let plain_year : to_z w16 year ≡ pos year = omega (arith, signed_casts, high) in
-    IsNumbered-of date year month day ours (year_is ∙ plain_year) (omega (arith, signed_casts)) (omega (arith, signed_casts))
+    IsNumbered-of date year month day ours (year_is ∙ plain_year) (omega (arith, signed_casts))
+    (omega (arith, signed_casts))
 
 -- the date is one of jiff's
-pub IsDate-from : (year month day number : ℕ) → IsCivil year month day number → Civil.IsDate (to_z w16 year) (to_z w8 month) (to_z w8 day)
+pub IsDate-from : (year month day number : ℕ)
+    → IsCivil year month day number
+    → Civil.IsDate (to_z w16 year) (to_z w8 month) (to_z w8 day)
 IsDate-from year month day number is =
     let low = is.ours.from in
     let high = is.ours.to in

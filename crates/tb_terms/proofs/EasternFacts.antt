@@ -10,36 +10,46 @@ use Rattle.jiff_core.specs.declared.civil.date.Date.{Date}
 use Rattle.jiff_core.proofs.SignedLemmas.{signed_arith, back_small}
 use Rattle.jiff_core.proofs.CalendarLemmas.{weekday_number-parts, days_of_months_table}
 use Rattle.jiff_tz.specs.PosixRule.{sunday_number}
-use Rattle.tb_terms.specs.Calendar.{days_before, new_year, first_of, year_of}
+use Rattle.tb_terms.specs.Calendar.{days_before, new_year, month_start, year_of}
 use Rattle.tb_terms.specs.Eastern.{sunday_from, second_sunday_of_march, first_sunday_of_november, start_of, closing_of, IsDateOf}
 use Rattle.tb_terms.specs.Zone.{march_change, november_change, start_in_zone}
-use Rattle.tb_terms.proofs.CalendarFacts.{IsOurs, days_before-days_of_months, first_of-days_from_civil, IsDateOfNumber-from}
+use Rattle.tb_terms.proofs.CalendarFacts.{IsOurs, days_before-days_of_months, month_start-days_from_civil, IsDateOfNumber-from}
 
 -- the first of a month is where jiff has it
-first_of-is : (year month : ℕ) → IsOurs year → days_from_civil (pos year) month 1 ≡ pos (first_of year month)
-first_of-is year month ours =
-    let place = first_of-days_from_civil year month 1 ours (omega arith) in
+month_start-is : (year month : ℕ) → IsOurs year → days_from_civil (pos year) month 1 ≡ pos (month_start year month)
+month_start-is year month ours =
+    let place = month_start-days_from_civil year month 1 ours (omega arith) in
     omega (arith, signed_arith)
 
--- the first Sunday from a day on, and the second
-sunday_from-first : (z : ℤ) (day : ℕ) → z ≡ pos day → z +ℤ pos ((0 + 7 - sunday_number z) % 7) +ℤ pos (7 * (1 - 1)) ≡ pos (sunday_from day)
+-- the first Sunday from a day on is where jiff has it
+sunday_from-first : (z : ℤ) (day : ℕ)
+    → z ≡ pos day
+    → z +ℤ pos ((0 + 7 - sunday_number z) % 7) +ℤ pos (7 * (1 - 1)) ≡ pos (sunday_from day)
 sunday_from-first z day is =
     let weekday = weekday_number-parts (pos day) in
     rw is (omega (arith, signed_arith))
 
-sunday_from-second : (z : ℤ) (day : ℕ) → z ≡ pos day → z +ℤ pos ((0 + 7 - sunday_number z) % 7) +ℤ pos (7 * (2 - 1)) ≡ pos (sunday_from (day + 7))
+-- and the second
+sunday_from-second : (z : ℤ) (day : ℕ)
+    → z ≡ pos day
+    → z +ℤ pos ((0 + 7 - sunday_number z) % 7) +ℤ pos (7 * (2 - 1)) ≡ pos (sunday_from (day + 7))
 sunday_from-second z day is =
     let weekday = weekday_number-parts (pos day) in
     rw is (omega (arith, signed_arith))
 
+-- the change of March is on the second Sunday
 march_change-is : (year : ℕ) → IsOurs year → march_change (pos year) ≡ pos (second_sunday_of_march year)
-march_change-is year ours = sunday_from-second _ _ (first_of-is year 3 ours)
+march_change-is year ours = sunday_from-second _ _ (month_start-is year 3 ours)
 
+-- that of November on the first
 november_change-is : (year : ℕ) → IsOurs year → november_change (pos year) ≡ pos (first_sunday_of_november year)
-november_change-is year ours = sunday_from-first _ _ (first_of-is year 11 ours)
+november_change-is year ours = sunday_from-first _ _ (month_start-is year 11 ours)
 
 -- a day begins where it begins in the zone
-pub start_in_zone-start_of : (year day : ℕ) → IsOurs year → year_of day ≡ year → start_in_zone (pos year) (pos day) ≡ pos (start_of day)
+pub start_in_zone-start_of : (year day : ℕ)
+    → IsOurs year
+    → year_of day ≡ year
+    → start_in_zone (pos year) (pos day) ≡ pos (start_of day)
 unfolding start_in_zone start_of
 start_in_zone-start_of year day ours is =
     let march = march_change-is year ours in
@@ -51,16 +61,25 @@ pub record BeginsEarly (day : ℕ) : Type 0 where
   pub from : 86400 * day + 14400 ≤ start_of day
   pub to : start_of day ≤ 86400 * day + 18000
 
+-- each day does
 pub start_of-bounds : (day : ℕ) → BeginsEarly day
 unfolding start_of
 start_of-bounds day = record { from = grind arith; to = grind arith }
 
 -- the first second of a day is what the zone gives for its date
-pub second_is : (date : Date) (day : ℕ) (second : ℤ) → epoch_day date ≡ pos day → 10957 ≤ day → day ≤ 47481 → second ≡ start_in_zone date.year (epoch_day date) → to_z w64 (of_z w64 second) ≡ pos (start_of day)
+pub second_is : (date : Date) (day : ℕ) (second : ℤ)
+    → epoch_day date ≡ pos day
+    → 10957 ≤ day
+    → day ≤ 47481
+    → second ≡ start_in_zone date.year (epoch_day date)
+    → to_z w64 (of_z w64 second) ≡ pos (start_of day)
 second_is date day second number from to is =
     let civil = IsDateOfNumber-from date day number from to in
     let bounds = start_of-bounds day in
-    let value : second ≡ pos (start_of day) = is ∙ ap (λ (y : ℤ). start_in_zone y (epoch_day date)) civil.year_is ∙ ap (start_in_zone (pos (year_of day))) number ∙ start_in_zone-start_of (year_of day) day civil.ours refl in
+    let value : second ≡ pos (start_of day) =
+    is ∙ ap (λ (y : ℤ). start_in_zone y (epoch_day date)) civil.year_is
+    ∙ ap (start_in_zone (pos (year_of day))) number
+    ∙ start_in_zone-start_of (year_of day) day civil.ours refl in
     rw value (back_small w64 (pos (start_of day)) (omega (arith, bounds.to)))
 
 -- the days of the first ten months
@@ -71,7 +90,11 @@ ten_months year =
     grind arith
 
 -- a day's closing is the same time before the next day begins
-pub closing_of-next : (day minute : ℕ) → 10957 ≤ day → day ≤ 47480 → minute ≤ 1440 → closing_of day minute + 60 * (1440 - minute) ≡ start_of (day + 1)
+pub closing_of-next : (day minute : ℕ)
+    → 10957 ≤ day
+    → day ≤ 47480
+    → minute ≤ 1440
+    → closing_of day minute + 60 * (1440 - minute) ≡ start_of (day + 1)
 unfolding closing_of start_of
 closing_of-next day minute from to small = elim (cases_eq (year_of (day + 1)) (year_of day)) [
   | inl same ↦ rw same (grind (arith, nat_tests))
@@ -82,8 +105,12 @@ closing_of-next day minute from to small = elim (cases_eq (year_of (day + 1)) (y
       grind (arith, nat_tests)
 ]
 
--- a moment in the 24 hours from 18,000 seconds after a midnight in UTC lies in that day or the next
-pub IsDateOf-same : (moment day : ℕ) → 86400 * day + 18000 ≤ moment → moment < 86400 * day + 104400 → (day < 47481 → moment < start_of (day + 1)) → IsDateOf moment day
+-- a moment in the 24 hours from 18,000 seconds after a midnight in UTC lies in that day, before the next begins
+pub IsDateOf-same : (moment day : ℕ)
+    → 86400 * day + 18000 ≤ moment
+    → moment < 86400 * day + 104400
+    → (day < 47481 → moment < start_of (day + 1))
+    → IsDateOf moment day
 IsDateOf-same moment day from to before =
     let bounds = start_of-bounds day in
     record {
@@ -94,20 +121,31 @@ IsDateOf-same moment day from to before =
       ];
     }
 
-pub IsDateOf-next : (moment day : ℕ) → moment < 86400 * day + 104400 → start_of (day + 1) ≤ moment → IsDateOf moment (day + 1)
+-- and in the next day, once that has begun
+pub IsDateOf-next : (moment day : ℕ)
+    → moment < 86400 * day + 104400
+    → start_of (day + 1) ≤ moment
+    → IsDateOf moment (day + 1)
 IsDateOf-next moment day to begun =
     record { begun = begun; last = λ later above within. let far = start_of-bounds later in omega (arith, far.from) }
 
 -- one day more in the table of first seconds
-pub table_more : (starts : List ℕ) (count : ℕ) → length starts ≡ count → ((place : ℕ) → place < count → get_or starts place 0 ≡ start_of (10957 + place)) → (place : ℕ) → place < count + 1 → get_or (starts ++ start_of (10957 + count) ∷ []) place 0 ≡ start_of (10957 + place)
+pub table_more : (starts : List ℕ) (count : ℕ)
+    → length starts ≡ count
+    → ((place : ℕ) → place < count → get_or starts place 0 ≡ start_of (10957 + place))
+    → (place : ℕ)
+    → place < count + 1
+    → get_or (starts ++ start_of (10957 + count) ∷ []) place 0 ≡ start_of (10957 + place)
 table_more starts count long each place within = elim (cases_eq place count) [
-  | inl last ↦ rw last (let seam = get_or-append_seam starts (start_of (10957 + count)) [] 0 in subst (λ (n : ℕ). get_or (starts ++ start_of (10957 + count) ∷ []) n 0 ≡ start_of (10957 + count)) long seam)
+  | inl last ↦ rw last (let seam = get_or-append_seam starts (start_of (10957 + count)) [] 0
+      in subst (λ (n : ℕ). get_or (starts ++ start_of (10957 + count) ∷ []) n 0 ≡ start_of (10957 + count)) long seam)
   | inr earlier ↦
       let before : place < count = omega (arith, earlier) in
       let inside : place < length starts = omega arith in
       get_or-append starts _ 0 place inside ∙ each place before
 ]
 
+-- the first second of the first day of ours
 start_of-first : start_of 10957 ≡ 946702800
 unfolding start_of days_before
 start_of-first = refl

@@ -1,6 +1,8 @@
-pub mod Rule
+pub mod EasternRule
 pub mod CalendarFacts
 pub mod EasternFacts
 pub mod TextFacts
 pub mod YearFacts
 pub mod PayableFacts
+pub mod SpellingFacts
+pub mod RowLemmas

@@ -23,7 +23,10 @@ weekend-closed : (holidays : List ℕ) (day : ℕ) → is_weekend day ≡ true �
 weekend-closed holidays day weekend = and_left _ _ (not_from_true _ weekend)
 
 -- nor is a holiday
-holiday-closed : (holidays : List ℕ) (day place : ℕ) → place < length holidays → get_or holidays place 0 ≡ day → is_business_day holidays day ≡ false
+holiday-closed : (holidays : List ℕ) (day place : ℕ)
+    → place < length holidays
+    → get_or holidays place 0 ≡ day
+    → is_business_day holidays day ≡ false
 holiday-closed holidays day place within is =
     and_right _ _ (not_from_true _ (list_any_at (λ holiday. holiday == day) holidays place 0 within (eq-eqb _ _ is)))
 
@@ -37,7 +40,11 @@ weekday-steps number day is =
     let second = λ (h : number + 1 < day). leb-true _ _ (is.skipped (number + 1) (omega arith) h) in
     grind arith
 
-weekday-steps_more : (number day : ℕ) → is_weekend number ≡ false → IsWeekdayFrom (number + 1) day → 5 * day + 2 * ((day + 3) % 7) ≤ 5 * number + 2 * ((number + 3) % 7) + 7
+-- the same from a weekday on, one week of five more
+weekday-steps_more : (number day : ℕ)
+    → is_weekend number ≡ false
+    → IsWeekdayFrom (number + 1) day
+    → 5 * day + 2 * ((day + 3) % 7) ≤ 5 * number + 2 * ((number + 3) % 7) + 7
 weekday-steps_more number day was is =
     let before = leb-false _ _ was in
     let weekday = leb-false _ _ is.weekday in
@@ -47,7 +54,10 @@ weekday-steps_more number day was is =
     let second = λ (h : number + 2 < day). leb-true _ _ (is.skipped (number + 2) (omega arith) h) in
     grind arith
 
-pub IsWalked-begin : (holidays : List ℕ) (maturity day : ℕ) → IsWeekdayFrom maturity day → IsWalked holidays maturity day 0
+-- before all holidays
+pub IsWalked-begin : (holidays : List ℕ) (maturity day : ℕ)
+    → IsWeekdayFrom maturity day
+    → IsWalked holidays maturity day 0
 IsWalked-begin holidays maturity day is = record {
   weekday = is.weekday;
   from = is.from;
@@ -57,7 +67,10 @@ IsWalked-begin holidays maturity day is = record {
 }
 
 -- past a holiday that is another day
-pub IsWalked-other : (holidays : List ℕ) (maturity number place : ℕ) → IsWalked holidays maturity number place → get_or holidays place 0 ≢ number → IsWalked holidays maturity number (place + 1)
+pub IsWalked-other : (holidays : List ℕ) (maturity number place : ℕ)
+    → IsWalked holidays maturity number place
+    → get_or holidays place 0 ≢ number
+    → IsWalked holidays maturity number (place + 1)
 IsWalked-other holidays maturity number place walked differs = record {
   weekday = walked.weekday;
   from = walked.from;
@@ -70,7 +83,13 @@ IsWalked-other holidays maturity number place walked differs = record {
 }
 
 -- past one that is that day
-pub IsWalked-same : (holidays : List ℕ) (maturity number place next : ℕ) → IsStrictlyIncreasing holidays → place < length holidays → IsWalked holidays maturity number place → get_or holidays place 0 ≡ number → IsWeekdayFrom (number + 1) next → IsWalked holidays maturity next (place + 1)
+pub IsWalked-same : (holidays : List ℕ) (maturity number place next : ℕ)
+    → IsStrictlyIncreasing holidays
+    → place < length holidays
+    → IsWalked holidays maturity number place
+    → get_or holidays place 0 ≡ number
+    → IsWeekdayFrom (number + 1) next
+    → IsWalked holidays maturity next (place + 1)
 IsWalked-same holidays maturity number place next order within walked is weekday = record {
   weekday = weekday.weekday;
   from = omega (arith, walked.from, weekday.from);
@@ -90,25 +109,44 @@ IsWalked-same holidays maturity number place next order within walked is weekday
 }
 
 -- past all of them
-pub IsPaymentDate-walked : (holidays : List ℕ) (maturity number : ℕ) → IsWalked holidays maturity number (length holidays) → IsPaymentDate holidays maturity number
+pub IsPaymentDate-walked : (holidays : List ℕ) (maturity number : ℕ)
+    → IsWalked holidays maturity number (length holidays)
+    → IsPaymentDate holidays maturity number
 IsPaymentDate-walked holidays maturity number walked = record {
   from = walked.from;
-  business = and_from _ _ (not_from_false _ walked.weekday) (not_from_false _ (list_any_none (λ holiday. holiday == number) holidays (λ k d within. ne_eqb _ _ (λ found. walked.others k within (sym (get_or_default_zero holidays k d within) ∙ found)))));
+  business = and_from _ _ (not_from_false _ walked.weekday)
+      (not_from_false _ (list_any_none (λ holiday. holiday == number) holidays
+      (λ k d within. ne_eqb _ _
+      (λ found. walked.others k within (sym (get_or_default_zero holidays k d within) ∙ found)))));
   first = walked.closed;
 }
 
 -- one holiday after the other
-pub IsWalked-step : (days : List Day) (maturity number place next : ℕ) (holiday : Day) → IsStrictlyIncreasing (numbers_of days) → place < length days → holiday ≡ get_or days place holiday → IsWalked (numbers_of days) maturity number place → (holiday.number ≢ number → next ≡ number) → (holiday.number ≡ number → IsWeekdayFrom (number + 1) next) → IsWalked (numbers_of days) maturity next (place + 1)
+pub IsWalked-step : (days : List Day) (maturity number place next : ℕ) (holiday : Day)
+    → IsStrictlyIncreasing (numbers_of days)
+    → place < length days
+    → holiday ≡ get_or days place holiday
+    → IsWalked (numbers_of days) maturity number place
+    → (holiday.number ≢ number → next ≡ number)
+    → (holiday.number ≡ number → IsWeekdayFrom (number + 1) next)
+    → IsWalked (numbers_of days) maturity next (place + 1)
 IsWalked-step days maturity number place next holiday order within is walked other same =
     let long : length (numbers_of days) ≡ length days = length-map days _ in
-    let item : get_or (numbers_of days) place 0 ≡ holiday.number = get_or-map (λ (day : Day). day.number) days place holiday 0 within ∙ ap (λ (day : Day). day.number) (sym is) in
+    let item : get_or (numbers_of days) place 0 ≡ holiday.number =
+    get_or-map (λ (day : Day). day.number) days place holiday 0 within ∙ ap (λ (day : Day). day.number) (sym is) in
     elim (cases_eq holiday.number number) [
-      | inl equal ↦ IsWalked-same (numbers_of days) maturity number place next order (rw long within) walked (item ∙ equal) (same equal)
-      | inr differs ↦ rw (other differs) (IsWalked-other (numbers_of days) maturity number place walked (λ found. differs (sym item ∙ found)))
+      | inl equal ↦ IsWalked-same (numbers_of days) maturity number place next order (rw long within) walked
+          (item ∙ equal) (same equal)
+      | inr differs ↦ rw (other differs)
+          (IsWalked-other (numbers_of days) maturity number place walked (λ found. differs (sym item ∙ found)))
     ]
 
 -- and past the last
-pub IsPaymentDate-last : (days : List Day) (maturity number place : ℕ) → length days ≤ place → place ≤ length days → IsWalked (numbers_of days) maturity number place → IsPaymentDate (numbers_of days) maturity number
+pub IsPaymentDate-last : (days : List Day) (maturity number place : ℕ)
+    → length days ≤ place
+    → place ≤ length days
+    → IsWalked (numbers_of days) maturity number place
+    → IsPaymentDate (numbers_of days) maturity number
 IsPaymentDate-last days maturity number place over within walked =
     let long : length (numbers_of days) ≡ length days = length-map days _ in
     let whole : place ≡ length (numbers_of days) = omega arith in

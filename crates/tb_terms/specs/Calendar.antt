@@ -21,8 +21,8 @@ abbrev pub new_year : ℕ → ℕ
 new_year year = 10957 + 365 * (year - 2000) + (year - 1997) / 4
 
 -- the first day of a month, from 1 for January to 12
-abbrev pub first_of : ℕ → ℕ → ℕ
-first_of year month = new_year year + days_before year (month - 1)
+abbrev pub month_start : ℕ → ℕ → ℕ
+month_start year month = new_year year + days_before year (month - 1)
 
 -- the year of a day: four years have 1461 days
 abbrev pub year_of : ℕ → ℕ
@@ -32,7 +32,7 @@ year_of day = 2000 + 4 * (day - 10957) / 1461
 unfoldable pub last_month : ℕ → ℕ → ℕ → ℕ
 last_month year day zero = 0
 last_month year day (suc months) =
-    if nat_le (first_of year (suc months)) day then suc months else last_month year day months
+    if nat_le (month_start year (suc months)) day then suc months else last_month year day months
 
 -- the month of a day, from 1 to 12
 abbrev pub month_of : ℕ → ℕ
@@ -40,7 +40,7 @@ month_of day = last_month (year_of day) day 12
 
 -- the day of the month, from 1
 abbrev pub day_of_month : ℕ → ℕ
-day_of_month day = day + 1 - first_of (year_of day) (month_of day)
+day_of_month day = day + 1 - month_start (year_of day) (month_of day)
 
 -- a day has this date
 pub record IsDated (number year month day : ℕ) : Type 0 where

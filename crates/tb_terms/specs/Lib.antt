@@ -7,3 +7,7 @@ pub mod Cusips
 pub mod Announcements
 pub mod Zone
 pub mod Refusals
+pub mod Rows
+pub mod Faults
+pub mod Closings
+pub mod Same

@@ -13,7 +13,8 @@ november_change y = nth_weekday y 11 1 0
 
 -- the first moment of a day of the year y
 unfoldable pub start_in_zone : ℤ → ℤ → ℤ
-start_in_zone y day = day *ℤ pos 86400 +ℤ pos (if int_lt (march_change y) day && int_le day (november_change y) then 14400 else 18000)
+start_in_zone y day =
+    day *ℤ pos 86400 +ℤ pos (if int_lt (march_change y) day && int_le day (november_change y) then 14400 else 18000)
 
 -- the rule of POSIX
 abbrev pub rule_text : List ℕ

@@ -4,8 +4,8 @@ ghost use Rattle.std.specs.List.{list_all};
 ghost use Rattle.tb_terms.specs.Cusips.{is_cusip, check_sum, pair_sum};
 ghost use Rattle.tb_terms.specs.Cusips as standard;
 
-/// Nine bytes that name a bill, if they are one.
-#[derive(Clone, Copy, Debug, PartialEq, Eq)]
+/// Nine bytes that name a bill, if they are one. Their order is that of the bytes.
+#[derive(Clone, Copy, Debug, PartialEq, Eq, PartialOrd, Ord, Hash)]
 pub struct Cusip {
     pub bytes: [u8; 9],
 }

@@ -6,6 +6,12 @@ use crate::zone::{eastern, start_of_day};
 use std::alloc::Global;
 use tb_units::{Day, Moment, OutOfMemory};
 
+/// The number of 2000-01-01.
+const FIRST: u32 = 10_957;
+
+/// The number of 2099-12-31.
+const LAST: u32 = 47_481;
+
 /// The first moments of the days from 2000-01-01 to 2099-12-31.
 #[derive(Drop)]
 pub struct EasternDays {
@@ -15,15 +21,11 @@ pub struct EasternDays {
 }
 
 impl EasternDays {
-    const FIRST: u32 = 10_957;
-
-    const LAST: u32 = 47_481;
-
     /// Looks up each day in the zone.
     pub fn new(alloc: Global) -> Result<EasternDays, OutOfMemory> {
         let zone = eastern().unwrap();
         let mut starts = Vec::with_capacity(alloc, 36_525)?;
-        for number in EasternDays::FIRST..EasternDays::LAST + 1 {
+        for number in FIRST..LAST + 1 {
             starts.push(start_of_day(&zone, Day { number }))?;
         }
         Ok(EasternDays { starts })
@@ -34,7 +36,7 @@ impl EasternDays {
         requires to { number ≤ 47481 }
         ensures { result ≡ start_of number }
     {
-        self.starts[(number - EasternDays::FIRST) as usize]
+        self.starts[(number - FIRST) as usize]
     }
 
     /// The first moment of a day.
@@ -52,7 +54,7 @@ impl EasternDays {
     {
         // A day begins four or five hours after its midnight in UTC.
         let number = ((moment.seconds - 18_000) / 86_400) as u32;
-        if number < EasternDays::LAST && self.first_second(number + 1) <= moment.seconds {
+        if number < LAST && self.first_second(number + 1) <= moment.seconds {
             return Day { number: number + 1 };
         }
         Day { number }

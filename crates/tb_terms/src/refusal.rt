@@ -1,5 +1,5 @@
 //! Refusals of messages and queries, each with its number, its name and the values that are printed with it.
-ghost use Rattle.std.specs.Prelude.{◌≡◌};
+ghost use Rattle.std.specs.Prelude.{◌≡◌, ◌≤◌, length};
 ghost use Rattle.tb_terms.specs.Refusals.{number_of, name_of, member_of};
 
 use tb_units::{Day, Dollars, Ident, Moment};
@@ -138,147 +138,112 @@ pub enum Refusal {
 impl Refusal {
     /// The number that is printed.
     pub fn number(&self) -> u8
-        ensures { result ≡ number_of self.now }
+        ensures number { result ≡ number_of self.now }
+        ensures two_digits { result ≤ 99 }
     {
-        match self {
-            Refusal::UnknownKey => 1,
-            Refusal::NotPermitted => 2,
-            Refusal::NumberReused => 3,
-            Refusal::MessageQuota => 4,
-            Refusal::BadJson => 5,
-            Refusal::BadShape(_) => 6,
-            Refusal::NoRoute => 7,
-            Refusal::BadMethod => 8,
-            Refusal::UnknownAuction => 10,
-            Refusal::UnknownBidder => 11,
-            Refusal::BelowMinimum => 12,
-            Refusal::NotMultiple => 13,
-            Refusal::RateTooHigh => 16,
-            Refusal::Late { .. } => 17,
-            Refusal::NoncompetitiveCeiling => 18,
-            Refusal::MixedBids => 19,
-            Refusal::PositionRequired => 20,
-            Refusal::BidQuota => 21,
-            Refusal::UnknownBid => 30,
-            Refusal::AlreadyCancelled => 31,
-            Refusal::AuctionExists => 40,
-            Refusal::BadCusip => 41,
-            Refusal::BadDates => 42,
-            Refusal::BadAmounts => 43,
-            Refusal::BadClosing => 44,
-            Refusal::MaturityDiffers { .. } => 45,
-            Refusal::Exists => 50,
-            Refusal::RosterFull => 51,
-            Refusal::OtherSubmitter => 52,
-            Refusal::NotClosed { .. } => 60,
-            Refusal::AlreadyPublished => 61,
-            Refusal::NotPublished => 62,
-            Refusal::NotIssueDate { .. } => 63,
-            Refusal::AlreadySettled => 64,
-            Refusal::UnknownSecurity => 70,
-            Refusal::UnknownParticipant => 71,
-            Refusal::InsufficientFree { .. } => 73,
-            Refusal::Unsettled { .. } => 74,
-            Refusal::SelfTransfer => 76,
-            Refusal::Matured => 77,
-            Refusal::UnknownPledge => 78,
-            Refusal::NotPledgee => 79,
-            Refusal::MoreThanPledged { .. } => 80,
-            Refusal::NotDue { .. } => 81,
-            Refusal::AlreadyRedeemed => 82,
-            Refusal::PledgeQuota => 83,
-            Refusal::NotRedeemed => 84,
-        }
+        self.told().0
     }
 
     /// The name that is printed after the number.
     pub fn name(&self) -> &'static [u8]
-        ensures { result.now ≡ name_of self.now }
+        ensures name { result.now ≡ name_of self.now }
+        ensures short { length result.now ≤ 21 }
+    {
+        self.told().1
+    }
+
+    // A refusal is told by its number and its name, whatever values it carries.
+    fn told(&self) -> (u8, &'static [u8])
+        ensures number { result.0 ≡ number_of self.now }
+        ensures name { result.1.now ≡ name_of self.now }
+        ensures two_digits { result.0 ≤ 99 }
+        ensures short { length result.1.now ≤ 21 }
     {
         match self {
-            Refusal::UnknownKey => b"UnknownKey",
-            Refusal::NotPermitted => b"NotPermitted",
-            Refusal::NumberReused => b"NumberReused",
-            Refusal::MessageQuota => b"MessageQuota",
-            Refusal::BadJson => b"BadJson",
-            Refusal::BadShape(_) => b"BadShape",
-            Refusal::NoRoute => b"NoRoute",
-            Refusal::BadMethod => b"BadMethod",
-            Refusal::UnknownAuction => b"UnknownAuction",
-            Refusal::UnknownBidder => b"UnknownBidder",
-            Refusal::BelowMinimum => b"BelowMinimum",
-            Refusal::NotMultiple => b"NotMultiple",
-            Refusal::RateTooHigh => b"RateTooHigh",
-            Refusal::Late { .. } => b"Late",
-            Refusal::NoncompetitiveCeiling => b"NoncompetitiveCeiling",
-            Refusal::MixedBids => b"MixedBids",
-            Refusal::PositionRequired => b"PositionRequired",
-            Refusal::BidQuota => b"BidQuota",
-            Refusal::UnknownBid => b"UnknownBid",
-            Refusal::AlreadyCancelled => b"AlreadyCancelled",
-            Refusal::AuctionExists => b"AuctionExists",
-            Refusal::BadCusip => b"BadCusip",
-            Refusal::BadDates => b"BadDates",
-            Refusal::BadAmounts => b"BadAmounts",
-            Refusal::BadClosing => b"BadClosing",
-            Refusal::MaturityDiffers { .. } => b"MaturityDiffers",
-            Refusal::Exists => b"Exists",
-            Refusal::RosterFull => b"RosterFull",
-            Refusal::OtherSubmitter => b"OtherSubmitter",
-            Refusal::NotClosed { .. } => b"NotClosed",
-            Refusal::AlreadyPublished => b"AlreadyPublished",
-            Refusal::NotPublished => b"NotPublished",
-            Refusal::NotIssueDate { .. } => b"NotIssueDate",
-            Refusal::AlreadySettled => b"AlreadySettled",
-            Refusal::UnknownSecurity => b"UnknownSecurity",
-            Refusal::UnknownParticipant => b"UnknownParticipant",
-            Refusal::InsufficientFree { .. } => b"InsufficientFree",
-            Refusal::Unsettled { .. } => b"Unsettled",
-            Refusal::SelfTransfer => b"SelfTransfer",
-            Refusal::Matured => b"Matured",
-            Refusal::UnknownPledge => b"UnknownPledge",
-            Refusal::NotPledgee => b"NotPledgee",
-            Refusal::MoreThanPledged { .. } => b"MoreThanPledged",
-            Refusal::NotDue { .. } => b"NotDue",
-            Refusal::AlreadyRedeemed => b"AlreadyRedeemed",
-            Refusal::PledgeQuota => b"PledgeQuota",
-            Refusal::NotRedeemed => b"NotRedeemed",
+            Refusal::UnknownKey => (1, b"UnknownKey"),
+            Refusal::NotPermitted => (2, b"NotPermitted"),
+            Refusal::NumberReused => (3, b"NumberReused"),
+            Refusal::MessageQuota => (4, b"MessageQuota"),
+            Refusal::BadJson => (5, b"BadJson"),
+            Refusal::BadShape(_) => (6, b"BadShape"),
+            Refusal::NoRoute => (7, b"NoRoute"),
+            Refusal::BadMethod => (8, b"BadMethod"),
+            Refusal::UnknownAuction => (10, b"UnknownAuction"),
+            Refusal::UnknownBidder => (11, b"UnknownBidder"),
+            Refusal::BelowMinimum => (12, b"BelowMinimum"),
+            Refusal::NotMultiple => (13, b"NotMultiple"),
+            Refusal::RateTooHigh => (16, b"RateTooHigh"),
+            Refusal::Late { .. } => (17, b"Late"),
+            Refusal::NoncompetitiveCeiling => (18, b"NoncompetitiveCeiling"),
+            Refusal::MixedBids => (19, b"MixedBids"),
+            Refusal::PositionRequired => (20, b"PositionRequired"),
+            Refusal::BidQuota => (21, b"BidQuota"),
+            Refusal::UnknownBid => (30, b"UnknownBid"),
+            Refusal::AlreadyCancelled => (31, b"AlreadyCancelled"),
+            Refusal::AuctionExists => (40, b"AuctionExists"),
+            Refusal::BadCusip => (41, b"BadCusip"),
+            Refusal::BadDates => (42, b"BadDates"),
+            Refusal::BadAmounts => (43, b"BadAmounts"),
+            Refusal::BadClosing => (44, b"BadClosing"),
+            Refusal::MaturityDiffers { .. } => (45, b"MaturityDiffers"),
+            Refusal::Exists => (50, b"Exists"),
+            Refusal::RosterFull => (51, b"RosterFull"),
+            Refusal::OtherSubmitter => (52, b"OtherSubmitter"),
+            Refusal::NotClosed { .. } => (60, b"NotClosed"),
+            Refusal::AlreadyPublished => (61, b"AlreadyPublished"),
+            Refusal::NotPublished => (62, b"NotPublished"),
+            Refusal::NotIssueDate { .. } => (63, b"NotIssueDate"),
+            Refusal::AlreadySettled => (64, b"AlreadySettled"),
+            Refusal::UnknownSecurity => (70, b"UnknownSecurity"),
+            Refusal::UnknownParticipant => (71, b"UnknownParticipant"),
+            Refusal::InsufficientFree { .. } => (73, b"InsufficientFree"),
+            Refusal::Unsettled { .. } => (74, b"Unsettled"),
+            Refusal::SelfTransfer => (76, b"SelfTransfer"),
+            Refusal::Matured => (77, b"Matured"),
+            Refusal::UnknownPledge => (78, b"UnknownPledge"),
+            Refusal::NotPledgee => (79, b"NotPledgee"),
+            Refusal::MoreThanPledged { .. } => (80, b"MoreThanPledged"),
+            Refusal::NotDue { .. } => (81, b"NotDue"),
+            Refusal::AlreadyRedeemed => (82, b"AlreadyRedeemed"),
+            Refusal::PledgeQuota => (83, b"PledgeQuota"),
+            Refusal::NotRedeemed => (84, b"NotRedeemed"),
         }
     }
 }
 
 impl Field {
     /// The name of the member as it is printed.
-    pub fn member(self) -> &'static [u8]
-        ensures { result.now ≡ member_of self }
+    pub fn member(self) -> &'static str
+        ensures member { result.now ≡ member_of self }
+        ensures short { length result.now ≤ 9 }
     {
         match self {
-            Field::Body => b"body",
-            Field::Number => b"number",
-            Field::Kind => b"kind",
-            Field::Submitter => b"submitter",
-            Field::Key => b"key",
-            Field::Bidder => b"bidder",
-            Field::Day => b"day",
-            Field::Auction => b"auction",
-            Field::Cusip => b"cusip",
-            Field::Offering => b"offering",
-            Field::Minimum => b"minimum",
-            Field::Ceiling => b"ceiling",
-            Field::Floor => b"floor",
-            Field::Threshold => b"threshold",
-            Field::Date => b"date",
-            Field::NcClose => b"nc_close",
-            Field::CClose => b"c_close",
-            Field::Issue => b"issue",
-            Field::Maturity => b"maturity",
-            Field::Rate => b"rate",
-            Field::Amount => b"amount",
-            Field::Bid => b"bid",
-            Field::Position => b"position",
-            Field::To => b"to",
-            Field::Holder => b"holder",
-            Field::Pledge => b"pledge",
+            Field::Body => "body",
+            Field::Number => "number",
+            Field::Kind => "kind",
+            Field::Submitter => "submitter",
+            Field::Key => "key",
+            Field::Bidder => "bidder",
+            Field::Day => "day",
+            Field::Auction => "auction",
+            Field::Cusip => "cusip",
+            Field::Offering => "offering",
+            Field::Minimum => "minimum",
+            Field::Ceiling => "ceiling",
+            Field::Floor => "floor",
+            Field::Threshold => "threshold",
+            Field::Date => "date",
+            Field::NcClose => "nc_close",
+            Field::CClose => "c_close",
+            Field::Issue => "issue",
+            Field::Maturity => "maturity",
+            Field::Rate => "rate",
+            Field::Amount => "amount",
+            Field::Bid => "bid",
+            Field::Position => "position",
+            Field::To => "to",
+            Field::Holder => "holder",
+            Field::Pledge => "pledge",
         }
     }
 }

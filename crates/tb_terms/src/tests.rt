@@ -232,17 +232,202 @@ fn faults_are_told_in_their_order(rt: HostRuntime) -> Result<(), OutOfMemory> {
 }
 
 #[test]
-fn refusals_are_told_by_number_and_name(rt: HostRuntime) {
-    let payment = Day { number: 20_125 };
+fn closings_are_from_8_to_18(rt: HostRuntime) -> Result<(), OutOfMemory> {
+    let days = EasternDays::new(rt.alloc())?;
+    for (noncompetitive, competitive, wanted) in [
+        ("08:00", "18:00", None),
+        ("18:00", "18:00", None),
+        ("07:59", "18:00", Some(TermsFault::BadClosing)),
+        ("08:00", "18:01", Some(TermsFault::BadClosing)),
+    ] {
+        let mut announcement = announced(&rt);
+        announcement.nc_close = read_minute(noncompetitive).expect(&rt, "no minute");
+        announcement.c_close = read_minute(competitive).expect(&rt, "no minute");
+        assert_eq!(rt;
+            Terms::check(&announcement, &days).err(),
+            wanted,
+            "{noncompetitive} {competitive}"
+        );
+    }
+    Ok(())
+}
+
+#[test]
+fn bills_have_at_most_366_days_and_end_by_2079(rt: HostRuntime) -> Result<(), OutOfMemory> {
+    let days = EasternDays::new(rt.alloc())?;
+    for (issue, maturity, wanted) in [
+        ("2024-11-07", "2024-11-08", None),
+        ("2024-11-07", "2025-11-08", None),
+        ("2024-11-07", "2025-11-09", Some(TermsFault::BadDates)),
+        ("2024-11-07", "2024-11-07", Some(TermsFault::BadDates)),
+        ("2024-11-03", "2025-02-06", Some(TermsFault::BadDates)),
+        ("2079-06-01", "2079-12-31", None),
+        ("2079-06-01", "2080-01-01", Some(TermsFault::BadDates)),
+    ] {
+        let mut announcement = announced(&rt);
+        announcement.issue = day(&rt, issue);
+        announcement.maturity = day(&rt, maturity);
+        assert_eq!(rt;
+            Terms::check(&announcement, &days).err(),
+            wanted,
+            "{issue} to {maturity}"
+        );
+    }
+    Ok(())
+}
+
+fn told(rt: &impl Abort, refusal: Refusal, number: u8, name: &str) {
+    assert_eq!(rt; refusal.number(), number, "{name}");
+    assert_eq!(rt; refusal.name(), name.as_bytes(), "{name}");
+}
+
+#[test]
+fn refusals_of_requests_and_bids_have_their_numbers(rt: HostRuntime) {
     for (refusal, number, name) in [
         (Refusal::UnknownKey, 1, "UnknownKey"),
-        (Refusal::BadShape(Field::NcClose), 6, "BadShape"),
+        (Refusal::NotPermitted, 2, "NotPermitted"),
+        (Refusal::NumberReused, 3, "NumberReused"),
+        (Refusal::MessageQuota, 4, "MessageQuota"),
+        (Refusal::BadJson, 5, "BadJson"),
+        (Refusal::NoRoute, 7, "NoRoute"),
+        (Refusal::BadMethod, 8, "BadMethod"),
+        (Refusal::UnknownAuction, 10, "UnknownAuction"),
+        (Refusal::UnknownBidder, 11, "UnknownBidder"),
+        (Refusal::BelowMinimum, 12, "BelowMinimum"),
+        (Refusal::NotMultiple, 13, "NotMultiple"),
+        (Refusal::RateTooHigh, 16, "RateTooHigh"),
+        (Refusal::NoncompetitiveCeiling, 18, "NoncompetitiveCeiling"),
+        (Refusal::MixedBids, 19, "MixedBids"),
+        (Refusal::PositionRequired, 20, "PositionRequired"),
         (Refusal::BidQuota, 21, "BidQuota"),
-        (Refusal::NotDue { payment }, 81, "NotDue"),
+        (Refusal::UnknownBid, 30, "UnknownBid"),
+        (Refusal::AlreadyCancelled, 31, "AlreadyCancelled"),
     ] {
-        assert_eq!(rt; refusal.number(), number, "{name}");
-        assert_eq!(rt; refusal.name(), name.as_bytes(), "{name}");
+        told(&rt, refusal, number, name);
     }
-    assert_eq!(rt; Field::Body.member(), b"body".as_slice());
-    assert_eq!(rt; Field::NcClose.member(), b"nc_close".as_slice());
+}
+
+#[test]
+fn refusals_of_the_operator_and_of_accounts_have_their_numbers(rt: HostRuntime) {
+    for (refusal, number, name) in [
+        (Refusal::AuctionExists, 40, "AuctionExists"),
+        (Refusal::BadCusip, 41, "BadCusip"),
+        (Refusal::BadDates, 42, "BadDates"),
+        (Refusal::BadAmounts, 43, "BadAmounts"),
+        (Refusal::BadClosing, 44, "BadClosing"),
+        (Refusal::Exists, 50, "Exists"),
+        (Refusal::RosterFull, 51, "RosterFull"),
+        (Refusal::OtherSubmitter, 52, "OtherSubmitter"),
+        (Refusal::AlreadyPublished, 61, "AlreadyPublished"),
+        (Refusal::NotPublished, 62, "NotPublished"),
+        (Refusal::AlreadySettled, 64, "AlreadySettled"),
+        (Refusal::UnknownSecurity, 70, "UnknownSecurity"),
+        (Refusal::UnknownParticipant, 71, "UnknownParticipant"),
+        (Refusal::SelfTransfer, 76, "SelfTransfer"),
+        (Refusal::Matured, 77, "Matured"),
+        (Refusal::UnknownPledge, 78, "UnknownPledge"),
+        (Refusal::NotPledgee, 79, "NotPledgee"),
+        (Refusal::AlreadyRedeemed, 82, "AlreadyRedeemed"),
+        (Refusal::PledgeQuota, 83, "PledgeQuota"),
+        (Refusal::NotRedeemed, 84, "NotRedeemed"),
+    ] {
+        told(&rt, refusal, number, name);
+    }
+}
+
+#[test]
+fn refusals_that_carry_values_have_their_numbers(rt: HostRuntime) {
+    let day = Day { number: 20_125 };
+    let dollars = Dollars { value: 100 };
+    let auction = Ident::read("bill13").expect(&rt, "no name");
+    let moment = Moment {
+        seconds: 1_730_737_800,
+    };
+    told(&rt, Refusal::BadShape(Field::NcClose), 6, "BadShape");
+    told(
+        &rt,
+        Refusal::Late {
+            moment,
+            closing: moment,
+        },
+        17,
+        "Late",
+    );
+    told(
+        &rt,
+        Refusal::MaturityDiffers { maturity: day },
+        45,
+        "MaturityDiffers",
+    );
+    told(
+        &rt,
+        Refusal::NotClosed {
+            moment,
+            closing: moment,
+        },
+        60,
+        "NotClosed",
+    );
+    told(
+        &rt,
+        Refusal::NotIssueDate { issue: day },
+        63,
+        "NotIssueDate",
+    );
+    told(
+        &rt,
+        Refusal::InsufficientFree { free: dollars },
+        73,
+        "InsufficientFree",
+    );
+    told(&rt, Refusal::Unsettled { auction }, 74, "Unsettled");
+    told(
+        &rt,
+        Refusal::MoreThanPledged { left: dollars },
+        80,
+        "MoreThanPledged",
+    );
+    told(&rt, Refusal::NotDue { payment: day }, 81, "NotDue");
+}
+
+#[test]
+fn members_have_the_names_of_requests(rt: HostRuntime) {
+    for (field, wanted) in [
+        (Field::Body, "body"),
+        (Field::Number, "number"),
+        (Field::Kind, "kind"),
+        (Field::Submitter, "submitter"),
+        (Field::Key, "key"),
+        (Field::Bidder, "bidder"),
+        (Field::Day, "day"),
+        (Field::Auction, "auction"),
+        (Field::Cusip, "cusip"),
+        (Field::Offering, "offering"),
+        (Field::Minimum, "minimum"),
+        (Field::Ceiling, "ceiling"),
+        (Field::Floor, "floor"),
+        (Field::Threshold, "threshold"),
+        (Field::Date, "date"),
+        (Field::NcClose, "nc_close"),
+        (Field::CClose, "c_close"),
+        (Field::Issue, "issue"),
+        (Field::Maturity, "maturity"),
+        (Field::Rate, "rate"),
+        (Field::Amount, "amount"),
+        (Field::Bid, "bid"),
+        (Field::Position, "position"),
+        (Field::To, "to"),
+        (Field::Holder, "holder"),
+        (Field::Pledge, "pledge"),
+    ] {
+        assert_eq!(rt; field.member(), wanted, "{wanted}");
+    }
+}
+
+#[test]
+fn faults_are_refusals(rt: HostRuntime) {
+    assert_eq!(rt; TermsFault::BadCusip.refusal(), Refusal::BadCusip);
+    assert_eq!(rt; TermsFault::BadDates.refusal(), Refusal::BadDates);
+    assert_eq!(rt; TermsFault::BadAmounts.refusal(), Refusal::BadAmounts);
+    assert_eq!(rt; TermsFault::BadClosing.refusal(), Refusal::BadClosing);
 }

@@ -1,13 +1,14 @@
 //! Days and minutes as they are written. Only what is printed is read.
-ghost use Rattle.std.specs.Prelude.{◌≡◌, ◌≢◌, ℕ, ◌+◌, ◌-◌, ◌*◌, ◌<◌, ◌≤◌, IfSome, IfNone};
-ghost use Rattle.tb_terms.specs.Texts.{date_text, day_text, minute_text};
+ghost use Rattle.std.specs.Prelude.{◌≡◌, ◌≢◌, ℕ, ◌+◌, ◌-◌, ◌*◌, ◌<◌, ◌≤◌, length, option_map, IfSome, IfNone};
+ghost use Rattle.tb_terms.specs.Texts.{date_text, day_text, minute_text, day_of, minute_of};
 
 use crate::civil::{civil_date, day_of_date};
 use tb_units::{Day, Short};
 
 /// Prints a day as `YYYY-MM-DD`.
 pub fn print_day(day: Day) -> Short
-    ensures { result ≡ day_text day.number }
+    ensures text { result ≡ day_text day.number }
+    ensures ten { length result ≡ 10 }
 {
     let date = civil_date(day);
     let mut text = Short::new();
@@ -23,8 +24,16 @@ pub fn print_day(day: Day) -> Short
 pub fn read_day(text: &str) -> Option<Day>
     ensures read { IfSome result (λ day. text.now ≡ day_text day.number) }
     ensures none { IfNone result ((n : ℕ) → 10957 ≤ n → n ≤ 47481 → text.now ≢ day_text n) }
+    ensures day { option_map (λ day. day.number) result ≡ day_of text.now }
 {
-    let bytes = text.as_bytes();
+    day_in(text.as_bytes())
+}
+
+// The day of these digits, where it is printed as they stand: so no other spelling is read.
+fn day_in(bytes: &[u8]) -> Option<Day>
+    ensures read { IfSome result (λ day. bytes.now ≡ day_text day.number) }
+    ensures none { IfNone result ((n : ℕ) → 10957 ≤ n → n ≤ 47481 → bytes.now ≢ day_text n) }
+{
     if bytes.len() != 10 {
         return None;
     }
@@ -55,8 +64,16 @@ pub fn print_minute(minute: u16) -> Short
 pub fn read_minute(text: &str) -> Option<u16>
     ensures read { IfSome result (λ minute. (minute < 1440) × (text.now ≡ minute_text minute)) }
     ensures none { IfNone result ((n : ℕ) → n < 1440 → text.now ≢ minute_text n) }
+    ensures minute { result ≡ minute_of text.now }
 {
-    let bytes = text.as_bytes();
+    minute_in(text.as_bytes())
+}
+
+// The minute of these digits, where it is printed as they stand.
+fn minute_in(bytes: &[u8]) -> Option<u16>
+    ensures read { IfSome result (λ minute. (minute < 1440) × (bytes.now ≡ minute_text minute)) }
+    ensures none { IfNone result ((n : ℕ) → n < 1440 → bytes.now ≢ minute_text n) }
+{
     if bytes.len() != 5 {
         return None;
     }

@@ -12,8 +12,16 @@ pub is_name-length : (text : List ℕ) → is_name text ≡ true → length text
 unfolding is_name
 is_name-length text named = grind (arith, nat_tests)
 
+-- and has one at least
+pub is_name-some : (text : List ℕ) → is_name text ≡ true → 1 ≤ length text
+unfolding is_name
+is_name-some text named = grind (arith, nat_tests)
+
 -- a text before what is left of 32 zeros
-pub IsPadded-front : (text zeros : List ℕ) → length text ≤ 32 → zeros ≡ replicate 32 0 → IsPadded (text ++ drop (length text) zeros) (length text)
+pub IsPadded-front : (text zeros : List ℕ)
+    → length text ≤ 32
+    → zeros ≡ replicate 32 0
+    → IsPadded (text ++ drop (length text) zeros) (length text)
 IsPadded-front text zeros few is = record {
   whole = rw (is, length-append text _, length-drop (length text) _, length-replicate {A = ℕ} 32 0) (omega arith);
   within = few;

@@ -19,4 +19,5 @@ length-decimal-le_30 n small = length-decimal-le_wide 30 n (omega arith) small (
 -- there are as many last digits as are asked for
 pub length-last_digits : (places n : ℕ) → length (last_digits places n) ≡ places
 length-last_digits zero n = refl
-length-last_digits (suc places) n = rw (length-append (last_digits places (n / 10)) _, length-last_digits places (n / 10)) (omega arith)
+length-last_digits (suc places) n =
+    rw (length-append (last_digits places (n / 10)) _, length-last_digits places (n / 10)) (omega arith)

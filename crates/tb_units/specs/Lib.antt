@@ -4,3 +4,9 @@ pub mod Names
 pub mod Padding
 pub mod Years
 pub mod LineOrder
+pub mod Places
+pub mod Same
+pub mod Moments
+pub mod Amounts
+pub mod Bytes
+pub mod Multiples

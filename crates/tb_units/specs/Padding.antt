@@ -1,4 +1,4 @@
--- A text in an array of 32 bytes, with zeros behind it.
+-- A text in an array of 32 bytes, with zeros behind it. The lemmas stand here, since a type's `inverse` cites them.
 use Rattle.std.specs.Prelude.{◌≡◌, ℕ, ◌-◌, ◌≤◌, List, ◌++◌, length, take, drop, replicate}
 use Rattle.std.proofs.Common.{arith, ap, ◌∙◌}
 use Rattle.std.proofs.lemmas.List.{take-append-drop, length-take-le}
@@ -14,12 +14,23 @@ pub IsPadded-length : (bytes : List ℕ) (len : ℕ) → IsPadded bytes len → 
 IsPadded-length bytes len padded = length-take-le _ _ (omega arith)
 
 -- the text and as many zeros as it lacks are the array
-pub IsPadded-bytes : (bytes : List ℕ) (len : ℕ) → IsPadded bytes len → take len bytes ++ replicate (32 - length (take len bytes)) 0 ≡ bytes
-IsPadded-bytes bytes len padded = rw (IsPadded-length bytes len padded, ← padded.zeros) (take-append-drop len bytes)
+pub IsPadded-bytes : (bytes : List ℕ) (len : ℕ)
+    → IsPadded bytes len
+    → take len bytes ++ replicate (32 - length (take len bytes)) 0 ≡ bytes
+IsPadded-bytes bytes len padded =
+    rw (IsPadded-length bytes len padded, ← padded.zeros) (take-append-drop len bytes)
+
+-- such an array, given its text
+abbrev pub padded_with : List ℕ → ℕ → Inside
+padded_with bytes used = record { bytes = bytes; used = used }
 
 -- an array with its length is told by its text
-pub IsPadded-inverse : (name : Inside) → IsPadded name.bytes name.used → ◌≡◌ {A = Inside} (record { bytes = take name.used name.bytes ++ replicate (32 - length (take name.used name.bytes)) 0; used = length (take name.used name.bytes) }) name
+pub IsPadded-inverse : (name : Inside)
+    → IsPadded name.bytes name.used
+    → (let text = take name.used name.bytes in
+    padded_with (text ++ replicate (32 - length text) 0) (length text) ≡ name)
 IsPadded-inverse name padded =
-    let bytes : (n : ℕ) → ◌≡◌ {A = Inside} (record { bytes = take name.used name.bytes ++ replicate (32 - length (take name.used name.bytes)) 0; used = n }) (record { bytes = name.bytes; used = n }) = λ n. ap (λ (b : List ℕ). let r : Inside = record { bytes = b; used = n } in r) (IsPadded-bytes name.bytes name.used padded) in
-    let used = ap (λ (n : ℕ). let r : Inside = record { bytes = name.bytes; used = n } in r) (IsPadded-length name.bytes name.used padded) in
-    bytes _ ∙ used
+    let long = length (take name.used name.bytes) in
+    let whole = ap (λ bytes. padded_with bytes long) (IsPadded-bytes name.bytes name.used padded) in
+    let used = ap (padded_with name.bytes) (IsPadded-length name.bytes name.used padded) in
+    whole ∙ used

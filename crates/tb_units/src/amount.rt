@@ -1,6 +1,7 @@
 //! Amounts of par in whole dollars.
 ghost use Rattle.std.specs.Prelude.{◌≡◌, ◌≢◌, ℕ, ◌≤◌, ◌^◌, IfSome, IfNone};
 ghost use Rattle.std.specs.Fmt.{decimal};
+ghost use Rattle.tb_units.specs.Multiples.{is_multiple};
 
 use crate::number::read_within;
 use crate::short::Short;
@@ -25,6 +26,14 @@ impl Dollars {
         Some(Dollars {
             value: number as u128,
         })
+    }
+
+    /// Whether it is a multiple of a unit, which is at least 1, from the unit to the most.
+    pub fn is_multiple(self, unit: u128, most: u128) -> bool
+        requires { 1 ≤ unit }
+        ensures { result ≡ is_multiple unit most self.value }
+    {
+        self.value % unit == 0 && unit <= self.value && self.value <= most
     }
 
     /// Prints the number in decimal.

@@ -1,13 +1,23 @@
 //! Names of submitters, bidders and auctions.
-ghost use Rattle.std.specs.Prelude.{◌≡◌, ◌≤◌, ◌++◌, ◌↔◌, true, false, length, drop, IfSome, IsNone};
+ghost use Rattle.std.specs.Prelude.{◌≡◌, ◌≤◌, ◌++◌, ◌↔◌, true, false, length, drop, Some, IfSome, IsNone};
 ghost use Rattle.std.specs.List.{list_all};
-ghost use Rattle.tb_units.specs.Names.{is_name};
+ghost use Rattle.std.specs.Cmp;
+ghost use Rattle.std.specs.Cmp.Lexicographic.{pointwise, slice_cmp, nat_list_eq_equiv, nat_list_cmp_total, texts_ties, texts_po};
+ghost use Rattle.std.specs.Ordering.{nat_cmp};
+ghost use Rattle.std.specs.Hash as fed;
+ghost use Rattle.std.specs.Hash.{same_Alike};
+ghost use Rattle.std.specs.Str.{bytes_eq};
+ghost use Rattle.std.proofs.Common.{rules};
+ghost use Rattle.std.proofs.lemmas.Slice.Eq.{bytes_eq-Decides};
+ghost use Rattle.tb_units.specs.Names.{is_name, name_of};
 ghost use Rattle.tb_units.specs.Names as spelled;
 
+use std::cmp::Ordering;
+use std::hash::{Hash, Hasher};
 use std::marker::Model;
 
 /// A name of 1 to 32 bytes of `a-z0-9_-`, the first of `a-z0-9`. Contracts see its bytes.
-#[derive(Clone, Copy, Debug, PartialEq, Eq, Hash)]
+#[derive(Clone, Copy, Debug)]
 pub struct Ident {
     bytes: [u8; 32],
     used: u8,
@@ -36,24 +46,84 @@ impl Ident {
     pub fn read(text: &str) -> Option<Ident>
         ensures read { IfSome result (λ name. name ≡ text.now) }
         ensures none { IsNone result ↔ (is_name text.now ≡ false) }
+        ensures name { result ≡ name_of text.now }
     {
-        if !is_a_name(text.as_bytes()) {
+        Ident::of_bytes(text.as_bytes())
+    }
+
+    /// The name that these bytes are. `None` where they are none.
+    pub fn of_bytes(bytes: &[u8]) -> Option<Ident>
+        ensures { result ≡ name_of bytes.now }
+    {
+        if !is_a_name(bytes) {
             return None;
         }
-        let mut bytes = [0; 32];
-        put_front(&mut bytes, text.as_bytes());
+        let mut padded = [0; 32];
+        put_front(&mut padded, bytes);
         Some(Ident {
-            bytes,
-            used: text.len() as u8,
+            bytes: padded,
+            used: bytes.len() as u8,
         })
     }
 
-    /// The bytes of the name, which are ASCII.
+    /// The bytes of the name.
     pub fn bytes(&self) -> &[u8]
         ensures bytes { result.now ≡ self.now }
         ensures name { is_name self.now ≡ true }
+        ensures some { 1 ≤ length self.now }
+        ensures few { length self.now ≤ 32 }
     {
         &self.bytes[..self.used as usize]
+    }
+}
+
+// Names are equal where their bytes are.
+impl PartialEq for Ident {
+    ghost eq = { bytes_eq };
+
+    ghost laws = { Cmp.partial_equiv_from_equiv nat_list_eq_equiv };
+
+    fn eq(&self, other: &Ident) -> bool {
+        self.bytes() == other.bytes()
+    }
+}
+
+impl Eq for Ident {
+    ghost laws = { nat_list_eq_equiv };
+}
+
+// The order of names is that of their bytes, a shorter name before one that goes on.
+impl PartialOrd for Ident {
+    ghost partial_cmp = { λ one other. Some (slice_cmp nat_cmp one other) };
+
+    ghost laws = { texts_po };
+
+    fn partial_cmp(&self, other: &Ident) -> Option<Ordering> {
+        Some(self.cmp(other))
+    }
+}
+
+impl Ord for Ident {
+    ghost cmp = { slice_cmp nat_cmp };
+
+    ghost total = { nat_list_cmp_total };
+
+    ghost matches_partial_cmp = { Prim.search rules };
+
+    ghost matches_eq = { texts_ties };
+
+    fn cmp(&self, other: &Ident) -> Ordering {
+        self.bytes().cmp(other.bytes())
+    }
+}
+
+impl Hash for Ident {
+    ghost hash_input = { fed.slice fed.u8 };
+
+    ghost respects_eq = { (same_Alike (fed.slice fed.u8) bytes_eq-Decides).fed };
+
+    fn hash<H: Hasher>(&self, state: &mut H) {
+        self.bytes().hash(state);
     }
 }
 

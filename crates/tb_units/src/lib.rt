@@ -1,5 +1,5 @@
 //! Numbers, names and short texts of bills: amounts, rates, prices, percentages, terms, days and moments, with the
-//! printed form and the reader of those that are printed and read. Nothing here takes memory.
+//! printed form and the reader of those that are printed and read; and the lines of a book. Nothing here takes memory.
 #![tactic(auto)]
 
 mod amount;

@@ -1,4 +1,4 @@
-//! Discount rates in percent, in steps of 0.005 (31 CFR 356.20).
+//! Discount rates in percent, in steps of 0.005 (31 CFR 356.12(c)(1)).
 ghost use Rattle.std.specs.Prelude.{◌≡◌, ◌≢◌, ℕ, ◌*◌, ◌%◌, ◌≤◌, ◌↔◌, Some, None, Err, IfOk, IfSome, IsSomeAnd, ◌<◌, ◌^◌, length};
 ghost use Rattle.tb_units.specs.Decimals.{rate_text};
 ghost use Rattle.tb_units.specs.Rates.{thousandths_of, thousandths_of_decimals, short_numeral_of};

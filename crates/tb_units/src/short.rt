@@ -21,9 +21,10 @@ impl Model for Short {
 }
 
 impl Short {
-    /// The bytes of the text, which are ASCII.
+    /// The bytes of the text.
     pub fn bytes(&self) -> &[u8]
-        ensures { result.now ≡ self.now }
+        ensures bytes { result.now ≡ self.now }
+        ensures few { length self.now ≤ 48 }
     {
         &self.bytes[..self.used]
     }
@@ -38,7 +39,7 @@ impl Short {
         }
     }
 
-    /// Puts a byte, which is ASCII, at the end.
+    /// Puts a byte at the end.
     pub fn push(&mut self, byte: u8)
         requires { length self.old < 48 }
         ensures { self.new ≡ self.old ++ byte ∷ [] }

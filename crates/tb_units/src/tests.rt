@@ -72,9 +72,67 @@ fn names_are_short_and_plain(rt: HostRuntime) {
             assert_eq!(rt; name.bytes(), text.as_bytes());
         }
     }
-    for text in ["abcdefghijklmnopqrstuvwxyz0123456", "", "-a", "A", " "] {
+    for text in [
+        "abcdefghijklmnopqrstuvwxyz0123456",
+        "",
+        "-a",
+        "_a",
+        "A",
+        " ",
+    ] {
         assert!(rt; Ident::read(text).is_none(), "{text}");
+        assert!(rt; Ident::of_bytes(text.as_bytes()).is_none(), "{text}");
     }
+}
+
+fn name(rt: &impl Abort, text: &str) -> Ident {
+    Ident::of_bytes(text.as_bytes()).expect(rt, "no name")
+}
+
+#[test]
+fn names_are_in_order_of_their_bytes(rt: HostRuntime) {
+    for (one, other) in [
+        ("a", "b"),
+        ("a", "a-"),
+        ("a9", "b"),
+        ("0", "a"),
+        ("a-", "a0"),
+        ("a0", "a_"),
+    ] {
+        assert!(rt; name(&rt, one) < name(&rt, other), "{one} and {other}");
+        assert!(rt; name(&rt, one) != name(&rt, other), "{one} and {other}");
+    }
+    assert!(rt; name(&rt, "a") == name(&rt, "a"));
+}
+
+#[test]
+fn moments_are_read_from_2000_to_2099(rt: HostRuntime) {
+    for (text, wanted) in [
+        ("946702800", Some(946_702_800)),
+        ("4102444799", Some(4_102_444_799)),
+        ("946702799", None),
+        ("4102444800", None),
+        ("0946702800", None),
+        ("1730737800 ", None),
+    ] {
+        assert_eq!(rt;
+            Moment::read(text).map(|moment| moment.seconds),
+            wanted,
+            "{text}"
+        );
+    }
+}
+
+#[test]
+fn the_later_moment_is_taken(rt: HostRuntime) {
+    let one = Moment {
+        seconds: 1_730_737_799,
+    };
+    let other = Moment {
+        seconds: 1_730_737_800,
+    };
+    assert_eq!(rt; one.later(other), other);
+    assert_eq!(rt; other.later(one), other);
 }
 
 #[test]

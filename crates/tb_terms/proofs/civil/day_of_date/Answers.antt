@@ -28,20 +28,27 @@ returns-in_default-clause-none c = λ n from to dated.
 pub overflow_cast-result : goal.overflow_cast-result
 overflow_cast-result c =
     let value = c.in-Ok.ensures.value in
-    let is = IsNumbered-from c.in-Ok.date c.args.year c.args.month c.args.day (record { from = omega arith; to = omega arith }) (omega arith) (omega arith) value.0 value.1 value.2 in
+    let is =
+    IsNumbered-from c.in-Ok.date c.args.year c.args.month c.args.day
+    (record { from = omega arith; to = omega arith }) (omega arith) (omega arith) value.0 value.1 value.2 in
     let high = is.to in
     rw (c.to_unix_epoch_day.ensures.value ∙ is.is, back_small w32 (pos is.number) (omega arith)) (tt, omega arith)
 
 pub invariant_of-result : goal.invariant_of-result
 invariant_of-result c =
     let value = c.in-Ok.ensures.value in
-    let is = IsNumbered-from c.in-Ok.date c.args.year c.args.month c.args.day (record { from = omega arith; to = omega arith }) (omega arith) (omega arith) value.0 value.1 value.2 in
+    let is =
+    IsNumbered-from c.in-Ok.date c.args.year c.args.month c.args.day
+    (record { from = omega arith; to = omega arith }) (omega arith) (omega arith) value.0 value.1 value.2 in
     let high = is.to in
-    rw (c.to_unix_epoch_day.ensures.value ∙ is.is, back_small w32 (pos is.number) (omega arith)) (record { not_before = is.from; not_after = is.to })
+    rw (c.to_unix_epoch_day.ensures.value ∙ is.is, back_small w32 (pos is.number) (omega arith))
+    (record { not_before = is.from; not_after = is.to })
 
 pub returns-clause-some : goal.returns-clause-some
 returns-clause-some c =
     let value = c.in-Ok.ensures.value in
-    let is = IsNumbered-from c.in-Ok.date c.args.year c.args.month c.args.day (record { from = omega arith; to = omega arith }) (omega arith) (omega arith) value.0 value.1 value.2 in
+    let is =
+    IsNumbered-from c.in-Ok.date c.args.year c.args.month c.args.day
+    (record { from = omega arith; to = omega arith }) (omega arith) (omega arith) value.0 value.1 value.2 in
     let high = is.to in
     rw (c.to_unix_epoch_day.ensures.value ∙ is.is, back_small w32 (pos is.number) (omega arith)) is.dated

@@ -1,7 +1,7 @@
-use Rattle.tb_terms.proofs.TextFacts.{IsDated-written}
+use Rattle.tb_terms.proofs.SpellingFacts.{day_of-read}
 use Rattle.tb_terms.proofs.texts.read_day.Goals as goal
 
-pub returns-in_default-clause-none : goal.returns-in_default-clause-none
-returns-in_default-clause-none c = λ n from to is.
-    let dated = IsDated-written c.args.text.now n from to is in
-    c.in_default.ensures.none n from to (rw (c.two_digits.ensures, c.two_digits-2.ensures, c.two_digits-month.ensures, c.two_digits-3.ensures, c.as_bytes-bytes.ensures.value) dated)
+pub returns-clause-day : goal.returns-clause-day
+returns-clause-day c =
+    rw (← c.as_bytes.ensures.value)
+    (day_of-read c.as_bytes.result.now c.day_in.result c.day_in.ensures.read c.day_in.ensures.none)

@@ -17,9 +17,11 @@ push_decimal-requires t c =
 
 pub push-requires-2 : goal.push-requires-2
 push-requires-2 t c =
-    rw (c.push_decimal.ensures, length-append) (omega (arith, length-decimal_step c.args.number c.if-number-lt10.false c.requires.small))
+    rw (c.push_decimal.ensures, length-append)
+    (omega (arith, length-decimal_step c.args.number c.if-number-lt10.false c.requires.small))
 
 pub returns : goal.returns
 returns t c =
     let small : c.args.number < 10 ^ 64 = omega (arith, c.requires.small) in
-    rw (c.push-2.ensures, c.push_decimal.ensures, decimal_step_wide c.args.number c.if-number-lt10.false small) (append_assoc c.args.self.now (decimal (c.args.number / 10)) ((48 + c.args.number % 10) ∷ []))
+    rw (c.push-2.ensures, c.push_decimal.ensures, decimal_step_wide c.args.number c.if-number-lt10.false small)
+    (append_assoc c.args.self.now (decimal (c.args.number / 10)) ((48 + c.args.number % 10) ∷ []))

@@ -4,4 +4,5 @@ use Rattle.tb_units.proofs.short.Short.+push_last_digits.Goals as goal
 
 pub push-requires : goal.push-requires
 push-requires t c =
-    rw (c.push_last_digits.ensures, length-append, length-last_digits (c.args.places - 1) (c.args.number / 10)) (omega arith)
+    rw (c.push_last_digits.ensures, length-append, length-last_digits (c.args.places - 1) (c.args.number / 10))
+    (omega arith)

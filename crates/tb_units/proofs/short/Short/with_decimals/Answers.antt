@@ -14,9 +14,11 @@ push_decimal-requires-clause-room c =
 pub push-requires : goal.push-requires
 push-requires c =
     let small : c.args.number / c.args.unit < 10 ^ 30 = search rules in
-    rw (c.push_decimal.ensures, c.new-text.ensures) (omega (arith, length-decimal-le_30 (c.args.number / c.args.unit) small))
+    rw (c.push_decimal.ensures, c.new-text.ensures)
+    (omega (arith, length-decimal-le_30 (c.args.number / c.args.unit) small))
 
 pub push_last_digits-requires : goal.push_last_digits-requires
 push_last_digits-requires c =
     let small : c.args.number / c.args.unit < 10 ^ 30 = search rules in
-    rw (c.push.ensures, c.push_decimal.ensures, c.new-text.ensures, length-append) (omega (arith, length-decimal-le_30 (c.args.number / c.args.unit) small))
+    rw (c.push.ensures, c.push_decimal.ensures, c.new-text.ensures, length-append)
+    (omega (arith, length-decimal-le_30 (c.args.number / c.args.unit) small))

@@ -1,5 +1,5 @@
 -- What the Eastern rule says: the zone's offset at each midnight.
-use Rattle.std.proofs.Common.{[], ◌∷◌, ◌≡◌, ℕ, ℤ, pos, neg_ℤ, Option, Some, None, refl, ap, subst, ◌∙◌, arith, Bool, true, false}
+use Rattle.std.proofs.Common.{◌≡◌, ℕ, ℤ, pos, neg_ℤ, Option, Some, None, refl, ap, subst, ◌∙◌, arith, Bool, true, false}
 use Rattle.jiff_tz.specs.PosixReader.{read_whole}
 use Rattle.jiff_tz.specs.PosixText.{TzText, DstText, tz_view, dst_view}
 use Rattle.jiff_tz.specs.declared.posix.Day.TheVariants.{WeekdayOfMonth}
@@ -19,8 +19,7 @@ use Rattle.jiff_core.specs.Timestamp.{nanos_of_seconds}
 use Rattle.jiff_core.specs.DateTime.{civil_nanos}
 use Rattle.jiff_core.specs.Date.{epoch_day}
 use Rattle.jiff_core.specs.declared.civil.date.Date.{Date}
-use Rattle.std.specs.Prelude.{negsuc}
-use Rattle.std.specs.Prelude.{int_div}
+use Rattle.std.specs.Prelude.{codes, negsuc, int_div}
 use Rattle.std.proofs.Common.{w64, to_z, of_z}
 use Rattle.jiff_core.specs.Time.{time_nanos}
 use Rattle.jiff_core.specs.declared.civil.datetime.DateTime.{DateTime}
@@ -38,21 +37,26 @@ use Rattle.jiff_tz.specs.declared.ambiguous.AmbiguousOffset.TheVariants.{Unambig
 use Rattle.jiff_tz.specs.declared.ambiguous.AmbiguousOffset.{AmbiguousOffset}
 
 -- daylight saving time of the rule
-abbrev pub dst_says : DstText
-dst_says = record { name = 69 ∷ 68 ∷ 84 ∷ []; seconds = neg_ℤ (pos 14400); start = (WeekdayOfMonth 3 2 0, pos 7200); finish = (WeekdayOfMonth 11 1 0, pos 7200) }
+abbrev pub daylight_rule : DstText
+daylight_rule = record {
+  name = codes "EDT";
+  seconds = neg_ℤ (pos 14400);
+  start = (WeekdayOfMonth 3 2 0, pos 7200);
+  finish = (WeekdayOfMonth 11 1 0, pos 7200);
+}
 
 -- the rule
-abbrev pub says : TzText
-says = record { std_name = 69 ∷ 83 ∷ 84 ∷ []; std_seconds = neg_ℤ (pos 18000); dst = Some dst_says }
+abbrev pub eastern_rule : TzText
+eastern_rule = record { std_name = codes "EST"; std_seconds = neg_ℤ (pos 18000); dst = Some daylight_rule }
 
 -- the text says this rule
-pub rule_read : read_whole rule_text ≡ Some says
+pub rule_read : read_whole rule_text ≡ Some eastern_rule
 unfolding jiff_on_literals
 rule_read = refl
 
 -- the first of a month, from 1 January
-pub month_start : (y : ℤ) (m : ℕ) → 1 ≤ m → days_from_civil y m 1 ≡ first_day y +ℤ pos (days_of_months y (m - 1))
-month_start y m h =
+pub days_from_civil-month : (y : ℤ) (m : ℕ) → 1 ≤ m → days_from_civil y m 1 ≡ first_day y +ℤ pos (days_of_months y (m - 1))
+days_from_civil-month y m h =
     let a = days_from_civil-day_count y m 1 in
     let b = days_from_civil-day_count y 1 1 in
     let e = day_count-day_of_year y m 1 (omega arith) in
@@ -69,8 +73,8 @@ pub record AreSundays (y s e : ℤ) : Type 0 where
 -- and so they do
 pub sundays : (y : ℤ) → AreSundays y (nth_weekday y 3 2 0) (nth_weekday y 11 1 0)
 sundays y =
-    let a = month_start y 3 (omega arith) in
-    let b = month_start y 11 (omega arith) in
+    let a = days_from_civil-month y 3 (omega arith) in
+    let b = days_from_civil-month y 11 (omega arith) in
     let ta = days_of_months_table y 2 (omega arith) in
     let tb = days_of_months_table y 10 (omega arith) in
     let d = days_in_year_bounds y in
@@ -90,77 +94,103 @@ pub two_in_the_morning : (y : ℤ) (d : DayTime) (day : ℤ) → rule_day y d.da
 unfolding rule_nanos
 two_in_the_morning y d day is time low high long = rw (is, time) (grind (arith, signed_arith))
 
--- midnight of a day, and two in the morning, in nanoseconds on that clock
+-- midnight of a day in nanoseconds on that clock
 abbrev pub day_nanos : ℤ → ℤ
 day_nanos day = day *ℤ pos 86_400_000_000_000
 
-abbrev pub two : ℤ → ℤ
-two day = day *ℤ pos 86_400_000_000_000 +ℤ pos 7_200_000_000_000
+-- two in the morning of a day in nanoseconds on that clock
+abbrev pub two_o_clock : ℤ → ℤ
+two_o_clock day = day *ℤ pos 86_400_000_000_000 +ℤ pos 7_200_000_000_000
 
 -- a midnight lies between the changes where its day is after the one and not after the other
-window_is : (s e day : ℤ) → s <ℤ e → in_window (two s, two e) (day_nanos day) ≡ (int_lt s day && int_le day e)
+window_is : (s e day : ℤ) → s <ℤ e → in_window (two_o_clock s, two_o_clock e) (day_nanos day) ≡ (int_lt s day && int_le day e)
 window_is s e day h = grind (arith, ints)
 
 -- no midnight lies in the hour that is left out
-no_gap : (s day : ℤ) → neg_ℤ (pos 4_371_587) ≤ℤ s → s ≤ℤ pos 2_932_895 → int_le (two s) (day_nanos day) && int_lt (day_nanos day) (clamp_to civil_min civil_max (two s +ℤ pos 3_600_000_000_000)) ≡ false
+no_gap : (s day : ℤ)
+    → neg_ℤ (pos 4_371_587) ≤ℤ s
+    → s ≤ℤ pos 2_932_895
+    → int_le (two_o_clock s) (day_nanos day)
+    && int_lt (day_nanos day) (clamp_to civil_min civil_max (two_o_clock s +ℤ pos 3_600_000_000_000)) ≡ false
 no_gap s day low high = grind (arith, ints)
 
 -- daylight saving time is ahead of standard time
-ahead : (std dst : Offset) (w : ℤ × ℤ) (at : ℤ) → std.seconds ≡ neg_ℤ (pos 18000) → dst.seconds ≡ neg_ℤ (pos 14400) → ambiguous_by std dst w at ≡ ambiguous_ahead std dst w at
-ahead std dst w at std_is dst_is =
+ambiguous_by-ahead : (std dst : Offset) (w : ℤ × ℤ) (at : ℤ)
+    → std.seconds ≡ neg_ℤ (pos 18000)
+    → dst.seconds ≡ neg_ℤ (pos 14400)
+    → ambiguous_by std dst w at ≡ ambiguous_ahead std dst w at
+ambiguous_by-ahead std dst w at std_is dst_is =
     let behind : int_lt dst.seconds std.seconds ≡ false = rw (std_is, dst_is) refl in
     let front : int_lt std.seconds dst.seconds ≡ true = rw (std_is, dst_is) refl in
     rw (behind, front) refl
 
 -- by one hour
-shift : (std dst : Offset) → std.seconds ≡ neg_ℤ (pos 18000) → dst.seconds ≡ neg_ℤ (pos 14400) → shift_between std dst ≡ pos 3_600_000_000_000
-shift std dst std_is dst_is = rw (std_is, dst_is) refl
+shift_between-hour : (std dst : Offset)
+    → std.seconds ≡ neg_ℤ (pos 18000)
+    → dst.seconds ≡ neg_ℤ (pos 14400)
+    → shift_between std dst ≡ pos 3_600_000_000_000
+shift_between-hour std dst std_is dst_is = rw (std_is, dst_is) refl
 
 -- the offset before a transition, by what the tests say
-three : (a b c : Bool) (std dst : Offset) → b ≡ false
-    → compatible_offset (if not a then Unambiguous std else (if b then Gap std dst else (if c then Fold dst std else Unambiguous dst))) ≡ (if a then dst else std)
-three false b c std dst h = refl
-three true true c std dst h = absurd (cc)
-three true false true std dst h = refl
-three true false false std dst h = refl
+offset_by_tests : (a b c : Bool) (std dst : Offset) → b ≡ false
+    → compatible_offset (if not a then Unambiguous std
+    else (if b then Gap std dst else (if c then Fold dst std else Unambiguous dst))) ≡ (if a then dst else std)
+offset_by_tests false b c std dst h = refl
+offset_by_tests true true c std dst h = absurd (cc)
+offset_by_tests true false true std dst h = refl
+offset_by_tests true false false std dst h = refl
 
 -- outside the hour that is left out it is the offset of the window
-picked : (std dst : Offset) (w : ℤ × ℤ) (at : ℤ) → in_span w.0 (saturating_add w.0 (shift_between std dst)) at ≡ false
+offset_outside_the_gap : (std dst : Offset) (w : ℤ × ℤ) (at : ℤ) → in_span w.0 (saturating_add w.0 (shift_between std dst)) at ≡ false
     → compatible_offset (ambiguous_ahead std dst w at) ≡ (if in_window w at then dst else std)
-picked std dst w at gap = three (in_window w at) _ (in_span (saturating_sub w.1 (shift_between std dst)) w.1 at) std dst gap
+offset_outside_the_gap std dst w at gap =
+    offset_by_tests (in_window w at) _ (in_span (saturating_sub w.1 (shift_between std dst)) w.1 at) std dst gap
 
 -- the offset at a midnight, with the two Sundays' mornings
-chosen : (std dst : Offset) (s e day : ℤ) → std.seconds ≡ neg_ℤ (pos 18000) → dst.seconds ≡ neg_ℤ (pos 14400) → s <ℤ e
+offset_at_midnight : (std dst : Offset) (s e day : ℤ) → std.seconds ≡ neg_ℤ (pos 18000) → dst.seconds ≡ neg_ℤ (pos 14400) → s <ℤ e
     → neg_ℤ (pos 4_371_587) ≤ℤ s → s ≤ℤ pos 2_932_895
-    → compatible_offset (ambiguous_by std dst (two s, two e) (day_nanos day)) ≡ (if int_lt s day && int_le day e then dst else std)
-chosen std dst s e day std_is dst_is order low high =
-    let far = shift std dst std_is dst_is in
-    ap compatible_offset (ahead std dst (two s, two e) (day_nanos day) std_is dst_is)
-    ∙ picked std dst (two s, two e) (day_nanos day) (rw far (no_gap s day low high))
+    → compatible_offset (ambiguous_by std dst (two_o_clock s, two_o_clock e) (day_nanos day))
+    ≡ (if int_lt s day && int_le day e then dst else std)
+offset_at_midnight std dst s e day std_is dst_is order low high =
+    let far = shift_between-hour std dst std_is dst_is in
+    ap compatible_offset (ambiguous_by-ahead std dst (two_o_clock s, two_o_clock e) (day_nanos day) std_is dst_is)
+    ∙ offset_outside_the_gap std dst (two_o_clock s, two_o_clock e) (day_nanos day) (rw far (no_gap s day low high))
     ∙ ap (λ (b : Bool). if b then dst else std) (window_is s e day order)
 
 -- the rule has daylight saving time
-some_dst : (o : Option Dst) → option_map dst_view o ≡ Some dst_says → (d : Dst) × (o ≡ Some d) × (dst_view d ≡ dst_says)
+some_dst : (o : Option Dst) → option_map dst_view o ≡ Some daylight_rule → (d : Dst) × (o ≡ Some d) × (dst_view d ≡ daylight_rule)
 some_dst None h = absurd (cc)
 some_dst (Some d) h = (d, refl, cc)
 
--- its days
+-- daylight saving time ends on the first Sunday of November
 first_sunday_day : (y : ℤ) → rule_day y (WeekdayOfMonth 11 1 0) ≡ Some (nth_weekday y 11 1 0)
 unfolding rule_day
 first_sunday_day y = refl
 
+-- and begins on the second Sunday of March
 second_sunday_day : (y : ℤ) → rule_day y (WeekdayOfMonth 3 2 0) ≡ Some (nth_weekday y 3 2 0)
 unfolding rule_day
 second_sunday_day y = refl
 
 -- the seconds of the chosen offset
-seconds_of : (std dst : Offset) → std.seconds ≡ neg_ℤ (pos 18000) → dst.seconds ≡ neg_ℤ (pos 14400) → (b : Bool) → (if b then dst else std).seconds ≡ neg_ℤ (pos (if b then 14400 else 18000))
+seconds_of : (std dst : Offset)
+    → std.seconds ≡ neg_ℤ (pos 18000)
+    → dst.seconds ≡ neg_ℤ (pos 14400)
+    → (b : Bool)
+    → (if b then dst else std).seconds ≡ neg_ℤ (pos (if b then 14400 else 18000))
 seconds_of std dst s d true = d
 seconds_of std dst s d false = s
 
 -- the same at equal moments
-by_parts : (std dst : Offset) (a b at a₂ b₂ at₂ : ℤ) → a ≡ a₂ → b ≡ b₂ → at ≡ at₂ → ambiguous_by std dst (a, b) at ≡ ambiguous_by std dst (a₂, b₂) at₂
-by_parts std dst a b at a₂ b₂ at₂ p q r = subst (λ x. ambiguous_by std dst (a, b) at ≡ ambiguous_by std dst (x, b₂) at₂) p (subst (λ x. ambiguous_by std dst (a, b) at ≡ ambiguous_by std dst (a, x) at₂) q (ap (ambiguous_by std dst (a, b)) r))
+by_parts : (std dst : Offset) (a b at a₂ b₂ at₂ : ℤ)
+    → a ≡ a₂
+    → b ≡ b₂
+    → at ≡ at₂
+    → ambiguous_by std dst (a, b) at ≡ ambiguous_by std dst (a₂, b₂) at₂
+by_parts std dst a b at a₂ b₂ at₂ p q r =
+    subst (λ x. ambiguous_by std dst (a, b) at ≡ ambiguous_by std dst (x, b₂) at₂) p
+    (subst (λ x. ambiguous_by std dst (a, b) at ≡ ambiguous_by std dst (a, x) at₂) q
+    (ap (ambiguous_by std dst (a, b)) r))
 
 -- a midnight on the clock
 pub at_midnight_nanos : (dt : DateTime) → time_nanos dt.time ≡ 0 → civil_nanos dt ≡ day_nanos (epoch_day dt.date)
@@ -168,9 +198,10 @@ unfolding civil_nanos
 at_midnight_nanos dt midnight = rw midnight (omega (arith, signed_arith))
 
 -- at a midnight, the offset of the rule
-pub at_midnight : (rule : TimeZone) (dt : DateTime) → tz_view rule ≡ says → time_nanos dt.time ≡ 0
+pub at_midnight : (rule : TimeZone) (dt : DateTime) → tz_view rule ≡ eastern_rule → time_nanos dt.time ≡ 0
     → (compatible_offset (Posix.ambiguous_at rule dt)).seconds
-    ≡ neg_ℤ (pos (if int_lt (nth_weekday dt.date.year 3 2 0) (epoch_day dt.date) && int_le (epoch_day dt.date) (nth_weekday dt.date.year 11 1 0) then 14400 else 18000))
+    ≡ neg_ℤ (pos (if int_lt (nth_weekday dt.date.year 3 2 0) (epoch_day dt.date)
+    && int_le (epoch_day dt.date) (nth_weekday dt.date.year 11 1 0) then 14400 else 18000))
 at_midnight rule dt is midnight =
     let y = dt.date.year in
     let std_is : rule.std_offset.seconds ≡ neg_ℤ (pos 18000) = ap (λ (t : TzText). t.std_seconds) is in
@@ -184,9 +215,18 @@ at_midnight rule dt is midnight =
     let sun = sundays dt.date.year in
     let bottom = year_start_bound dt.date.year in_year in
     let top = year_end_bound dt.date.year in_year in
-    let start = two_in_the_morning dt.date.year d.rule.start (nth_weekday dt.date.year 3 2 0) (ap (rule_day dt.date.year) start_day ∙ second_sunday_day dt.date.year) start_time (omega (arith, signed_arith, sun.low)) (omega (arith, signed_arith, sun.high)) sun.length in
-    let end = two_in_the_morning dt.date.year d.rule.end (nth_weekday dt.date.year 11 1 0) (ap (rule_day dt.date.year) end_day ∙ first_sunday_day dt.date.year) end_time (omega (arith, signed_arith, sun.low_end)) (omega (arith, signed_arith, sun.high_end)) sun.length in
-    let far = chosen rule.std_offset d.offset (nth_weekday dt.date.year 3 2 0) (nth_weekday dt.date.year 11 1 0) (epoch_day dt.date) std_is dst_is (omega (arith, signed_arith, sun.high, sun.low_end)) (omega (arith, signed_arith, sun.low, bottom)) (omega (arith, signed_arith, sun.high, top)) in
+    let start =
+    two_in_the_morning dt.date.year d.rule.start (nth_weekday dt.date.year 3 2 0)
+    (ap (rule_day dt.date.year) start_day ∙ second_sunday_day dt.date.year) start_time
+    (omega (arith, signed_arith, sun.low)) (omega (arith, signed_arith, sun.high)) sun.length in
+    let end =
+    two_in_the_morning dt.date.year d.rule.end (nth_weekday dt.date.year 11 1 0)
+    (ap (rule_day dt.date.year) end_day ∙ first_sunday_day dt.date.year) end_time
+    (omega (arith, signed_arith, sun.low_end)) (omega (arith, signed_arith, sun.high_end)) sun.length in
+    let far =
+    offset_at_midnight rule.std_offset d.offset (nth_weekday dt.date.year 3 2 0) (nth_weekday dt.date.year 11 1 0)
+    (epoch_day dt.date) std_is dst_is (omega (arith, signed_arith, sun.high, sun.low_end))
+    (omega (arith, signed_arith, sun.low, bottom)) (omega (arith, signed_arith, sun.high, top)) in
     let at_day = at_midnight_nanos dt midnight in
     ap (λ (a : AmbiguousOffset). (compatible_offset a).seconds)
     (ambiguous_at-some rule d dt dst ∙ by_parts rule.std_offset d.offset _ _ _ _ _ _ start end at_day)
@@ -194,59 +234,87 @@ at_midnight rule dt is midnight =
     ∙ seconds_of rule.std_offset d.offset std_is dst_is _
 
 -- the text says no other rule
-same_rule : (t : TzText) → read_whole rule_text ≡ Some t → t ≡ says
+same_rule : (t : TzText) → read_whole rule_text ≡ Some t → t ≡ eastern_rule
 same_rule t h = let r = rule_read in cc (r)
 
 -- a midnight less the offset, in seconds
-instant_by : (b : Bool) (day n off : ℤ) → n ≡ day_nanos day → off ≡ neg_ℤ (pos (if b then 14400 else 18000)) → n -ℤ nanos_of_seconds off ≡ (day *ℤ pos 86400 +ℤ pos (if b then 14400 else 18000)) *ℤ pos 1_000_000_000
+instant_by : (b : Bool) (day n off : ℤ)
+    → n ≡ day_nanos day
+    → off ≡ neg_ℤ (pos (if b then 14400 else 18000))
+    → n -ℤ nanos_of_seconds off ≡ (day *ℤ pos 86400 +ℤ pos (if b then 14400 else 18000)) *ℤ pos 1_000_000_000
 instant_by true day n off e o = rw (e, o) (omega (arith, signed_arith))
 instant_by false day n off e o = rw (e, o) (omega (arith, signed_arith))
 
 -- the instant at which a day begins in Eastern time
 pub instant_is : (zone : Zones.TimeZone) (dt : DateTime) → IsEastern zone → time_nanos dt.time ≡ 0
-    → instant_of dt (compatible_offset (Zone.ambiguous_at zone dt)) ≡ start_in_zone dt.date.year (epoch_day dt.date) *ℤ pos 1_000_000_000
+    → instant_of dt (compatible_offset (Zone.ambiguous_at zone dt))
+    ≡ start_in_zone dt.date.year (epoch_day dt.date) *ℤ pos 1_000_000_000
 unfolding Zone.ambiguous_at start_in_zone
-instant_is (zones.Posix rule) dt eastern midnight = instant_by _ (epoch_day dt.date) (civil_nanos dt) _ (at_midnight_nanos dt midnight) (at_midnight rule dt (same_rule (tz_view rule) eastern) midnight)
+instant_is (zones.Posix rule) dt eastern midnight =
+    instant_by _ (epoch_day dt.date) (civil_nanos dt) _ (at_midnight_nanos dt midnight)
+    (at_midnight rule dt (same_rule (tz_view rule) eastern) midnight)
 instant_is zones.UTC dt eastern midnight = absurd eastern
 instant_is zones.Unknown dt eastern midnight = absurd eastern
 instant_is (zones.Fixed o) dt eastern midnight = absurd eastern
 instant_is (zones.Tzif z) dt eastern midnight = absurd eastern
 
 -- a day of the years 2000 to 2099
-pub day_bounds : (d : Date) → IsBetween (pos 2000) (pos 2099) d.year → (pos 0 ≤ℤ epoch_day d) × (epoch_day d ≤ℤ pos 2_932_600)
+pub day_bounds : (d : Date)
+    → IsBetween (pos 2000) (pos 2099) d.year
+    → (pos 0 ≤ℤ epoch_day d) × (epoch_day d ≤ℤ pos 2_932_600)
 day_bounds d h =
     let is = civil d in
     let leap : days_in_year (pos 9999) ≡ 365 = refl in
-    let first = day_count-lt_year (pos 1970) 1 1 d.year d.month d.day ((omega (arith, signed_arith), omega (arith, signed_arith)), (omega arith, omega arith), (omega arith, omega arith)) is.2.0 (omega (arith, signed_arith, h)) in
-    let last = day_count-lt_year d.year d.month d.day (pos 9999) 1 1 is (omega arith) (omega (arith, signed_arith, h)) in
+    let first =
+    day_count-lt_year (pos 1970) 1 1 d.year d.month d.day (
+      (omega (arith, signed_arith), omega (arith, signed_arith)),
+      (omega arith, omega arith),
+      (omega arith, omega arith),
+    ) is.2.0 (omega (arith, signed_arith, h)) in
+    let last =
+    day_count-lt_year d.year d.month d.day (pos 9999) 1 1 is (omega arith) (omega (arith, signed_arith, h)) in
     let end = day_count-last_of_year (pos 9999) in
-    let top = (day_count_bounds (pos 9999) 12 31 ((omega (arith, signed_arith), omega (arith, signed_arith)), (omega arith, omega arith), (omega arith, omega arith))).1 in
+    let top =
+    (day_count_bounds (pos 9999) 12 31 (
+      (omega (arith, signed_arith), omega (arith, signed_arith)),
+      (omega arith, omega arith),
+      (omega arith, omega arith),
+    )).1 in
     let zero = day_count-epoch in
     let n = days_from_civil-day_count d.year d.month d.day in
     (omega (arith, signed_arith), omega (arith, signed_arith))
 
 -- where days of these years begin
-start_by : (b : Bool) (day : ℤ) → pos 0 ≤ℤ day → day ≤ℤ pos 2_932_600 → (pos 0 ≤ℤ (day *ℤ pos 86400 +ℤ pos (if b then 14400 else 18000))) × ((day *ℤ pos 86400 +ℤ pos (if b then 14400 else 18000)) ≤ℤ pos 253_402_000_000)
+start_by : (b : Bool) (day : ℤ)
+    → pos 0 ≤ℤ day
+    → day ≤ℤ pos 2_932_600
+    → (pos 0 ≤ℤ (day *ℤ pos 86400 +ℤ pos (if b then 14400 else 18000)))
+    × ((day *ℤ pos 86400 +ℤ pos (if b then 14400 else 18000)) ≤ℤ pos 253_402_000_000)
 start_by true day low high = (omega (arith, signed_arith), omega (arith, signed_arith))
 start_by false day low high = (omega (arith, signed_arith), omega (arith, signed_arith))
 
-pub start_bounds : (d : Date) → IsBetween (pos 2000) (pos 2099) d.year → (pos 0 ≤ℤ start_in_zone d.year (epoch_day d)) × (start_in_zone d.year (epoch_day d) ≤ℤ pos 253_402_000_000)
+-- so days of these years begin within the range of seconds
+pub start_bounds : (d : Date)
+    → IsBetween (pos 2000) (pos 2099) d.year
+    → (pos 0 ≤ℤ start_in_zone d.year (epoch_day d)) × (start_in_zone d.year (epoch_day d) ≤ℤ pos 253_402_000_000)
 unfolding start_in_zone
 start_bounds d h = start_by _ (epoch_day d) (day_bounds d h).0 (day_bounds d h).1
 
--- whole seconds of an instant, and their bits
+-- the whole seconds of an instant
 pub whole_seconds : (n s : ℤ) → n ≡ s *ℤ pos 1_000_000_000 → pos 0 ≤ℤ s → int_div n (pos 1_000_000_000) ≡ s
 whole_seconds n (pos k) e h = rw e (omega (arith, signed_arith))
 whole_seconds n (negsuc k) e h = absurd (omega (arith, signed_arith))
 
+-- seconds in this range come back from their bits
 pub comes_back : (z : ℤ) → pos 0 ≤ℤ z → z ≤ℤ pos 253_402_000_000 → to_z w64 (of_z w64 z) ≡ z
 comes_back (pos k) low high = back_small w64 (pos k) (omega (arith, signed_arith, high))
 comes_back (negsuc k) low high = absurd (omega (arith, signed_arith, low))
 
--- the first and the last day of ours
+-- the number of the first day of ours
 first_of_2000 : day_count (pos 2000) 1 1 ≡ 4_382_910
 first_of_2000 = day_count-early (pos 2000) 11999 1 1 refl (omega arith) (omega arith) (omega arith)
 
+-- and of the last
 last_of_2099 : day_count (pos 2099) 12 31 ≡ 4_419_434
 last_of_2099 = day_count-late (pos 2099) 12099 12 31 refl (omega arith) (omega arith) (omega arith)
 
@@ -256,10 +324,18 @@ in_years d n e low high =
     let is = civil d in
     let number = days_from_civil-day_count d.year d.month d.day in
     let early = day_count-lt_year d.year d.month d.day (pos 2000) 1 1 is (omega arith) in
-    let late = day_count-lt_year (pos 2099) 12 31 d.year d.month d.day ((omega (arith, signed_arith), omega (arith, signed_arith)), (omega arith, omega arith), (omega arith, omega arith)) is.2.0 in
+    let late =
+    day_count-lt_year (pos 2099) 12 31 d.year d.month d.day (
+      (omega (arith, signed_arith), omega (arith, signed_arith)),
+      (omega arith, omega arith),
+      (omega arith, omega arith),
+    ) is.2.0 in
     let a = first_of_2000 in
-    let b = last_of_2099 in
-    (at_least d.year (pos 2000) (λ h. omega (arith, signed_arith, early h)), at_least (pos 2099) d.year (λ h. omega (arith, signed_arith, late h)))
+    let b = last_of_2099 in (
+      at_least d.year (pos 2000) (λ h. omega (arith, signed_arith, early h)),
+      at_least (pos 2099) d.year
+          (λ h. omega (arith, signed_arith, late h)),
+    )
   where
     at_least : (y z : ℤ) → ¬ (y <ℤ z) → z ≤ℤ y
     at_least y z h = grind (arith, ints)
