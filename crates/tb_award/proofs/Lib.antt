@@ -3,3 +3,8 @@ pub mod BidLemmas
 pub mod CallerLemmas
 pub mod SettleLemmas
 pub mod PassLemmas
+pub mod LineLemmas
+pub mod AwardLemmas
+pub mod RecognitionLemmas
+pub mod OrderLemmas
+pub mod RateLemmas

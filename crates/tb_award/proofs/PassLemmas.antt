@@ -7,16 +7,21 @@ use Rattle.std.proofs.lemmas.List.Elements.{All-nil, All-cons, All-push, All-app
 use Rattle.std.proofs.lemmas.List.Sums.{sum_by_push}
 use Rattle.tb_units.specs.declared.lines.RateLine.{RateLine}
 use Rattle.tb_units.specs.LineOrder.{AreInOrder, IsNoLater}
+use Rattle.tb_units.proofs.ListLemmas.{All-back}
 use Rattle.tb_award.specs.Cuts.{amount_of}
 use Rattle.tb_award.specs.Recognition.{bid_in, IsEarlier, IsRecognised}
-use Rattle.tb_award.specs.Passes.{AreSettled, IsReading, IsSameBid}
+use Rattle.tb_award.specs.Passes.{AreSettled, Bounds, IsReading, IsSameBid}
 use Rattle.tb_award.proofs.BidLemmas.{let_through-flat, recognised_at-none}
-use Rattle.tb_award.proofs.SettleLemmas.{All-back, IsEarlier-same}
+use Rattle.tb_award.proofs.SettleLemmas.{IsEarlier-same}
 
 -- a line more of the bid that is being read
-pub IsReading-more : {lines : List RateLine} {cap : ℕ} {limits : ℕ → ℕ} {bidders : ℕ} {recognised : List RateLine} {taken : List ℕ} {bid : RateLine} → (reading : IsReading lines cap limits bidders recognised taken bid)
-    → (line next : RateLine) → IsSameBid bid line → IsSameBid next bid → next.amount.value ≡ min (bid.amount.value + line.amount.value) cap
-    → IsReading (lines ++ line ∷ []) cap limits bidders recognised taken next
+pub IsReading-more : {lines : List RateLine} {bounds : Bounds} {recognised : List RateLine} {taken : List ℕ} {bid : RateLine}
+    → IsReading lines bounds recognised taken bid
+    → (line next : RateLine)
+    → IsSameBid bid line
+    → IsSameBid next bid
+    → next.amount.value ≡ min (bid.amount.value + line.amount.value) bounds.cap
+    → IsReading (lines ++ line ∷ []) bounds recognised taken next
 IsReading-more {bid} reading line next same is amount = record {
   settled = reading.settled;
   last = reading.last ++ line ∷ [];
@@ -32,9 +37,14 @@ IsReading-more {bid} reading line next same is amount = record {
 }
 
 -- a line of another bid, behind lines that are settled
-pub IsReading-next : {lines : List RateLine} {cap : ℕ} {limits : ℕ → ℕ} {bidders : ℕ} {recognised : List RateLine} {taken : List ℕ} → AreSettled lines cap limits bidders recognised taken
-    → (line next : RateLine) → All (λ l. IsEarlier l line) lines → line.bidder < bidders → IsSameBid next line → next.amount.value ≡ min line.amount.value cap
-    → IsReading (lines ++ line ∷ []) cap limits bidders recognised taken next
+pub IsReading-next : {lines : List RateLine} {bounds : Bounds} {recognised : List RateLine} {taken : List ℕ}
+    → AreSettled lines bounds recognised taken
+    → (line next : RateLine)
+    → All (λ l. IsEarlier l line) lines
+    → line.bidder < bounds.bidders
+    → IsSameBid next line
+    → next.amount.value ≡ min line.amount.value bounds.cap
+    → IsReading (lines ++ line ∷ []) bounds recognised taken next
 IsReading-next {lines} done line next earlier known is amount = record {
   settled = lines;
   last = line ∷ [];
@@ -48,20 +58,27 @@ IsReading-next {lines} done line next earlier known is amount = record {
 }
 
 -- a line in order behind a bid, and not of it, is behind all lines
-pub earlier-than_next : {lines : List RateLine} {cap : ℕ} {limits : ℕ → ℕ} {bidders : ℕ} {recognised : List RateLine} {taken : List ℕ} {bid : RateLine} → (reading : IsReading lines cap limits bidders recognised taken bid)
-    → (line : RateLine) → AreInOrder (lines ++ line ∷ []) → ¬ (IsSameBid bid line) → All (λ l. IsEarlier l line) lines
+pub earlier-than_next : {lines : List RateLine} {bounds : Bounds} {recognised : List RateLine} {taken : List ℕ} {bid : RateLine}
+    → IsReading lines bounds recognised taken bid
+    → (line : RateLine)
+    → AreInOrder (lines ++ line ∷ [])
+    → ¬ (IsSameBid bid line)
+    → All (λ l. IsEarlier l line) lines
 earlier-than_next {lines} {bid = bid} reading line order other =
     let P : RateLine → Type 0 = λ l. IsEarlier l line in
     let no_later : All (λ l. IsNoLater l line) lines = λ k d below.
     subst (λ (l : RateLine). IsNoLater l line) (get_or_append_left lines (line ∷ []) d k below)
     (subst (λ (l : RateLine). IsNoLater (get_or (lines ++ line ∷ []) k d) l) (get_or_push lines line d (length lines) refl)
     (order k (length lines) d below (omega (arith, length_push lines line)))) in
-    let last_no_later = All-back (λ l. IsNoLater l line) reading.settled reading.last (subst (All (λ l. IsNoLater l line)) reading.lines_are no_later) 0 bid reading.some in
-    let bid_earlier : IsEarlier bid line = IsEarlier-from (get_or reading.last 0 bid) bid line (reading.same 0 bid reading.some) last_no_later other in
+    let parts = subst (All (λ l. IsNoLater l line)) reading.lines_are no_later in
+    let last_no_later = All-back (λ l. IsNoLater l line) reading.settled reading.last parts 0 bid reading.some in
+    let bid_earlier : IsEarlier bid line =
+    IsEarlier-from (get_or reading.last 0 bid) bid line (reading.same 0 bid reading.some) last_no_later other in
     subst (All P) (sym reading.lines_are) (All-append P reading.settled reading.last
     (λ k d below. IsEarlier-on (get_or reading.settled k d) bid line (reading.earlier k d below) bid_earlier)
     (λ k d below. IsEarlier-of (get_or reading.last k d) bid line (reading.same k d below) bid_earlier))
   where
+    -- a bid behind a line of its own, and of another bid than the next line, is earlier than that
     IsEarlier-from : (one bid line : RateLine) → IsSameBid one bid → IsNoLater one line → ¬ (IsSameBid bid line) → IsEarlier bid line
     IsEarlier-from one bid line same no_later other = elim no_later [
       | inl under ↦ inl (omega (arith, under, same.0))
@@ -71,12 +88,14 @@ earlier-than_next {lines} {bid = bid} reading line order other =
       ]
     ]
 
+    -- what is earlier than a bid is earlier than what follows it
     IsEarlier-on : (one bid line : RateLine) → IsEarlier one bid → IsEarlier bid line → IsEarlier one line
-    IsEarlier-on one bid line first then = elim first [
-      | inl under ↦ elim then [ inl under' ↦ inl (omega (arith, under, under')) | inr at' ↦ inl (omega (arith, under, at'.0)) ]
-      | inr at ↦ elim then [ inl under' ↦ inl (omega (arith, at.0, under')) | inr at' ↦ inr (omega (arith, at.0, at'.0), omega (arith, at.1, at'.1)) ]
-    ]
+    IsEarlier-on one bid line (inl under) (inl over) = inl (omega arith)
+    IsEarlier-on one bid line (inl under) (inr at) = inl (omega (arith, at.0))
+    IsEarlier-on one bid line (inr at) (inl under) = inl (omega (arith, at.0))
+    IsEarlier-on one bid line (inr at) (inr behind) = inr (omega (arith, at.0, behind.0), omega (arith, at.1, behind.1))
 
+    -- and so is what is of the bid
     IsEarlier-of : (one bid line : RateLine) → IsSameBid one bid → IsEarlier bid line → IsEarlier one line
     IsEarlier-of one bid line same earlier = elim earlier [
       | inl under ↦ inl (omega (arith, under, same.0))
@@ -84,17 +103,18 @@ earlier-than_next {lines} {bid = bid} reading line order other =
     ]
 
 -- nothing is settled yet
-pub AreSettled-none : (cap : ℕ) (limits : ℕ → ℕ) (bidders : ℕ) → AreSettled [] cap limits bidders [] (replicate bidders 0)
-AreSettled-none cap limits bidders = record {
+pub AreSettled-none : (bounds : Bounds) → AreSettled [] bounds [] (replicate bounds.bidders 0)
+AreSettled-none bounds = record {
   are = record {
     order = λ i j d earlier below. absurd (omega (arith, below));
-    each = All-nil (IsRecognised (bid_in []) cap limits bidders);
-    all = λ bidder steps known some. absurd (omega (arith, some, recognised_at-none (bid_in [] bidder) cap (limits bidder) steps refl));
+    each = All-nil (IsRecognised (bid_in []) bounds.cap bounds.limits bounds.bidders);
+    all = λ bidder steps known some.
+        absurd (omega (arith, some, recognised_at-none (bid_in [] bidder) bounds.cap (bounds.limits bidder) steps refl));
   };
-  size = length-replicate bidders 0;
+  size = length-replicate bounds.bidders 0;
   sums = λ bidder above known under.
-      get_or-replicate bidders bidder 0 0 known
-      ∙ sym (let_through-flat (bid_in [] bidder) cap (limits bidder) 0 above (omega arith) (λ n from. refl) ∙ omega arith);
+      get_or-replicate bounds.bidders bidder 0 0 known
+      ∙ sym (let_through-flat (bid_in [] bidder) bounds.cap (bounds.limits bidder) 0 above (omega arith) (λ n from. refl) ∙ omega arith);
   within = omega arith;
   few = omega arith;
 }

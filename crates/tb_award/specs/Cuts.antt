@@ -1,10 +1,19 @@
--- The cut of an auction (31 CFR 356.20 and 356.21): the stop-out rate, and the percentage of what is recognised at it.
+-- The cut of an auction (31 CFR 356.20 and 356.21): the stop-out rate (`stop`, printed as `high`), and the percentage of
+-- what is recognised at it.
 -- `par` gives the par at the rates, in steps, that pass a test.
-use Rattle.std.specs.Prelude.{◌≡◌, ℕ, ◌-◌, ◌*◌, ◌<◌, ◌≤◌, ◌==◌, ◌⊎◌, List, Bool, nat_lt, nat_le, sum_by, if◌then◌else◌}
+use Rattle.std.specs.Prelude.{◌≡◌, ℕ, ◌-◌, ◌*◌, ◌^◌, ◌<◌, ◌≤◌, ◌==◌, ◌⊎◌, List, Bool, nat_lt, nat_le, sum_by, if◌then◌else◌}
 use Rattle.std.specs.List.Sorted.{IsNonDecreasingBy}
 use Rattle.tb_units.specs.declared.lines.RateLine.{RateLine}
 use Rattle.tb_price.specs.Prices.{IsPrice}
 use Rattle.tb_award.specs.declared.outcome.Cut.{Cut}
+
+-- the most that is recognised in an auction, in whole dollars
+abbrev pub most_recognised : ℕ
+most_recognised = 10 ^ 22
+
+-- 100.00 percent, in hundredths of a percent
+abbrev pub hundred_percent : ℕ
+hundred_percent = 10000
 
 -- tests of rates: up to the stop, under it, at it and over it
 abbrev pub up_to : ℕ → ℕ → Bool
@@ -24,15 +33,15 @@ over stop steps = nat_lt stop steps
 pub record Reaches (par : (ℕ → Bool) → ℕ) (sought stop percent : ℕ) : Type 0 where
   pub reached : sought ≤ par (up_to stop)
   pub least : (steps : ℕ) → sought ≤ par (up_to steps) → stop ≤ steps
-  pub enough : 10000 * (sought - par (under stop)) ≤ percent * par (at stop)
-  pub least_percent : (q : ℕ) → 10000 * (sought - par (under stop)) ≤ q * par (at stop) → percent ≤ q
+  pub enough : hundred_percent * (sought - par (under stop)) ≤ percent * par (at stop)
+  pub least_percent : (other : ℕ) → hundred_percent * (sought - par (under stop)) ≤ other * par (at stop) → percent ≤ other
 
 -- the bids fall short: the stop is the greatest rate at which something is recognised, and all is awarded (our choice)
 pub record FallsShort (par : (ℕ → Bool) → ℕ) (sought stop percent : ℕ) : Type 0 where
   pub short : (steps : ℕ) → par (up_to steps) < sought
   pub bid : 0 < par (at stop)
   pub greatest : par (over stop) ≡ 0
-  pub whole : percent ≡ 10000
+  pub whole : percent ≡ hundred_percent
 
 -- the stop and the percentage of an auction, where the bids reach the amount sought or fall short of it
 abbrev pub IsCut : ((ℕ → Bool) → ℕ) → ℕ → ℕ → ℕ → Type 0

@@ -4,3 +4,4 @@ pub mod Cuts
 pub mod Awards
 pub mod Room
 pub mod Passes
+pub mod Stops

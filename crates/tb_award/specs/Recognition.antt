@@ -41,13 +41,15 @@ IsEarlier one other = (one.rate.steps < other.rate.steps) ⊎ ((one.rate.steps �
 -- a line of the bidder at the rate is there
 abbrev pub HasLineOf : ℕ → ℕ → List RateLine → Type 0
 HasLineOf bidder steps lines =
-    (place : ℕ) × (place < length lines) × ((d : RateLine) → ((slice_index_or lines place d).bidder ≡ bidder) × ((slice_index_or lines place d).rate.steps ≡ steps))
+    (place : ℕ) × (place < length lines)
+    × ((d : RateLine) → ((slice_index_or lines place d).bidder ≡ bidder) × ((slice_index_or lines place d).rate.steps ≡ steps))
 
 -- the lines are all that is recognised of so many bidders, in order
 pub record AreRecognised (bids : ℕ → ℕ → ℕ) (cap : ℕ) (limits : ℕ → ℕ) (bidders : ℕ) (lines : List RateLine) : Type 0 where
   pub order : AllPairs IsEarlier lines
   pub each : All (IsRecognised bids cap limits bidders) lines
-  pub all : (bidder steps : ℕ) → bidder < bidders → 0 < recognised_at (bids bidder) cap (limits bidder) steps → HasLineOf bidder steps lines
+  pub all : (bidder steps : ℕ) → bidder < bidders → 0 < recognised_at (bids bidder) cap (limits bidder) steps
+      → HasLineOf bidder steps lines
 
 -- the limit of each bidder by its position
 abbrev pub limits_by : ℕ → List ℤ → ℕ → ℕ
@@ -57,3 +59,7 @@ limits_by offering positions bidder = limit_of offering (slice_index_or position
 abbrev pub IsRecognitionOf : List RateLine → List ℤ → ℕ → List RateLine → Type 0
 IsRecognitionOf lines positions offering recognised =
     AreRecognised (bid_in lines) (cap_of offering) (limits_by offering positions) (length positions) recognised
+
+-- the sum of what is recognised of a bidder
+abbrev pub recognised_of : ℕ → List RateLine → ℕ
+recognised_of bidder lines = sum_by (λ line. if line.bidder == bidder then line.amount.value else 0) lines

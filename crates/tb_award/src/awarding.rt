@@ -6,6 +6,9 @@ use crate::outcome::Cut;
 use std::cmp::Ordering;
 use tb_units::{Dollars, Percent, Rate};
 
+// 100.00 percent, in hundredths of a percent.
+const HUNDRED_PERCENT: u128 = 10_000;
+
 /// What is awarded of an amount that is recognised at a rate: all of it under the stop-out rate, nothing above it, and at
 /// it the cut's percentage, raised to the next multiple of 100.
 pub fn award(cut: &Cut, rate: Rate, recognised: Dollars) -> Dollars
@@ -22,7 +25,8 @@ pub fn award(cut: &Cut, rate: Rate, recognised: Dollars) -> Dollars
 fn prorated(percent: Percent, recognised: Dollars) -> Dollars
     ensures { IsProrated percent.hundredths recognised.value result.value }
 {
+    let share = percent.hundredths as u128 * recognised.value;
     Dollars {
-        value: (percent.hundredths as u128 * recognised.value).div_ceil(1_000_000) * 100,
+        value: share.div_ceil(100 * HUNDRED_PERCENT) * 100,
     }
 }

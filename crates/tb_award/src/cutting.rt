@@ -1,22 +1,25 @@
 //! The cut of an auction: the stop-out rate, and the percentage of what is recognised at it (31 CFR 356.20 and 356.21).
-ghost use Rattle.std.specs.Prelude.{◌≡◌, ◌+◌, ◌-◌, ◌*◌, ◌<◌, ◌≤◌, ◌^◌, ◌↔◌, ℕ, [], length, take, slice_index_or, IfSome, IfNone, All};
-ghost use Rattle.tb_units.specs.declared.lines.RateLine.{RateLine};
+ghost use Rattle.std.specs.Prelude.{◌≡◌, ◌≤◌, ◌<◌, ◌^◌, ◌↔◌, [], All};
 ghost use Rattle.tb_price.specs.Prices.{HasPrice};
-ghost use Rattle.tb_award.specs.Cuts.{AreByRate, IsCut, IsCutOf, Reaches, amount_of, par_of, total_of, under, at};
+ghost use Rattle.tb_award.specs.Cuts.{IsCutOf, most_recognised, total_of};
+ghost use Rattle.tb_award.specs.Stops.{AreCuttable, IsPercentage, IsStop, on_side, par_on};
 ghost use Rattle.tb_award.specs.declared.outcome.Cut.{Cut};
 ghost use Rattle.tb_award.specs.declared.outcome.Outcome.TheVariants as outcome;
 
 use crate::outcome::{Cut, Outcome};
 use crate::recognised::Recognised;
+use std::cmp::Ordering;
 use tb_price::price;
 use tb_units::{Days, Dollars, Percent, Rate, RateLine};
 
-/// Where an auction stops in which these lines are recognised, this amount is sought from competitive bids, and the bill
-/// has these days.
+// 100.00 percent, in hundredths of a percent.
+const HUNDRED_PERCENT: u32 = 10_000;
+
+/// Where the auction stops, for the recognised lines, the amount sought from competitive bids, and the days of the bill.
 pub fn cut(recognised: &Recognised, sought: Dollars, days: Days) -> Outcome
     requires sought { 100 ≤ sought.value }
     requires priced { All (λ line. HasPrice line.rate.steps days.count) recognised.now.lines }
-    requires fits { total_of recognised.now.lines ≤ 10 ^ 22 }
+    requires fits { total_of recognised.now.lines ≤ most_recognised }
     ensures none { (result ≡ outcome.NoAwards) ↔ (recognised.now.lines ≡ []) }
     ensures cut { (cut : Cut) → result ≡ outcome.Cut cut → IsCutOf recognised.now.lines sought.value days.count cut }
 {
@@ -28,125 +31,72 @@ pub fn cut(recognised: &Recognised, sought: Dollars, days: Days) -> Outcome
 }
 
 fn cut_of(lines: &[RateLine], sought: Dollars, days: Days) -> Cut
-    requires order { AreByRate lines.now }
-    requires some { 0 < length lines.now }
-    requires amounts { All (λ line. 1 ≤ amount_of line) lines.now }
+    requires lines { AreCuttable lines.now }
     requires sought { 0 < sought.value }
     requires priced { All (λ line. HasPrice line.rate.steps days.count) lines.now }
-    requires fits { total_of lines.now ≤ 10 ^ 22 }
     ensures { IsCutOf lines.now sought.value days.count result }
 {
     let stop = stop_of(lines, sought);
+    let below = par(lines, stop, Ordering::Less);
+    let at_stop = par(lines, stop, Ordering::Equal);
     Cut {
-        stop: stop.rate,
-        percent: stop.percent,
-        price: price(stop.rate, days),
-        below: Dollars {
-            value: par_under(lines, stop.rate),
-        },
-        at_stop: Dollars {
-            value: par_at(lines, stop.rate),
-        },
+        stop,
+        percent: percent_of(sought.value - below, at_stop),
+        price: price(stop, days),
+        below: Dollars { value: below },
+        at_stop: Dollars { value: at_stop },
         sought,
     }
 }
 
-// The stop-out rate, and the percentage at it.
-#[derive(Clone, Copy)]
-struct Stop {
-    rate: Rate,
-    percent: Percent,
-}
-
-fn stop_of(lines: &[RateLine], sought: Dollars) -> Stop
-    requires order { AreByRate lines.now }
-    requires some { 0 < length lines.now }
-    requires amounts { All (λ line. 1 ≤ amount_of line) lines.now }
-    requires fits { total_of lines.now ≤ 10 ^ 22 }
+// The rate of the line with which the amounts, added up in order, reach the amount sought, and the last rate where they
+// fall short of it.
+fn stop_of(lines: &[RateLine], sought: Dollars) -> Rate
+    requires lines { AreCuttable lines.now }
     requires sought { 0 < sought.value }
-    ensures cut { IsCut (par_of lines.now) sought.value result.rate.steps result.percent.hundredths }
-    ensures stop { (place : ℕ) × (place < length lines.now) × ((line : RateLine) → (slice_index_or lines.now place line).rate ≡ result.rate) }
-{
-    match place_of(lines, sought) {
-        Some(place) => stop_at(lines, sought, place),
-        None => Stop {
-            rate: lines[lines.len() - 1].rate,
-            percent: Percent { hundredths: 10000 },
-        },
-    }
-}
-
-// The stop at a line with which the amounts, added up in order, reach the amount sought.
-fn stop_at(lines: &[RateLine], sought: Dollars, place: usize) -> Stop
-    requires order { AreByRate lines.now }
-    requires fits { total_of lines.now ≤ 10 ^ 22 }
-    requires within { place < length lines.now }
-    requires before { total_of (take place lines.now) < sought.value }
-    requires reached { sought.value ≤ total_of (take (place + 1) lines.now) }
-    ensures cut { Reaches (par_of lines.now) sought.value result.rate.steps result.percent.hundredths }
-    ensures stop { (line : RateLine) → (slice_index_or lines.now place line).rate ≡ result.rate }
-{
-    let rate = lines[place].rate;
-    let missing = sought.value - par_under(lines, rate);
-    Stop {
-        rate,
-        percent: percent_of(missing, par_at(lines, rate)),
-    }
-}
-// The place of the line with which the amounts, added up in order, reach the amount sought.
-fn place_of(lines: &[RateLine], sought: Dollars) -> Option<usize>
-    requires fits { total_of lines.now ≤ 10 ^ 22 }
-    requires sought { 0 < sought.value }
-    ensures within { IfSome result (λ place. place < length lines.now) }
-    ensures before { IfSome result (λ place. total_of (take place lines.now) < sought.value) }
-    ensures reached { IfSome result (λ place. sought.value ≤ total_of (take (place + 1) lines.now)) }
-    ensures none { IfNone result (total_of lines.now < sought.value) }
+    ensures { IsStop lines.now sought.value result.steps }
 {
     let mut total = 0;
-    for (place, line) in lines.iter().enumerate() {
+    for line in lines {
         total += line.amount.value;
         if total >= sought.value {
-            return Some(place);
+            return line.rate;
         }
     }
-    None
+    lines[lines.len() - 1].rate
 }
 
-fn par_under(lines: &[RateLine], stop: Rate) -> u128
-    requires { total_of lines.now ≤ 10 ^ 22 }
-    ensures { result ≡ par_of lines.now (under stop.steps) }
+// What is recognised at the rates on one side of the stop, or at it.
+fn par(lines: &[RateLine], stop: Rate, side: Ordering) -> u128
+    requires { par_on side stop.steps lines.now < 2 ^ 128 }
+    ensures { result ≡ par_on side stop.steps lines.now }
 {
-    let mut par = 0;
-    for line in lines {
-        if line.rate.steps < stop.steps {
-            par += line.amount.value;
-        }
-    }
-    par
+    lines
+        .iter()
+        .filter(|line| is_on(line, stop, side))
+        .map(|line| line.amount.value)
+        .sum()
 }
 
-fn par_at(lines: &[RateLine], stop: Rate) -> u128
-    requires { total_of lines.now ≤ 10 ^ 22 }
-    ensures { result ≡ par_of lines.now (at stop.steps) }
+fn is_on(line: &RateLine, stop: Rate, side: Ordering) -> bool
+    ensures { result ≡ on_side side stop.steps line.now.rate.steps }
 {
-    let mut par = 0;
-    for line in lines {
-        if line.rate.steps == stop.steps {
-            par += line.amount.value;
-        }
-    }
-    par
+    line.rate.steps.cmp(&stop.steps) == side
 }
 
-// The least percentage of the share, in hundredths, that reaches what is missing.
-fn percent_of(missing: u128, share: u128) -> Percent
+// The least percentage that reaches what is missing, and 100.00 where all that is recognised at the stop doesn't.
+fn percent_of(missing: u128, at_stop: u128) -> Percent
     requires some { 0 < missing }
-    requires enough { missing ≤ share }
-    requires fits { share ≤ 10 ^ 22 }
-    ensures enough { 10000 * missing ≤ result.hundredths * share }
-    ensures least { (q : ℕ) → 10000 * missing ≤ q * share → result.hundredths ≤ q }
+    requires at_stop { 0 < at_stop }
+    requires fits { at_stop ≤ most_recognised }
+    ensures { IsPercentage missing at_stop result.hundredths }
 {
+    if missing > at_stop {
+        return Percent {
+            hundredths: HUNDRED_PERCENT,
+        };
+    }
     Percent {
-        hundredths: (10000 * missing).div_ceil(share) as u32,
+        hundredths: (HUNDRED_PERCENT as u128 * missing).div_ceil(at_stop) as u32,
     }
 }

@@ -4,16 +4,26 @@
 
 mod awarding;
 mod cutting;
+mod laws;
 mod limits;
 mod outcome;
+mod rates;
 mod recognised;
 mod recognising;
+mod sorted_lines;
 #[cfg(test)]
 mod tests;
+mod uncounted;
 
 pub use awarding::award;
 pub use cutting::cut;
+pub use laws::{
+    awards_are_close, one_award, one_cut, one_rate_of_part, one_recognition, recognised_amounts,
+};
 pub use limits::{cap, limit, sought};
 pub use outcome::{Cut, Outcome};
+pub use rates::{awarded, low_rate, median_rate};
 pub use recognised::Recognised;
 pub use recognising::{recognise, recognise_into};
+pub use sorted_lines::SortedLines;
+pub use uncounted::{recognise_into_uncounted, recognise_uncounted};

@@ -4,7 +4,7 @@ ghost use Rattle.tb_award.specs.Limits.{cap_of, counted, limit_of, sought_of};
 
 use tb_units::Dollars;
 
-/// 35 percent of the offering, a multiple of 100.
+/// 35 percent of the offering, which is a multiple of 100.
 pub fn cap(offering: Dollars) -> Dollars
     requires { offering.value % 100 ≡ 0 }
     ensures { result.value ≡ cap_of offering.value }

@@ -1,5 +1,5 @@
 //! Recognised lines, and the room for them.
-ghost use Rattle.std.specs.Prelude.{◌≡◌, ◌<◌, ◌≤◌, [], length, slice_index_or, All, OnOk};
+ghost use Rattle.std.specs.Prelude.{◌≡◌, ◌<◌, ◌≤◌, [], length, slice_index_or, All, OnOk, IsOk};
 ghost use Rattle.std.specs.List.{AllPairs};
 ghost use Rattle.tb_award.specs.Recognition.{IsEarlier};
 ghost use Rattle.tb_award.specs.Room.{KeepsRoom};
@@ -45,6 +45,8 @@ impl Recognised {
     pub fn reserve(&mut self, lines: u64, bidders: u64) -> Result<(), OutOfMemory>
         ensures line_room { OnOk result (lines ≤ self.new.line_room) }
         ensures bidder_room { OnOk result (bidders ≤ self.new.bidder_room) }
+        // Where the room is there already it succeeds.
+        ensures there { lines ≤ self.old.line_room → bidders ≤ self.old.bidder_room → IsOk result }
         ensures lines { self.new.lines ≡ self.old.lines }
         ensures room { KeepsRoom self.old self.new }
     {

@@ -36,7 +36,7 @@ pub fn recognise<B: Lines, L: Ledger>(
     Ok(recognised)
 }
 
-/// The same into lines that have the room, of which at least as much is left. It takes no memory.
+/// Like `recognise`, into a result that already has the room. It takes no memory, and loses no room.
 pub fn recognise_into<B: Lines, L: Ledger>(
     into: &mut Recognised,
     lines: &B,
@@ -110,7 +110,7 @@ fn recognise_lines<B: Lines, L: Ledger>(
     }
 }
 
-// The bid that is being read behind this line: the same with more, or, once the one before is settled, the line's own.
+// The bid that is read after this line: the old one grown by the line or, once that is settled, the line itself.
 fn read_on(
     recognised: &mut Vec<RateLine>,
     taken: &mut Vec<u128>,

@@ -1,5 +1,4 @@
-pub mod ListLemmas
 pub mod OrderLemmas
 pub mod RateLineLemmas
-pub mod ChangeLemmas
+pub mod CallerLemmas
 pub mod BookLemmas

@@ -1,24 +1,22 @@
 -- The order of lines.
-use Rattle.std.proofs.Common.{◌≡◌, ◌≤◌, ◌⊎◌, ◌&&◌, ◌||◌, ◌↔◌, Bool, true, false, Option, Some, None, List, get_or, AllPairs, Decides, inl, inr, refl, ap, sym, ◌∙◌, subst, eqb, ltb, arith}
-use Rattle.std.proofs.Math.Bridge.{le_prop}
-use mathlib.Core.HLevel.{is_prop→PathP}
+use Rattle.std.proofs.Common.{◌≡◌, ◌⊎◌, ◌&&◌, ◌||◌, ◌↔◌, Bool, true, false, Option, Some, None, List, get_or, AllPairs, Decides, inl, inr, refl, ap, sym, ◌∙◌, subst, eqb, ltb, arith}
 use Rattle.std.specs.Option.{option_eq}
 use Rattle.std.specs.List.Sorted.{IsPartitionedBy}
 use Rattle.std.proofs.lemmas.Bool.{cases_order, cases_eq, false≢true}
 use Rattle.std.proofs.lemmas.Bool.Decides.{Decides-eqb, Decides-ltb, Decides-and, Decides-or, same_from_decides}
+use Rattle.tb_units.specs.Same.{same_rate}
 use Rattle.tb_units.specs.declared.rate.Rate.{Rate}
 use Rattle.tb_book.specs.declared.book_line.BookLine.{BookLine}
 use Rattle.tb_book.specs.Books.{IsLower, IsSmaller, IsEarlier, AreApart}
 
+-- an earlier rate than one that is earlier than a third is earlier than that
 IsLower-trans : (one two three : Option Rate) → IsLower one two → IsLower two three → IsLower one three
 IsLower-trans (Some one) (Some two) (Some three) below above = omega arith
 IsLower-trans (Some one) (Some two) None below above = tt
 IsLower-trans (Some one) None three below above = absurd above
 IsLower-trans None two three below above = absurd below
 
-same_rate : (one other : Rate) → one.steps ≡ other.steps → one ≡ other
-same_rate one other same = λ i. record { steps = same i; in_range = is_prop→PathP (λ j. same j ≤ 199999) (λ j. le_prop) one.in_range other.in_range i }
-
+-- two rates are in order or equal
 cases_rate : (one other : Option Rate) → IsLower one other ⊎ ((one ≡ other) ⊎ IsLower other one)
 cases_rate None None = inr (inl refl)
 cases_rate None (Some other) = inr (inr tt)
@@ -30,6 +28,7 @@ cases_rate (Some one) (Some other) =
       | inr (inr above) ↦ inr (inr above)
     ]
 
+-- the same of bidders and numbers
 IsSmaller-trans : (one two three : BookLine) → IsSmaller one two → IsSmaller two three → IsSmaller one three
 IsSmaller-trans one two three (inl below) (inl above) = inl (omega arith)
 IsSmaller-trans one two three (inl below) (inr above) = inl (omega arith)
@@ -49,6 +48,7 @@ cases_smaller one other apart =
       ]
     ]
 
+-- and of lines
 pub IsEarlier-trans : (one two three : BookLine) → IsEarlier one two → IsEarlier two three → IsEarlier one three
 IsEarlier-trans one two three (inl below) (inl above) = inl (IsLower-trans one.rate two.rate three.rate below above)
 IsEarlier-trans one two three (inl below) (inr above) = inl (subst (IsLower one.rate) above.0 below)
@@ -73,13 +73,16 @@ lower (Some one) (Some other) = ltb one.steps other.steps
 lower (Some one) None = true
 lower None other = false
 
+-- they decide it: for rates
 Decides-lower : (one other : Option Rate) → Decides (lower one other) (IsLower one other)
 unfolding lower
 Decides-lower (Some one) (Some other) = Decides-ltb one.steps other.steps
 Decides-lower (Some one) None = (λ _. tt, λ _. refl)
 Decides-lower None other = (λ is. absurd (false≢true is), λ none. absurd none)
 
-pub Decides-same : (one other : Option Rate) → Decides (option_eq (λ one_rate other_rate. eqb one_rate.steps other_rate.steps) one other) (one ≡ other)
+-- whether two rates are one
+pub Decides-same : (one other : Option Rate)
+    → Decides (option_eq (λ one_rate other_rate. eqb one_rate.steps other_rate.steps) one other) (one ≡ other)
 Decides-same (Some one) (Some other) =
     let steps = Decides-eqb one.steps other.steps in
     (λ is. ap Some (same_rate one other (steps.0 is)), λ equal. steps.1 (let e : one ≡ other = cc in ap (λ (rate : Rate). rate.steps) e))
@@ -87,11 +90,14 @@ Decides-same (Some one) None = (λ is. absurd (false≢true is), λ equal. absur
 Decides-same None (Some other) = (λ is. absurd (false≢true is), λ equal. absurd (cc))
 Decides-same None None = (λ _. refl, λ _. refl)
 
+-- and whether a line is earlier than another
 pub earlier : BookLine → BookLine → Bool
 earlier one other =
     lower one.rate other.rate
-    || (option_eq (λ one_rate other_rate. eqb one_rate.steps other_rate.steps) one.rate other.rate && (ltb one.bidder other.bidder || (eqb one.bidder other.bidder && ltb one.number other.number)))
+    || (option_eq (λ one_rate other_rate. eqb one_rate.steps other_rate.steps) one.rate other.rate
+    && (ltb one.bidder other.bidder || (eqb one.bidder other.bidder && ltb one.number other.number)))
 
+-- it decides the order of lines
 pub Decides-earlier : (one other : BookLine) → Decides (earlier one other) (IsEarlier one other)
 unfolding earlier
 Decides-earlier one other =
@@ -100,11 +106,14 @@ Decides-earlier one other =
     (Decides-or _ _ (Decides-ltb one.bidder other.bidder)
     (Decides-and _ _ (Decides-eqb one.bidder other.bidder) (Decides-ltb one.number other.number))))
 
+-- as any test does that tells it
 pub earlier_from_test : (one other : BookLine) (test : Bool) → ((test ≡ true) ↔ IsEarlier one other) → test ≡ earlier one other
 earlier_from_test one other test tells = same_from_decides test (earlier one other) tells (Decides-earlier one other)
 
 -- the lines that are earlier than a line stand first
-pub IsPartitionedBy-earlier : (line : BookLine) (lines : List BookLine) → AllPairs IsEarlier lines → IsPartitionedBy (λ other. earlier other line) lines
+pub IsPartitionedBy-earlier : (line : BookLine) (lines : List BookLine)
+    → AllPairs IsEarlier lines
+    → IsPartitionedBy (λ other. earlier other line) lines
 IsPartitionedBy-earlier line lines order = λ i j d within short is.
     elim (cases_eq i j) [
       | inl at ↦ rw at is

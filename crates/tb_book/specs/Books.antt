@@ -1,6 +1,7 @@
 -- The sealed book of one auction: its live bids.
-use Rattle.std.specs.Prelude.{◌≡◌, ℕ, ◌^◌, ◌<◌, ◌≤◌, ◌==◌, ◌⊎◌, ◌&&◌, if◌then◌else◌, is_some, is_none, Option, Some, None, List, [], ◌∷◌, ◌++◌, length, slice_index_or, sum_by}
+use Rattle.std.specs.Prelude.{◌≡◌, ℕ, ◌^◌, ◌<◌, ◌≤◌, ◌==◌, ◌⊎◌, ◌&&◌, if◌then◌else◌, Bool, false, is_some, is_none, Option, Some, None, List, [], ◌∷◌, ◌++◌, length, slice_index_or, sum_by}
 use Rattle.std.specs.List.{AllPairs}
+use Rattle.tb_units.specs.Places.{HasOneMore}
 use Rattle.tb_units.specs.declared.amount.Dollars.{Dollars}
 use Rattle.tb_units.specs.declared.rate.Rate.{Rate}
 use Rattle.tb_units.specs.declared.lines.RateLine.{RateLine}
@@ -50,29 +51,36 @@ IsKept book = AreKept book.lines
 -- the bidder's bid of this number is there
 abbrev pub HasBid : ℕ → ℕ → List BookLine → Type 0
 HasBid bidder number lines =
-    (place : ℕ) × (place < length lines) × ((d : BookLine) → ((slice_index_or lines place d).bidder ≡ bidder) × ((slice_index_or lines place d).number ≡ number))
+    (place : ℕ) × (place < length lines)
+    × ((d : BookLine) → ((slice_index_or lines place d).bidder ≡ bidder) × ((slice_index_or lines place d).number ≡ number))
 
 -- the new lines are the old ones with the line among them, in order
 pub record IsInserted (line : BookLine) (old new : List BookLine) : Type 0 where
-  pub front : List BookLine
-  pub back : List BookLine
-  pub old_is : old ≡ front ++ back
-  pub new_is : new ≡ front ++ line ∷ back
+  pub among : HasOneMore line old new
   pub order : AllPairs IsEarlier new
 
 -- the new lines are the old ones without the line
-pub record IsTakenOut (line : BookLine) (old new : List BookLine) : Type 0 where
-  pub front : List BookLine
-  pub back : List BookLine
-  pub old_is : old ≡ front ++ line ∷ back
-  pub new_is : new ≡ front ++ back
+abbrev pub IsTakenOut : BookLine → List BookLine → List BookLine → Type 0
+IsTakenOut line old new = HasOneMore line new old
 
 -- the par of a bidder's lines of a kind
 abbrev pub competitive_of : ℕ → List BookLine → ℕ
-competitive_of bidder lines = sum_by (λ line. if (line.bidder == bidder) && is_some line.rate then line.amount.value else 0) lines
+competitive_of bidder lines =
+    sum_by (λ line. if (line.bidder == bidder) && is_some line.rate then line.amount.value else 0) lines
 
 abbrev pub noncompetitive_of : ℕ → List BookLine → ℕ
-noncompetitive_of bidder lines = sum_by (λ line. if (line.bidder == bidder) && is_none line.rate then line.amount.value else 0) lines
+noncompetitive_of bidder lines =
+    sum_by (λ line. if (line.bidder == bidder) && is_none line.rate then line.amount.value else 0) lines
+
+-- the rate is there, and is this one in steps
+abbrev pub is_at : ℕ → Option Rate → Bool
+is_at steps None = false
+is_at steps (Some rate) = rate.steps == steps
+
+-- the par of a bidder's lines at a rate
+abbrev pub competitive_at : ℕ → ℕ → List BookLine → ℕ
+competitive_at bidder steps lines =
+    sum_by (λ line. if (line.bidder == bidder) && is_at steps line.rate then line.amount.value else 0) lines
 
 -- the par of all noncompetitive lines
 abbrev pub noncompetitive_in : List BookLine → ℕ

@@ -1,5 +1,5 @@
 //! The book of live bids.
-ghost use Rattle.std.specs.Prelude.{◌≡◌, ◌+◌, ◌<◌, ◌≤◌, ◌↔◌, [], OnOk, IfSome, IfNone, IsNone};
+ghost use Rattle.std.specs.Prelude.{◌≡◌, ◌+◌, ◌<◌, ◌≤◌, ◌↔◌, [], ◌∷◌, length, slice_index_or, OnOk, IsOk, IfSome, IfNone, IsNone, IsPermutation};
 ghost use Rattle.tb_book.specs.Books.{HasBid, IsInserted, IsTakenOut, IsKept, competitive_of, noncompetitive_of, noncompetitive_in, par_in, most_bid};
 
 use crate::book_line::{
@@ -42,6 +42,8 @@ impl Book {
     /// Takes the memory for so many more lines. No other call takes memory.
     pub fn reserve(&mut self, more: u64) -> Result<(), OutOfMemory>
         ensures spare { OnOk result (more ≤ self.new.spare) }
+        // Where the room is there already it succeeds.
+        ensures there { more ≤ self.old.spare → IsOk result }
         // The lines stay, and no room is lost, whatever the result.
         ensures lines { self.new.lines ≡ self.old.lines }
         ensures room { self.old.spare ≤ self.new.spare }
@@ -56,6 +58,7 @@ impl Book {
         requires new { ¬ (HasBid line.bidder line.number self.old.lines) }
         requires fits { par_in self.old.lines + line.amount.value ≤ most_bid }
         ensures lines { IsInserted line self.old.lines self.new.lines }
+        ensures elements { IsPermutation (line ∷ self.old.lines) self.new.lines }
         ensures kept { IsKept self.new }
         ensures room { self.old.spare ≤ self.new.spare + 1 }
     {
@@ -67,6 +70,7 @@ impl Book {
     pub fn take_out(&mut self, bidder: u32, number: u64) -> Option<BookLine>
         ensures none { IsNone result ↔ (¬ (HasBid bidder number self.old.lines)) }
         ensures taken { IfSome result (λ line. (line.bidder ≡ bidder) × (line.number ≡ number) × IsTakenOut line self.old.lines self.new.lines) }
+        ensures elements { IfSome result (λ line. IsPermutation self.old.lines (line ∷ self.new.lines)) }
         ensures unchanged { IfNone result (self.new ≡ self.old) }
         ensures kept { IsKept self.new }
         ensures room { self.old.spare ≤ self.new.spare }
@@ -79,6 +83,7 @@ impl Book {
     pub fn totals(&self, bidder: u32) -> (Dollars, Dollars)
         ensures competitive { result.0.value ≡ competitive_of bidder self.now.lines }
         ensures noncompetitive { result.1.value ≡ noncompetitive_of bidder self.now.lines }
+        ensures limited { result.0.value + result.1.value ≤ most_bid }
         ensures kept { IsKept self.now }
     {
         let competitive = Dollars {
@@ -92,7 +97,9 @@ impl Book {
 
     /// The sum of all noncompetitive lines.
     pub fn noncompetitive(&self) -> Dollars
-        ensures { result.value ≡ noncompetitive_in self.now.lines }
+        ensures noncompetitive { result.value ≡ noncompetitive_in self.now.lines }
+        ensures limited { result.value ≤ most_bid }
+        ensures kept { IsKept self.now }
     {
         Dollars {
             value: noncompetitive_par(&self.lines),
@@ -112,7 +119,11 @@ impl Lines for Book {
         count_competitive(&self.lines) as u64
     }
 
-    fn line<L: Ledger>(&self, place: u64, steps: &mut Steps<L>) -> RateLine {
+    fn line<L: Ledger>(&self, place: u64, steps: &mut Steps<L>) -> RateLine
+        requires { place < length (rate_lines self.now.lines) }
+        ensures line { slice_index_or (rate_lines self.now.lines) place result ≡ result }
+        ensures steps { steps.new ≡ steps.old + 1 }
+    {
         steps.tick();
         let line = self.lines[place as usize];
         RateLine {

@@ -6,4 +6,8 @@ use Rattle.tb_award.proofs.tests.may_be_cut.Given as goal
 
 -- the lines so far have prices, and their amounts are added up
 abbrev pub invariant-loop-place : goal.invariant-loop-place
-invariant-loop-place l = (l.total ≡ total_of (take l.place l.recognised.lines)) × (l.total ≤ 10 ^ 22) × ((k : ℕ) (d : RateLine) → k < l.place → HasPrice (get_or l.recognised.lines k d).rate.steps l.days.count)
+invariant-loop-place l = record {
+  sum : l.total ≡ total_of (take l.place l.recognised.lines);
+  fits : l.total ≤ 10 ^ 22;
+  priced : (k : ℕ) (d : RateLine) → k < l.place → HasPrice (get_or l.recognised.lines k d).rate.steps l.days.count;
+}

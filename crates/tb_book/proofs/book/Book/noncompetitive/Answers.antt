@@ -12,7 +12,12 @@ invariant_of-result c =
     let is = rw c.deref.ensures.value at c.noncompetitive_par.ensures in
     record { in_range = omega (arith, is, par_where-le, c.self.invariant.limited) }
 
-pub returns : goal.returns
-returns c =
+pub returns-clause-noncompetitive : goal.returns-clause-noncompetitive
+returns-clause-noncompetitive c =
     let is = rw c.deref.ensures.value at c.noncompetitive_par.ensures in
     rw (← c.self.view_is) (is ∙ par_where-sum is_noncompetitive c.self.inside.lines.items)
+
+pub returns-clause-limited : goal.returns-clause-limited
+returns-clause-limited c =
+    let is = rw c.deref.ensures.value at c.noncompetitive_par.ensures in
+    omega (arith, is, par_where-le is_noncompetitive c.self.inside.lines.items, c.self.invariant.limited)

@@ -1,7 +1,7 @@
 -- What a bidder bids is part of all that is bid, and so within the limit.
 use Rattle.std.proofs.Common.{◌∙◌, arith}
 use Rattle.tb_book.specs.Selections.{is_competitive_of, is_noncompetitive_of}
-use Rattle.tb_book.proofs.BookLemmas.{par_where-sum, par_where-le}
+use Rattle.tb_book.proofs.BookLemmas.{par_where-sum, par_where-le, par_of_bidder-le}
 use Rattle.tb_book.proofs.book.Book.totals.Goals as goal
 
 pub competitive_par_of-requires : goal.competitive_par_of-requires
@@ -29,3 +29,10 @@ pub returns-clause-noncompetitive : goal.returns-clause-noncompetitive
 returns-clause-noncompetitive c =
     let is = rw c.deref-2.ensures.value at c.noncompetitive_par_of.ensures in
     rw (← c.self.view_is) (is ∙ par_where-sum (is_noncompetitive_of c.args.bidder) c.self.inside.lines.items)
+
+pub returns-clause-limited : goal.returns-clause-limited
+returns-clause-limited c =
+    let competitive = rw c.deref.ensures.value at c.competitive_par_of.ensures in
+    let noncompetitive = rw c.deref-2.ensures.value at c.noncompetitive_par_of.ensures in
+    let both = par_of_bidder-le c.args.bidder c.self.inside.lines.items in
+    omega (arith, competitive, noncompetitive, both, c.self.invariant.limited)
