@@ -1,4 +1,6 @@
 pub mod PlaceLemmas
+pub mod AccountLemmas
 pub mod HoldingLemmas
-pub mod PledgeLemmas
+pub mod HolderLemmas
+pub mod MarkLemmas
 pub mod KeptLemmas

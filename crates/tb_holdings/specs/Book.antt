@@ -1,15 +1,15 @@
 -- The book of accounts, as contracts see it (31 CFR Part 357, Subpart B).
-use Rattle.std.specs.Prelude.{◌≡◌, ℕ, ◌+◌, ◌-◌, ◌^◌, ◌≤◌, List, Option, Contains}
+use Rattle.std.specs.Prelude.{◌≡◌, ◌≢◌, ℕ, ◌+◌, ◌-◌, ◌^◌, ◌≤◌, List, Option, Contains}
 use Rattle.tb_holdings.specs.declared.account.Account.{Account}
-use Rattle.tb_holdings.specs.declared.pledge.Pledge.{Pledge}
+use Rattle.tb_holdings.specs.declared.mark.KeptMark.{KeptMark}
 use Rattle.tb_holdings.specs.Holdings.{AreInOrder, HoldSomething, held_in, total_in}
-use Rattle.tb_holdings.specs.Pledges.{MarksAreInOrder, mark_in, pledged_in, open_marks_in}
+use Rattle.tb_holdings.specs.Marks.{MarksAreInOrder, mark_in, pledged_in, open_marks_in}
 
 -- the accounts, the marks on them, the redeemed securities with the accounts that were paid, and how many more
 -- accounts, marks and redemptions there is room for
 pub record Book : Type 0 where
   pub accounts : List Account
-  pub marks : List Pledge
+  pub marks : List KeptMark
   pub redeemed : List ℕ
   pub paid : List Account
   pub spare_accounts : ℕ
@@ -37,7 +37,7 @@ abbrev pub total_of : ℕ → Book → ℕ
 total_of security book = total_in security book.accounts
 
 -- the mark of this holder and number, where there is one
-abbrev pub mark_of : ℕ → ℕ → Book → Option Pledge
+abbrev pub mark_of : ℕ → ℕ → Book → Option KeptMark
 mark_of holder number book = mark_in holder number book.marks
 
 -- how many of the holder's marks have something left
@@ -57,7 +57,8 @@ abbrev pub most_open : ℕ
 most_open = 1000
 
 -- what holds of these lists in every book of accounts
-pub record AreKept (accounts : List Account) (marks : List Pledge) (redeemed : List ℕ) (paid : List Account) : Type 0 where
+pub record AreKept
+    (accounts : List Account) (marks : List KeptMark) (redeemed : List ℕ) (paid : List Account) : Type 0 where
   pub in_order : AreInOrder accounts
   pub none_empty : HoldSomething accounts
   pub marks_in_order : MarksAreInOrder marks
@@ -83,6 +84,25 @@ pub record SameLists (old new : Book) : Type 0 where
   pub marks : new.marks ≡ old.marks
   pub redeemed : new.redeemed ≡ old.redeemed
   pub paid : new.paid ≡ old.paid
+
+-- the call changed accounts at most
+pub record ChangesAccountsOnly (old new : Book) : Type 0 where
+  pub marks : new.marks ≡ old.marks
+  pub redeemed : new.redeemed ≡ old.redeemed
+  pub paid : new.paid ≡ old.paid
+
+-- the call changed marks at most
+pub record ChangesMarksOnly (old new : Book) : Type 0 where
+  pub accounts : new.accounts ≡ old.accounts
+  pub redeemed : new.redeemed ≡ old.redeemed
+  pub paid : new.paid ≡ old.paid
+
+-- the figures of the other securities are as before
+pub record KeepsOthers (security : ℕ) (old new : Book) : Type 0 where
+  pub holdings : (holder other : ℕ) → other ≢ security → held_of holder other new ≡ held_of holder other old
+  pub pledges : (holder other : ℕ) → other ≢ security → pledged_of holder other new ≡ pledged_of holder other old
+  pub payments : (holder other : ℕ) → other ≢ security → paid_of holder other new ≡ paid_of holder other old
+  pub totals : (other : ℕ) → other ≢ security → total_of other new ≡ total_of other old
 
 -- the call took the room of at most so many accounts, marks and redemptions
 pub record TakesRoom (accounts marks redeems : ℕ) (old new : Book) : Type 0 where

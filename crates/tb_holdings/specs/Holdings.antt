@@ -1,7 +1,7 @@
 -- Accounts: what each holder holds of each security, in order of holder and then security.
-use Rattle.std.specs.Prelude.{◌≡◌, ℕ, ◌+◌, ◌-◌, ◌<◌, Bool, true, false, not, ◌&&◌, ◌||◌, ◌==◌, nat_lt, List, [], ◌∷◌, ◌++◌, filter, length, slice_index_or, sum_by, All, AllPairs, if◌then◌else◌}
+use Rattle.std.specs.Prelude.{◌≡◌, ◌≢◌, ℕ, ◌+◌, ◌-◌, ◌<◌, Bool, true, false, not, ◌&&◌, ◌||◌, ◌==◌, nat_lt, List, [], ◌∷◌, ◌++◌, filter, length, slice_index_or, sum_by, All, AllPairs, Contains, if◌then◌else◌}
 use Rattle.tb_holdings.specs.declared.account.Account.{Account}
-use Rattle.tb_holdings.specs.Places.{IsPlace}
+use Rattle.tb_units.specs.Places.{IsPlace}
 
 -- the account is this holder's, of this security
 abbrev pub is_account : ℕ → ℕ → Account → Bool
@@ -41,10 +41,18 @@ held_in holder security accounts = sum_by (λ account. account.held) (filter (is
 abbrev pub total_in : ℕ → List Account → ℕ
 total_in security accounts = sum_by (λ account. account.held) (filter (is_of security) accounts)
 
--- the account with so much held, and none where that is nothing
+-- the holders, each once, and among them everybody who has one of the accounts
+pub record AreHolders (holders : List ℕ) (accounts : List Account) : Type 0 where
+  pub once : AllPairs (λ one other. one ≢ other) holders
+  pub all : All (λ account. Contains holders account.holder) accounts
+
+-- the holder's account of the security, with so much held
+abbrev pub account_with : ℕ → ℕ → ℕ → Account
+account_with holder security held = record { holder = holder; security = security; held = held }
+
+-- that account, and none where nothing is held
 abbrev pub account_of : ℕ → ℕ → ℕ → List Account
-account_of holder security held =
-    if held == 0 then [] else record { holder = holder; security = security; held = held } ∷ []
+account_of holder security held = if held == 0 then [] else account_with holder security held ∷ []
 
 -- the accounts, of which the holder's of this security now holds so much
 unfoldable pub with_held : ℕ → ℕ → ℕ → List Account → List Account

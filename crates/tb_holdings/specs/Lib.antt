@@ -1,5 +1,4 @@
-pub mod Places
 pub mod Holdings
-pub mod Pledges
+pub mod Marks
 pub mod Book
 pub mod Refusals

@@ -1,14 +1,14 @@
 //! Accounts: what each holder holds of each security, in order of holder and then security.
 ghost use Rattle.std.specs.Prelude.{◌≡◌, ◌≢◌, ◌+◌, ◌^◌, ◌<◌, ◌≤◌, ◌++◌, length, filter, vec_len, vec_capacity, IfOk, IfErr};
 ghost use Rattle.tb_holdings.specs.Holdings.{is_of, AreInOrder, held_in, total_in, with_held, moved, without, comes_before, StandsAt, IsMissingAt};
-ghost use Rattle.tb_holdings.specs.Places.{IsPlace};
+ghost use Rattle.tb_units.specs.Places.{IsPlace};
 
 /// What one holder holds of one security. An account with nothing held isn't kept.
 #[derive(Clone, Copy, Debug, PartialEq, Eq)]
 pub struct Account {
     pub holder: u32,
     pub security: u32,
-    // Whole dollars.
+    // Whole dollars. A plain number, since definitions compute it.
     pub held: u128,
 }
 
@@ -60,18 +60,15 @@ pub fn held_by_all(accounts: &[Account], security: u32) -> u128
 
 // The place of the first account that doesn't stand before that of this holder and security.
 fn place_of(accounts: &[Account], holder: u32, security: u32) -> usize
+    requires { AreInOrder accounts.now }
     ensures { IsPlace (comes_before holder security) accounts.now result }
 {
-    for (place, account) in accounts.iter().enumerate() {
-        if !account.comes_before(holder, security) {
-            return place;
-        }
-    }
-    accounts.len()
+    accounts.partition_point(|account| account.comes_before(holder, security))
 }
 
 // Where the account stands, or where it would stand.
 fn find_account(accounts: &[Account], holder: u32, security: u32) -> Result<usize, usize>
+    requires { AreInOrder accounts.now }
     ensures stands { IfOk result (StandsAt holder security accounts.now) }
     ensures missing { IfErr result (IsMissingAt holder security accounts.now) }
 {

@@ -1,16 +1,16 @@
 //! The book of accounts.
-ghost use Rattle.std.specs.Prelude.{ℕ, ◌≡◌, ◌≢◌, ◌+◌, ◌-◌, ◌<◌, ◌≤◌, ◌++◌, ◌∷◌, [], ◌↔◌, None, Some, filter, Contains, OnOk, OnErr, IfOk, IfErr, IfSome, IsOk, IsErr, IsNone, vec_len, vec_capacity};
+ghost use Rattle.std.specs.Prelude.{ℕ, List, sum_by, ◌≡◌, ◌≢◌, ◌+◌, ◌-◌, ◌<◌, ◌≤◌, ◌++◌, ◌∷◌, [], ◌↔◌, None, Some, filter, Contains, OnOk, OnErr, IfOk, IfErr, IfSome, IsOk, IsErr, IsNone, vec_len, vec_capacity};
 ghost use Rattle.std.specs.Option.{option_map};
-ghost use Rattle.tb_holdings.specs.Holdings.{is_of, credited, moved, without};
-ghost use Rattle.tb_holdings.specs.Pledges.{left_at, with_mark, released, cleared};
-ghost use Rattle.tb_holdings.specs.Book.{Book, held_of, pledged_of, free_of, paid_of, total_of, mark_of, open_marks_of, IsRedeemed, most_held, most_open, IsKept, SameLists, TakesRoom};
+ghost use Rattle.tb_holdings.specs.Holdings.{AreHolders, is_of, credited, moved, without};
+ghost use Rattle.tb_holdings.specs.Marks.{new_mark, left_at, with_mark, released, cleared, open_marks_beside};
+ghost use Rattle.tb_holdings.specs.Book.{Book, held_of, pledged_of, free_of, paid_of, total_of, mark_of, open_marks_of, IsRedeemed, most_held, most_open, IsKept, SameLists, ChangesAccountsOnly, ChangesMarksOnly, KeepsOthers, TakesRoom};
 ghost use Rattle.tb_holdings.specs.Refusals.{IsPledgeCause, IsReleaseCause, MayRelease};
 
 use crate::account::{
     Account, close_accounts, held_by, held_by_all, move_held, pay_accounts, set_held,
 };
-use crate::pledge::{
-    Mark, Pledge, add_mark, clear_marks, find_mark, open_marks_by, pledged_by, release_mark,
+use crate::mark::{
+    KeptMark, Mark, add_mark, clear_marks, find_mark, open_marks_by, pledged_by, release_mark,
 };
 use crate::refusals::{InsufficientFree, PledgeRefused, ReleaseRefused};
 use std::alloc::Global;
@@ -23,7 +23,7 @@ use tb_units::{Dollars, OutOfMemory};
 #[derive(Drop)]
 pub struct Accounts {
     accounts: Vec<Account>,
-    marks: Vec<Pledge>,
+    marks: Vec<KeptMark>,
     redeemed: Vec<u32>,
     paid: Vec<Account>,
 }
@@ -40,7 +40,8 @@ impl Model for Accounts {
       marks = a.marks.items;
       redeemed = a.redeemed.items;
       paid = a.paid.items;
-      spare_accounts = min (vec_capacity a.accounts - vec_len a.accounts) (vec_capacity a.paid - (vec_len a.accounts + vec_len a.paid));
+      spare_accounts = min (vec_capacity a.accounts - vec_len a.accounts)
+          (vec_capacity a.paid - (vec_len a.accounts + vec_len a.paid));
       spare_marks = vec_capacity a.marks - vec_len a.marks;
       spare_redeems = vec_capacity a.redeemed - vec_len a.redeemed;
     } };
@@ -89,9 +90,10 @@ impl Accounts {
         requires limit { total_of security self.old + par.value ≤ most_held }
         ensures accounts { self.new.accounts ≡ credited holder security par.value self.old.accounts }
         ensures total { total_of security self.new ≡ total_of security self.old + par.value }
-        ensures marks { self.new.marks ≡ self.old.marks }
-        ensures paid { (self.new.redeemed ≡ self.old.redeemed) × (self.new.paid ≡ self.old.paid) }
+        ensures total_others { (other : ℕ) → other ≢ security → total_of other self.new ≡ total_of other self.old }
+        ensures others { ChangesAccountsOnly self.old self.new }
         ensures room { TakesRoom 1 0 0 self.old self.new }
+        ensures laws { IsKept self.new }
     {
         let held = self.held(holder, security);
         set_held(&mut self.accounts, holder, security, held.value + par.value);
@@ -112,10 +114,11 @@ impl Accounts {
         ensures shows_free { IfErr result (λ refusal. refusal.free.value ≡ free_of from security self.old) }
         ensures moved { OnOk result (self.new.accounts ≡ moved from to security par.value self.old.accounts) }
         ensures total { total_of security self.new ≡ total_of security self.old }
-        ensures marks { self.new.marks ≡ self.old.marks }
-        ensures paid { (self.new.redeemed ≡ self.old.redeemed) × (self.new.paid ≡ self.old.paid) }
+        ensures total_others { (other : ℕ) → other ≢ security → total_of other self.new ≡ total_of other self.old }
+        ensures others { ChangesAccountsOnly self.old self.new }
         ensures unchanged { OnErr result (self.new ≡ self.old) }
         ensures room { TakesRoom 1 0 0 self.old self.new }
+        ensures laws { IsKept self.new }
     {
         let free = self.free(from, security);
         if par.value > free.value {
@@ -139,14 +142,16 @@ impl Accounts {
         requires apart { holder ≢ pledgee }
         requires least { 100 ≤ par.value }
         requires live { ¬ (IsRedeemed security self.old) }
-        ensures pledged { IsOk result ↔ ((par.value ≤ free_of holder security self.old) × (open_marks_of holder self.old < most_open)) }
-        ensures cause { IfErr result (IsPledgeCause (free_of holder security self.old) (open_marks_of holder self.old) par.value) }
-        ensures mark { OnOk result (self.new.marks ≡ with_mark
-            (record { holder = holder; number = number; pledgee = pledgee; security = security; left = par.value }) self.old.marks) }
-        ensures accounts { self.new.accounts ≡ self.old.accounts }
-        ensures paid { (self.new.redeemed ≡ self.old.redeemed) × (self.new.paid ≡ self.old.paid) }
+        ensures pledged { IsOk result
+            ↔ ((par.value ≤ free_of holder security self.old) × (open_marks_of holder self.old < most_open)) }
+        ensures cause { IfErr result
+            (IsPledgeCause (free_of holder security self.old) (open_marks_of holder self.old) par.value) }
+        ensures mark { OnOk result (self.new.marks
+            ≡ with_mark (new_mark holder number pledgee security par.value) self.old.marks) }
+        ensures others { ChangesMarksOnly self.old self.new }
         ensures unchanged { OnErr result (self.new ≡ self.old) }
         ensures room { TakesRoom 0 1 0 self.old self.new }
+        ensures laws { IsKept self.new }
     {
         let free = self.free(holder, security);
         if par.value > free.value {
@@ -155,7 +160,7 @@ impl Accounts {
         if self.open_marks(holder) >= Accounts::MOST_OPEN {
             return Err(PledgeRefused::PledgeQuota);
         }
-        let mark = Pledge {
+        let mark = KeptMark {
             holder,
             number,
             pledgee,
@@ -179,10 +184,10 @@ impl Accounts {
         ensures marks { OnOk result (self.new.marks ≡ released holder number par.value self.old.marks) }
         ensures left { OnOk result (mark_of holder number self.new
             ≡ option_map (left_at (λ mark. mark.left - par.value)) (mark_of holder number self.old)) }
-        ensures accounts { self.new.accounts ≡ self.old.accounts }
-        ensures paid { (self.new.redeemed ≡ self.old.redeemed) × (self.new.paid ≡ self.old.paid) }
+        ensures others { ChangesMarksOnly self.old self.new }
         ensures unchanged { OnErr result (self.new ≡ self.old) }
         ensures room { TakesRoom 0 0 0 self.old self.new }
+        ensures laws { IsKept self.new }
     {
         let Some(mark) = self.mark(holder, number) else {
             return Err(ReleaseRefused::UnknownPledge);
@@ -210,7 +215,11 @@ impl Accounts {
         ensures paid_all { (holder : ℕ) → paid_of holder security self.new ≡ held_of holder security self.old }
         ensures none_held { total_of security self.new ≡ 0 }
         ensures none_pledged { (holder : ℕ) → pledged_of holder security self.new ≡ 0 }
+        ensures others { KeepsOthers security self.old self.new }
+        ensures open_marks { (holder : ℕ)
+            → open_marks_of holder self.new ≡ open_marks_beside security holder self.old.marks }
         ensures room { TakesRoom 0 0 1 self.old self.new }
+        ensures laws { IsKept self.new }
     {
         let total = self.total(security);
         pay_accounts(&self.accounts, security, &mut self.paid);
@@ -223,13 +232,8 @@ impl Accounts {
     /// The mark of this holder and number.
     pub fn mark(&self, holder: u32, number: u64) -> Option<Mark>
         ensures none { IsNone result ↔ (mark_of holder number self.now ≡ None) }
-        ensures found { IfSome result (λ mark. mark_of holder number self.now ≡ Some (record {
-          holder = holder;
-          number = number;
-          pledgee = mark.pledgee;
-          security = mark.security;
-          left = mark.left.value;
-        })) }
+        ensures found { IfSome result (λ mark. mark_of holder number self.now
+            ≡ Some (new_mark holder number mark.pledgee mark.security mark.left.value)) }
         ensures laws { IsKept self.now }
     {
         match find_mark(&self.marks, holder, number) {
@@ -246,6 +250,7 @@ impl Accounts {
     pub fn open_marks(&self, holder: u32) -> u64
         ensures open_marks { result ≡ open_marks_of holder self.now }
         ensures few { result ≤ most_open }
+        ensures laws { IsKept self.now }
     {
         open_marks_by(&self.marks, holder)
     }
@@ -265,6 +270,7 @@ impl Accounts {
     pub fn pledged(&self, holder: u32, security: u32) -> Dollars
         ensures pledged { result.value ≡ pledged_of holder security self.now }
         ensures covered { pledged_of holder security self.now ≤ held_of holder security self.now }
+        ensures laws { IsKept self.now }
     {
         Dollars {
             value: pledged_by(&self.marks, holder, security),
@@ -275,6 +281,7 @@ impl Accounts {
     pub fn free(&self, holder: u32, security: u32) -> Dollars
         ensures free { result.value ≡ free_of holder security self.now }
         ensures whole { result.value + pledged_of holder security self.now ≡ held_of holder security self.now }
+        ensures laws { IsKept self.now }
     {
         Dollars {
             value: self.held(holder, security).value - self.pledged(holder, security).value,
@@ -285,6 +292,7 @@ impl Accounts {
     pub fn paid(&self, holder: u32, security: u32) -> Dollars
         ensures paid { result.value ≡ paid_of holder security self.now }
         ensures not_yet { ¬ (IsRedeemed security self.now) → paid_of holder security self.now ≡ 0 }
+        ensures laws { IsKept self.now }
     {
         Dollars {
             value: held_by(&self.paid, holder, security),
@@ -295,6 +303,8 @@ impl Accounts {
     pub fn total(&self, security: u32) -> Dollars
         ensures total { result.value ≡ total_of security self.now }
         ensures limit { total_of security self.now ≤ most_held }
+        ensures holders { (holders : List ℕ) → AreHolders holders self.now.accounts
+            → sum_by (λ holder. held_of holder security self.now) holders ≡ total_of security self.now }
         ensures none_redeemed { IsRedeemed security self.now → total_of security self.now ≡ 0 }
         ensures laws { IsKept self.now }
     {

@@ -4,11 +4,11 @@
 
 mod account;
 mod accounts;
-mod pledge;
+mod mark;
 mod refusals;
 #[cfg(test)]
 mod tests;
 
 pub use accounts::Accounts;
-pub use pledge::Mark;
+pub use mark::Mark;
 pub use refusals::{InsufficientFree, PledgeRefused, ReleaseRefused};

@@ -1,5 +1,6 @@
+//! Stories of accounts, with figures worked out by hand, and the order of the causes of a refusal.
 ghost use Rattle.std.specs.Prelude.{◌≡◌, ◌≤◌, ◌^◌};
-ghost use Rattle.tb_holdings.specs.Book.{IsRedeemed};
+ghost use Rattle.tb_holdings.specs.Book.{IsRedeemed, most_held, most_open};
 
 use super::*;
 use std::test::Fail;
@@ -11,6 +12,12 @@ fn dollars(value: u128) -> Dollars
 {
     Dollars { value }
 }
+
+// The limits of the definitions, written out.
+fn limits()
+    ensures held { most_held ≡ 10_000_000_000_000_000_000_000 }
+    ensures open_marks { most_open ≡ 1_000 }
+{}
 
 // What the holder holds of security 7, and what of it is pledged and free.
 fn standing(book: &Accounts, holder: u32) -> (u128, u128, u128) {
@@ -91,7 +98,7 @@ fn pledge_hundred(
 fn a_holder_has_at_most_a_thousand_open_marks(rt: HostRuntime) -> Result<(), Fail> {
     let mut book = Accounts::new(rt.alloc());
     book.reserve(1, 0, 0)?;
-    book.credit(1, 7, dollars(1_000_000));
+    book.credit(1, 7, dollars(100_050));
     for number in 1..1001 {
         assert_eq!(rt;
             pledge_hundred(&mut book, number)?,
@@ -100,13 +107,51 @@ fn a_holder_has_at_most_a_thousand_open_marks(rt: HostRuntime) -> Result<(), Fai
         );
     }
     assert_eq!(rt; book.open_marks(1), 1000);
+    // Too little is free, and 1,000 marks are open.
+    assert_eq!(rt;
+        pledge_hundred(&mut book, 1001)?,
+        Some(Err(PledgeRefused::InsufficientFree { free: dollars(50) }))
+    );
+    // A mark with 1 dollar left is open.
+    assert_eq!(rt; book.release(1, 500, 2, dollars(99)), Ok(()));
+    assert_eq!(rt; standing(&book, 1), (100_050, 99_901, 149));
+    assert_eq!(rt; book.open_marks(1), 1000);
     assert_eq!(rt;
         pledge_hundred(&mut book, 1001)?,
         Some(Err(PledgeRefused::PledgeQuota))
     );
-    assert_eq!(rt; book.release(1, 500, 2, dollars(100)), Ok(()));
+    assert_eq!(rt; book.release(1, 500, 2, dollars(1)), Ok(()));
     assert_eq!(rt; book.open_marks(1), 999);
     assert_eq!(rt; pledge_hundred(&mut book, 1001)?, Some(Ok(())));
+    assert_eq!(rt; book.open_marks(1), 1000);
+    Ok(())
+}
+
+#[test]
+fn a_stranger_is_refused_before_too_much_is(rt: HostRuntime) -> Result<(), Fail> {
+    let mut book = Accounts::new(rt.alloc());
+    book.reserve(1, 1, 0)?;
+    book.credit(1, 7, dollars(1000));
+    assert_eq!(rt; book.pledge(1, 12, 2, 7, dollars(500)), Ok(()));
+    assert_eq!(rt;
+        book.release(1, 12, 3, dollars(600)),
+        Err(ReleaseRefused::NotPledgee)
+    );
+    assert_eq!(rt;
+        book.release(1, 12, 2, dollars(600)),
+        Err(ReleaseRefused::MoreThanPledged { left: dollars(500) })
+    );
+    Ok(())
+}
+
+#[test]
+fn all_that_may_be_held_is_credited(rt: HostRuntime) -> Result<(), Fail> {
+    limits();
+    let most = dollars(10_000_000_000_000_000_000_000);
+    let mut book = Accounts::new(rt.alloc());
+    book.reserve(1, 0, 0)?;
+    book.credit(1, 7, most);
+    assert_eq!(rt; book.total(7), most);
     Ok(())
 }
 

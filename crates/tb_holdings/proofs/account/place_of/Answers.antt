@@ -1,11 +1,16 @@
--- One more account stands before.
-use Rattle.std.proofs.Common.{◌≡◌, true, sym, ◌∙◌}
-use Rattle.std.proofs.lemmas.List.Elements.{All-more}
+-- The binary search asks whether an account stands before.
+use Rattle.std.proofs.Common.{rules, tests}
+use Rattle.std.proofs.lemmas.List.Sorted.{IsPartitionPoint-from_clause}
 use Rattle.tb_holdings.specs.Holdings.{comes_before}
+use Rattle.tb_holdings.proofs.PlaceLemmas.{IsPlace-found}
+use Rattle.tb_holdings.proofs.AccountLemmas.{IsPartitionedBy-accounts}
 use Rattle.tb_holdings.proofs.account.place_of.Goals as goal
 
-pub loop-place-preserved : goal.loop-place-preserved
-loop-place-preserved c =
-    All-more (λ account. comes_before c.args.holder c.args.security account ≡ true) c.args.accounts.now c.loop-place.place
-    (record { holder = 0; security = 0; held = 0 }) c.loop-place-test.true c.loop-place.invariant
-    (sym c.comes_before.ensures ∙ c.if-not-comes_before.false)
+pub returns : goal.returns
+returns c =
+    let before = comes_before c.args.holder c.args.security in
+    let found = c.partition_point.result in
+    IsPlace-found before c.args.accounts.now found c.partition_point.ensures.bound
+    (IsPartitionPoint-from_clause before c.args.accounts.now found c.partition_point.ensures.partitioned
+    (IsPartitionedBy-accounts c.args.holder c.args.security c.args.accounts.now c.requires)
+    (λ account answer q k. search (rules, tests)))

@@ -7,12 +7,22 @@ use Rattle.tb_holdings.proofs.accounts.Accounts.held.Goals as goal
 
 pub held_by-requires : goal.held_by-requires
 held_by-requires c =
-    omega (arith, ap (held_in c.args.holder c.args.security) c.deref.ensures.value, held_in-limit c.self.invariant.0 c.args.holder c.args.security)
+    omega (
+      arith,
+      ap (held_in c.args.holder c.args.security) c.deref.ensures.value,
+      held_in-limit c.self.invariant.0 c.args.holder c.args.security,
+    )
 
 pub invariant_of-result : goal.invariant_of-result
 invariant_of-result c = record {
-  in_range = omega (arith, c.held_by.ensures, ap (held_in c.args.holder c.args.security) c.deref.ensures.value, held_in-limit c.self.invariant.0 c.args.holder c.args.security);
+  in_range = omega (
+    arith,
+    c.held_by.ensures,
+    ap (held_in c.args.holder c.args.security) c.deref.ensures.value,
+    held_in-limit c.self.invariant.0 c.args.holder c.args.security,
+  );
 }
 
 pub returns-clause-part : goal.returns-clause-part
-returns-clause-part c = rw (← c.self.view_is) (held_in-le-total_in c.args.holder c.args.security c.self.inside.accounts.items)
+returns-clause-part c =
+    rw (← c.self.view_is) (held_in-le-total_in c.args.holder c.args.security c.self.inside.accounts.items)

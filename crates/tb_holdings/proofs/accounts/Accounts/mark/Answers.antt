@@ -1,7 +1,7 @@
 -- What is left of a mark is pledged, and the mark found is the holder's of that number.
 use Rattle.std.proofs.Common.{◌≡◌, ap, sym, ◌∙◌, Some, arith}
-use Rattle.tb_holdings.specs.Pledges.{mark_in}
-use Rattle.tb_holdings.proofs.PledgeLemmas.{left-le-pledged_in, mark_in-Some}
+use Rattle.tb_holdings.specs.Marks.{mark_in}
+use Rattle.tb_holdings.proofs.MarkLemmas.{left-le-pledged_in, mark_in-Some}
 use Rattle.tb_holdings.proofs.KeptLemmas.{pledged_in-limit}
 use Rattle.tb_holdings.proofs.accounts.Accounts.mark.Goals as goal
 

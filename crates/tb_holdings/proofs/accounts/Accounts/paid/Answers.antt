@@ -6,12 +6,22 @@ use Rattle.tb_holdings.proofs.accounts.Accounts.paid.Goals as goal
 
 pub held_by-requires : goal.held_by-requires
 held_by-requires c =
-    omega (arith, ap (held_in c.args.holder c.args.security) c.deref.ensures.value, paid-limit c.self.invariant.0 c.args.holder c.args.security)
+    omega (
+      arith,
+      ap (held_in c.args.holder c.args.security) c.deref.ensures.value,
+      paid-limit c.self.invariant.0 c.args.holder c.args.security,
+    )
 
 pub invariant_of-result : goal.invariant_of-result
 invariant_of-result c = record {
-  in_range = omega (arith, c.held_by.ensures, ap (held_in c.args.holder c.args.security) c.deref.ensures.value, paid-limit c.self.invariant.0 c.args.holder c.args.security);
+  in_range = omega (
+    arith,
+    c.held_by.ensures,
+    ap (held_in c.args.holder c.args.security) c.deref.ensures.value,
+    paid-limit c.self.invariant.0 c.args.holder c.args.security,
+  );
 }
 
 pub returns-clause-not_yet : goal.returns-clause-not_yet
-returns-clause-not_yet c = rw (← c.self.view_is) (λ live. paid-none c.self.invariant.0 c.args.holder c.args.security live)
+returns-clause-not_yet c =
+    rw (← c.self.view_is) (λ live. paid-none c.self.invariant.0 c.args.holder c.args.security live)

@@ -10,7 +10,15 @@ invariant_of-self c =
     let whole = rw (← c.self.view_is) at c.free-free.ensures.whole in
     let few = rw (← c.self.view_is) at c.open_marks.ensures.open_marks in (
       rw c.add_mark.ensures.marks
-          (AreKept-with_mark _ inside.accounts.items inside.marks.items inside.redeemed.items inside.paid.items
-          c.self.invariant.0 new (omega (arith, whole, c.if-par-free.false)) (omega (arith, few, c.if-open_marks-ge-MOST_OPEN.false))),
+          (AreKept-with_mark _
+          inside.accounts.items inside.marks.items inside.redeemed.items inside.paid.items c.self.invariant.0
+          (record {
+            new = new;
+            free = omega (arith, whole, c.if-par-free.false);
+            few = omega (arith, few, c.if-open_marks-ge-MOST_OPEN.false);
+          })),
       c.self.invariant.1,
     )
+
+pub returns-clause-laws : goal.returns-clause-laws
+returns-clause-laws c = (invariant_of-self c).0

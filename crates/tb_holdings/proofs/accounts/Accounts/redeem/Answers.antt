@@ -1,19 +1,36 @@
 -- The accounts of the security are paid off, so the room that they took is free again.
-use Rattle.std.proofs.Common.{◌≡◌, ◌+◌, ◌≤◌, ◌++◌, not, refl, ap, ◌∙◌, take, drop, filter, length, length-append, vec_len, arith}
+use Rattle.std.proofs.Common.{◌≡◌, ◌+◌, ◌≤◌, ◌++◌, List, not, refl, ap, ◌∙◌, take, drop, filter, length, length-append, vec_len, arith}
 use Rattle.std.proofs.lemmas.List.{take_at}
 use Rattle.std.proofs.lemmas.List.Filters.{length-filter_both}
-use Rattle.tb_holdings.specs.Holdings.{is_of, held_in, total_in}
-use Rattle.tb_holdings.specs.Pledges.{pledged_in, cleared}
-use Rattle.tb_holdings.proofs.PledgeLemmas.{pledged_in-cleared}
-use Rattle.tb_holdings.proofs.KeptLemmas.{AreKept-redeemed, held_in-paid, total_in-without_same}
+use Rattle.tb_holdings.specs.declared.mark.KeptMark.{KeptMark}
+use Rattle.tb_holdings.specs.Holdings.{is_of, held_in, total_in, without}
+use Rattle.tb_holdings.specs.Marks.{pledged_in, open_marks_in, cleared}
+use Rattle.tb_holdings.proofs.MarkLemmas.{pledged_in-cleared, pledged_in-cleared_other, open_marks_in-cleared}
+use Rattle.tb_holdings.proofs.KeptLemmas.{AreKept-redeemed, held_in-paid}
+use Rattle.tb_holdings.proofs.HoldingLemmas.{held_in-without_other, held_in-append_of_other, total_in-without_other, total_in-without_same}
 use Rattle.tb_holdings.proofs.accounts.Accounts.redeem.Goals as goal
 
 -- the accounts that were paid
-paid_items : (c : goal.After-push_reserved) → c.pay_accounts.new.paid.items ≡ c.self.inside.paid.items ++ filter (is_of c.args.security) c.self.inside.accounts.items
-paid_items c = c.pay_accounts.ensures.paid ∙ ap (λ xs. c.self.inside.paid.items ++ filter (is_of c.args.security) xs) c.deref.ensures.value
+paid_items : (c : goal.After-push_reserved)
+    → c.pay_accounts.new.paid.items
+    ≡ c.self.inside.paid.items ++ filter (is_of c.args.security) c.self.inside.accounts.items
+paid_items c =
+    c.pay_accounts.ensures.paid
+    ∙ ap (λ xs. c.self.inside.paid.items ++ filter (is_of c.args.security) xs) c.deref.ensures.value
+
+-- an account leaves or stays
+leave_or_stay : (c : goal.After-push_reserved)
+    → length (filter (is_of c.args.security) c.self.inside.accounts.items)
+    + length (without c.args.security c.self.inside.accounts.items)
+    ≡ length c.self.inside.accounts.items
+leave_or_stay c =
+    length-filter_both (is_of c.args.security) (λ account. not (is_of c.args.security account)) (λ _. refl)
+    c.self.inside.accounts.items
 
 -- each account that leaves is paid
-same_count : (c : goal.After-push_reserved) → vec_len c.close_accounts.new.accounts + vec_len c.pay_accounts.new.paid ≡ vec_len c.self.inside.accounts + vec_len c.self.inside.paid
+same_count : (c : goal.After-push_reserved)
+    → vec_len c.close_accounts.new.accounts + vec_len c.pay_accounts.new.paid
+    ≡ vec_len c.self.inside.accounts + vec_len c.self.inside.paid
 same_count c =
     let inside = c.self.inside in
     omega (
@@ -25,24 +42,28 @@ same_count c =
       ap length c.close_accounts.ensures.accounts,
       ap length (paid_items c),
       length-append inside.paid.items (filter (is_of c.args.security) inside.accounts.items),
-      length-filter_both (is_of c.args.security) (λ account. not (is_of c.args.security account)) (λ _. refl) inside.accounts.items,
+      leave_or_stay c,
     )
 
+-- no account is added
 fewer : (c : goal.After-push_reserved) → vec_len c.close_accounts.new.accounts ≤ vec_len c.self.inside.accounts
 fewer c =
-    let inside = c.self.inside in
     omega (
       arith,
       c.close_accounts.new.accounts.ok.0,
-      inside.accounts.ok.0,
+      c.self.inside.accounts.ok.0,
       ap length c.close_accounts.ensures.accounts,
-      length-filter_both (is_of c.args.security) (λ account. not (is_of c.args.security account)) (λ _. refl) inside.accounts.items,
+      leave_or_stay c,
     )
 
 -- the marks that are written back
-cleared_items : (c : goal.After-push_reserved) → take c.self.inside.marks.len (c.clear_marks.new.marks ++ drop (length c.clear_marks.new.marks) c.self.inside.marks.items) ≡ cleared c.args.security c.self.inside.marks.items
+cleared_items : (c : goal.After-push_reserved)
+    → let written : List KeptMark = c.clear_marks.new.marks in
+    take c.self.inside.marks.len (written ++ drop (length written) c.self.inside.marks.items)
+    ≡ cleared c.args.security c.self.inside.marks.items
 cleared_items c =
-    take_at c.clear_marks.new.marks _ c.self.inside.marks.len (omega (arith, c.clear_marks.auto.marks, c.deref_mut.ensures.len))
+    take_at c.clear_marks.new.marks _ c.self.inside.marks.len
+    (omega (arith, c.clear_marks.auto.marks, c.deref_mut.ensures.len))
     ∙ (c.clear_marks.ensures ∙ ap (cleared c.args.security) c.deref_mut.ensures.value)
 
 pub invariant_of-self : goal.invariant_of-self
@@ -50,14 +71,21 @@ invariant_of-self c =
     let inside = c.self.inside in
     let live = rw (← c.self.view_is) at c.requires.live in (
       rw (c.close_accounts.ensures.accounts, cleared_items c, c.push_reserved.ensures.items, paid_items c)
-          (AreKept-redeemed c.args.security inside.accounts.items inside.marks.items inside.redeemed.items inside.paid.items c.self.invariant.0 live),
+          (AreKept-redeemed c.args.security
+          inside.accounts.items inside.marks.items inside.redeemed.items inside.paid.items c.self.invariant.0 live),
       omega (arith, same_count c, c.pay_accounts.ensures.capacity, c.self.invariant.1),
     )
 
 pub returns-clause-room : goal.returns-clause-room
 returns-clause-room c =
     rw (← c.self.view_is) (record {
-      spare_accounts = omega (arith, fewer c, same_count c, c.pay_accounts.ensures.capacity, c.close_accounts.ensures.capacity);
+      spare_accounts = omega (
+        arith,
+        fewer c,
+        same_count c,
+        c.pay_accounts.ensures.capacity,
+        c.close_accounts.ensures.capacity,
+      );
       spare_marks = omega arith;
       spare_redeems = omega (arith, c.push_reserved.ensures.len, c.push_reserved.ensures.capacity);
     })
@@ -66,12 +94,42 @@ pub returns-clause-paid_all : goal.returns-clause-paid_all
 returns-clause-paid_all c = λ holder.
     let live = rw (← c.self.view_is) at c.requires.live in
     rw (← c.self.view_is)
-    (ap (held_in holder c.args.security) (paid_items c) ∙ held_in-paid c.self.invariant.0 holder c.args.security live)
+    (ap (held_in holder c.args.security) (paid_items c)
+    ∙ held_in-paid c.self.invariant.0 holder c.args.security live)
 
 pub returns-clause-none_held : goal.returns-clause-none_held
 returns-clause-none_held c =
-    ap (total_in c.args.security) c.close_accounts.ensures.accounts ∙ total_in-without_same c.args.security c.self.inside.accounts.items
+    ap (total_in c.args.security) c.close_accounts.ensures.accounts
+    ∙ total_in-without_same c.args.security c.self.inside.accounts.items
 
 pub returns-clause-none_pledged : goal.returns-clause-none_pledged
 returns-clause-none_pledged c = λ holder.
-    ap (pledged_in holder c.args.security) (cleared_items c) ∙ pledged_in-cleared holder c.args.security c.self.inside.marks.items
+    ap (pledged_in holder c.args.security) (cleared_items c)
+    ∙ pledged_in-cleared holder c.args.security c.self.inside.marks.items
+
+pub returns-clause-others : goal.returns-clause-others
+returns-clause-others c =
+    let inside = c.self.inside in
+    rw (← c.self.view_is) (record {
+      holdings = λ holder other differs.
+          ap (held_in holder other) c.close_accounts.ensures.accounts
+          ∙ held_in-without_other holder other c.args.security inside.accounts.items differs;
+      pledges = λ holder other differs.
+          ap (pledged_in holder other) (cleared_items c)
+          ∙ pledged_in-cleared_other holder c.args.security other inside.marks.items differs;
+      payments = λ holder other differs.
+          ap (held_in holder other) (paid_items c)
+          ∙ held_in-append_of_other holder other c.args.security inside.paid.items inside.accounts.items differs;
+      totals = λ other differs.
+          ap (total_in other) c.close_accounts.ensures.accounts
+          ∙ total_in-without_other other c.args.security inside.accounts.items differs;
+    })
+
+pub returns-clause-open_marks : goal.returns-clause-open_marks
+returns-clause-open_marks c = λ holder.
+    rw (← c.self.view_is)
+    (ap (open_marks_in holder) (cleared_items c)
+    ∙ open_marks_in-cleared c.args.security holder c.self.inside.marks.items)
+
+pub returns-clause-laws : goal.returns-clause-laws
+returns-clause-laws c = (invariant_of-self c).0

@@ -1,0 +1,127 @@
+//! Marks: the pledges of each holder, in order of holder and then number.
+ghost use Rattle.std.specs.Prelude.{◌≡◌, ◌+◌, ◌^◌, ◌<◌, ◌≤◌, None, vec_len, vec_capacity};
+ghost use Rattle.tb_holdings.specs.Marks.{MarksAreInOrder, mark_in, pledged_in, open_marks_in, with_mark, released, cleared, precedes};
+ghost use Rattle.tb_units.specs.Places.{IsPlace};
+
+use tb_units::Dollars;
+
+/// What is left of a pledge, of which security, and who may release it.
+#[derive(Clone, Copy, Debug, PartialEq, Eq)]
+pub struct Mark {
+    pub pledgee: u32,
+    pub security: u32,
+    pub left: Dollars,
+}
+
+/// A mark as the book keeps it, under its holder and number. One that was released whole is kept too.
+///
+/// What is left stands in a plain number here: definitions compute it, and a `Dollars` can't be had of a number alone.
+#[derive(Clone, Copy, Debug, PartialEq, Eq)]
+pub struct KeptMark {
+    pub holder: u32,
+    pub number: u64,
+    pub pledgee: u32,
+    pub security: u32,
+    // Whole dollars.
+    pub left: u128,
+}
+
+impl KeptMark {
+    ghost use Rattle.tb_holdings.specs.Marks.{is_mark, precedes, pledges_par, is_open_of};
+
+    fn is_mark(&self, holder: u32, number: u64) -> bool
+        ensures { result ≡ is_mark holder number self.now }
+    {
+        self.holder == holder && self.number == number
+    }
+
+    fn precedes(&self, holder: u32, number: u64) -> bool
+        ensures { result ≡ precedes holder number self.now }
+    {
+        self.holder < holder || (self.holder == holder && self.number < number)
+    }
+
+    fn pledges_par(&self, holder: u32, security: u32) -> bool
+        ensures { result ≡ pledges_par holder security self.now }
+    {
+        self.holder == holder && self.security == security
+    }
+
+    fn is_open_of(&self, holder: u32) -> bool
+        ensures { result ≡ is_open_of holder self.now }
+    {
+        self.holder == holder && self.left > 0
+    }
+}
+
+/// The mark of this holder and number, where there is one.
+pub fn find_mark(marks: &[KeptMark], holder: u32, number: u64) -> Option<KeptMark>
+    ensures { result ≡ mark_in holder number marks.now }
+{
+    marks
+        .iter()
+        .find(|mark| mark.is_mark(holder, number))
+        .copied()
+}
+
+/// What is left of the holder's marks of the security.
+pub fn pledged_by(marks: &[KeptMark], holder: u32, security: u32) -> u128
+    requires { pledged_in holder security marks.now < 2 ^ 128 }
+    ensures { result ≡ pledged_in holder security marks.now }
+{
+    marks
+        .iter()
+        .filter(|mark| mark.pledges_par(holder, security))
+        .map(|mark| mark.left)
+        .sum()
+}
+
+/// How many of the holder's marks have something left.
+pub fn open_marks_by(marks: &[KeptMark], holder: u32) -> u64
+    ensures { result ≡ open_marks_in holder marks.now }
+{
+    marks.iter().filter(|mark| mark.is_open_of(holder)).count() as u64
+}
+
+// The place of the first mark that doesn't stand before that of this holder and number.
+fn mark_place_of(marks: &[KeptMark], holder: u32, number: u64) -> usize
+    requires { MarksAreInOrder marks.now }
+    ensures { IsPlace (precedes holder number) marks.now result }
+{
+    marks.partition_point(|mark| mark.precedes(holder, number))
+}
+
+/// Adds a mark at its place.
+pub fn add_mark(marks: &mut Vec<KeptMark>, mark: KeptMark)
+    requires in_order { MarksAreInOrder marks.old.items }
+    requires room { vec_len marks.old < vec_capacity marks.old }
+    requires new { mark_in mark.holder mark.number marks.old.items ≡ None }
+    ensures marks { marks.new.items ≡ with_mark mark marks.old.items }
+    ensures one_more { vec_len marks.new ≡ vec_len marks.old + 1 }
+    ensures capacity { vec_capacity marks.new ≡ vec_capacity marks.old }
+{
+    let place = mark_place_of(marks, mark.holder, mark.number);
+    marks.insert(place, mark).unwrap();
+}
+
+/// Takes so much from what is left of the mark of this holder and number, or all where less is left.
+pub fn release_mark(marks: &mut [KeptMark], holder: u32, number: u64, par: u128)
+    ensures { marks.new ≡ released holder number par marks.old }
+{
+    for mark in marks.iter_mut() {
+        if mark.is_mark(holder, number) {
+            mark.left = mark.left.saturating_sub(par);
+        }
+    }
+}
+
+/// Leaves nothing of the marks of the security.
+pub fn clear_marks(marks: &mut [KeptMark], security: u32)
+    ensures { marks.new ≡ cleared security marks.old }
+{
+    for mark in marks.iter_mut() {
+        if mark.security == security {
+            mark.left = 0;
+        }
+    }
+}
