@@ -1,2 +1,4 @@
 pub mod Moments
 pub mod Noting
+pub mod ImageLemmas
+pub mod SentenceLemmas

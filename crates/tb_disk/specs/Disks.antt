@@ -17,12 +17,12 @@ after_step step past = option_map (λ older. Then step older) past
 -- a call that took this step
 pub record Takes (step : Step) (old new : DiskState) : Type 0 where
   pub past : new.past ≡ after_step step old.past
-  pub count : NeverFalls old.faults new.faults
+  pub no_fault : new.faults ≡ old.faults
 
 -- a call that leaves the bytes as they were
 pub record LeavesDisk (old new : DiskState) : Type 0 where
   pub past : new.past ≡ old.past
-  pub count : NeverFalls old.faults new.faults
+  pub no_fault : new.faults ≡ old.faults
 
 -- a call that failed and left the bytes as they were
 pub record Fails (old new : DiskState) : Type 0 where

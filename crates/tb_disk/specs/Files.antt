@@ -5,4 +5,4 @@ use Rattle.tb_disk.specs.declared.file_disk.FileDisk.{FileDisk}
 
 -- it tells nothing but its count of faults
 abbrev pub file_disk : FileDisk → DiskState
-file_disk d = record { past = None; faults = d.faults }
+file_disk d = record { past = None; faults = d.faults.count }

@@ -5,3 +5,4 @@ pub mod Notes
 pub mod Logging
 pub mod Memory
 pub mod Files
+pub mod Sentences

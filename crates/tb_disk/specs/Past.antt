@@ -22,7 +22,8 @@ Follows step images c = (d : List ℕ) × images d × step d c
 -- the crash images: what a crash now may leave
 abbrev pub MayLeave : Past → List ℕ → Type 0
 MayLeave (Began first) c = c ≡ first
-MayLeave (Then (Wrote place bytes) older) c = Follows (Torn place (length bytes) (place + length bytes)) (MayLeave older) c
+MayLeave (Then (Wrote place bytes) older) c = Follows (Torn place (length bytes) (place + length bytes))
+    (MayLeave older) c
 MayLeave (Then (Tore place count left) older) c = Follows (Torn place count (length left)) (MayLeave older) c
 MayLeave (Then (CutTo n) older) c = Follows (MaybeCut n) (MayLeave older) c
 MayLeave (Then Synced older) c = c ≡ contents_of older
@@ -47,3 +48,12 @@ pub record Leaves (P : List ℕ → Type 0) (before now : Past) : Type 0 where
   pub each : (c : List ℕ) → LeftSince (moment_of before) now c → P c
   -- for a run that began earlier
   pub earlier : (t : ℕ) (c : List ℕ) → t ≤ moment_of before → LeftSince t now c → LeftSince t before c ⊎ P c
+
+-- a past that calls can make: each writes from within the contents on, a failed one leaves what it may, and each cuts
+-- within the contents
+abbrev pub IsMade : Past → Type 0
+IsMade (Began first) = Unit {0}
+IsMade (Then (Wrote place bytes) older) = (place ≤ length (contents_of older)) × IsMade older
+IsMade (Then (Tore place count left) older) = Torn place count (place + count) (contents_of older) left × IsMade older
+IsMade (Then (CutTo n) older) = (n ≤ length (contents_of older)) × IsMade older
+IsMade (Then Synced older) = IsMade older

@@ -1,5 +1,6 @@
 //! What a disk promises.
-ghost use Rattle.std.specs.Prelude.{◌+◌, ◌^◌, ◌<◌, length, IfOk, OnOk, OnErr};
+ghost use Rattle.std.specs.Prelude.{◌+◌, ◌^◌, ◌<◌, ◌≤◌, length, IfOk, OnOk, OnErr};
+ghost use Rattle.tb_link.specs.Counts.{last_count};
 ghost use Rattle.tb_disk.specs.Steps.{Wrote, CutTo, Synced};
 ghost use Rattle.tb_disk.specs.Disks.{DiskState, Takes, LeavesDisk, Fails, FailsToWrite, FailsToCut, HasLength, Reaches, Gives};
 
@@ -42,4 +43,7 @@ pub trait Disk {
     fn sync(&mut self) -> Result<(), Failed>
         ensures syncs { OnOk result (Takes Synced (disk self.old) (disk self.new)) }
         ensures fails { OnErr result (Fails (disk self.old) (disk self.new)) };
+
+    /// The count of faults is at most its last value.
+    ghost bounded: { (self : Self) → (disk self).faults ≤ last_count };
 }

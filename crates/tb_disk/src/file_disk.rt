@@ -1,39 +1,52 @@
 //! A real file as a disk, which tells nothing.
-ghost use Rattle.std.specs.Prelude.{◌≡◌, ◌+◌, ◌-◌, ◌^◌, ◌<◌, ◌≤◌, true, false, length, IfOk, OnOk, OnErr, IsErr};
-ghost use Rattle.tb_link.specs.Counts.{last_count};
-ghost use Rattle.tb_disk.specs.Steps.{Synced};
-ghost use Rattle.tb_disk.specs.Disks.{Takes, Fails};
+ghost use Rattle.std.specs.Prelude.{◌≡◌, ◌+◌, ◌-◌, ◌^◌, ◌<◌, ◌≤◌, ◌↔◌, true, false, length, Ok, IfOk, OnOk, OnErr, IsErr};
+ghost use Rattle.tb_link.specs.Counts.{counted};
+ghost use Rattle.tb_disk.specs.Steps.{Wrote, CutTo, Synced};
+ghost use Rattle.tb_disk.specs.Disks.{Takes, LeavesDisk, Fails, FailsToWrite, FailsToCut, HasLength, Reaches, Gives};
 
 use crate::disk::Disk;
 use std::fs::File;
 use std::io;
 use std::io::ErrorKind;
 use std::os::unix::fs::FileExt;
-use tb_link::Failed;
+use tb_link::{Failed, Faults};
 
 /// A file of the system. After a sync has failed each later one fails too, until the file is opened again: a system
 /// may drop what it couldn't write, and let the next sync succeed.
 #[derive(Drop)]
 pub struct FileDisk {
     file: File,
-    faults: u64,
+    faults: Faults,
     sync_failed: bool,
-    ghost bounded: { faults ≤ last_count },
 }
 
 impl FileDisk {
     pub fn new(file: File) -> FileDisk
-        ensures { (result.faults ≡ 0) × (result.sync_failed ≡ false) }
+        ensures { (result.faults.count ≡ 0) × (result.sync_failed ≡ false) }
     {
         FileDisk {
             file,
-            faults: 0,
+            faults: Faults::none(),
             sync_failed: false,
+        }
+    }
+
+    // What the file answered. An error of it is one fault more.
+    fn told<T>(&mut self, given: io::Result<T>) -> Result<T, Failed>
+        ensures failed { IsErr result ↔ IsErr given }
+        ensures value { IfOk result (λ value. given ≡ Ok value) }
+        ensures no_fault { OnOk result (self.new.faults ≡ self.old.faults) }
+        ensures one_fault { OnErr result (self.new.faults.count ≡ counted self.old.faults.count) }
+        ensures kept { self.new.sync_failed ≡ self.old.sync_failed }
+    {
+        match given {
+            Ok(value) => Ok(value),
+            Err(_) => Err(self.faults.rise()),
         }
     }
 }
 
-// Reads until the buffer is full or the file ends.
+// Reads until the buffer is full or the file ends, and again where a signal interrupts it.
 fn read_whole(file: &File, place: u64, into: &mut [u8]) -> io::Result<usize>
     ensures { IfOk result (λ count. count ≤ length into.old) }
 {
@@ -57,60 +70,68 @@ impl Disk for FileDisk {
 
     ghost disk = { file_disk };
 
-    fn len(&mut self) -> Result<u64, Failed> {
-        match self.file.metadata() {
-            Ok(metadata) => Ok(metadata.len()),
-            Err(_) => {
-                self.faults = self.faults.saturating_add(1);
-                Err(Failed)
-            }
-        }
+    fn len(&mut self) -> Result<u64, Failed>
+        ensures length { IfOk result (λ n. HasLength (file_disk self.old) n) }
+        ensures same { OnOk result (LeavesDisk (file_disk self.old) (file_disk self.new)) }
+        ensures fails { OnErr result (Fails (file_disk self.old) (file_disk self.new)) }
+        ensures one_fault { OnErr result (self.new.faults.count ≡ counted self.old.faults.count) }
+        ensures kept { self.new.sync_failed ≡ self.old.sync_failed }
+    {
+        let metadata = self.file.metadata();
+        let metadata = self.told(metadata)?;
+        Ok(metadata.len())
     }
 
-    fn read(&mut self, place: u64, into: &mut [u8]) -> Result<usize, Failed> {
-        match read_whole(&self.file, place, into) {
-            Ok(count) => Ok(count),
-            Err(_) => {
-                self.faults = self.faults.saturating_add(1);
-                Err(Failed)
-            }
-        }
+    fn read(&mut self, place: u64, into: &mut [u8]) -> Result<usize, Failed>
+        ensures gives { IfOk result (λ n. Gives (file_disk self.old) place into.old into.new n) }
+        ensures same { OnOk result (LeavesDisk (file_disk self.old) (file_disk self.new)) }
+        ensures fails { OnErr result (Fails (file_disk self.old) (file_disk self.new)) }
+        ensures one_fault { OnErr result (self.new.faults.count ≡ counted self.old.faults.count) }
+        ensures kept { self.new.sync_failed ≡ self.old.sync_failed }
+    {
+        let count = read_whole(&self.file, place, into);
+        self.told(count)
     }
 
-    fn write_at(&mut self, place: u64, bytes: &[u8]) -> Result<(), Failed> {
-        match self.file.write_all_at(bytes, place) {
-            Ok(()) => Ok(()),
-            Err(_) => {
-                self.faults = self.faults.saturating_add(1);
-                Err(Failed)
-            }
-        }
+    fn write_at(&mut self, place: u64, bytes: &[u8]) -> Result<(), Failed>
+        requires place { Reaches (file_disk self.old) place }
+        requires end { place + length bytes.now < 2 ^ 42 }
+        ensures writes { OnOk result (Takes (Wrote place bytes.now) (file_disk self.old) (file_disk self.new)) }
+        ensures fails { OnErr result (FailsToWrite place (length bytes.now) (file_disk self.old) (file_disk self.new)) }
+        ensures one_fault { OnErr result (self.new.faults.count ≡ counted self.old.faults.count) }
+        ensures kept { self.new.sync_failed ≡ self.old.sync_failed }
+    {
+        let written = self.file.write_all_at(bytes, place);
+        self.told(written)
     }
 
-    fn cut(&mut self, len: u64) -> Result<(), Failed> {
-        match self.file.set_len(len) {
-            Ok(()) => Ok(()),
-            Err(_) => {
-                self.faults = self.faults.saturating_add(1);
-                Err(Failed)
-            }
-        }
+    fn cut(&mut self, len: u64) -> Result<(), Failed>
+        requires { Reaches (file_disk self.old) len }
+        ensures cuts { OnOk result (Takes (CutTo len) (file_disk self.old) (file_disk self.new)) }
+        ensures fails { OnErr result (FailsToCut len (file_disk self.old) (file_disk self.new)) }
+        ensures one_fault { OnErr result (self.new.faults.count ≡ counted self.old.faults.count) }
+        ensures kept { self.new.sync_failed ≡ self.old.sync_failed }
+    {
+        let cut = self.file.set_len(len);
+        self.told(cut)
     }
 
     fn sync(&mut self) -> Result<(), Failed>
         ensures syncs { OnOk result (Takes Synced (file_disk self.old) (file_disk self.new)) }
         ensures fails { OnErr result (Fails (file_disk self.old) (file_disk self.new)) }
+        ensures one_fault { OnErr result (self.new.faults.count ≡ counted self.old.faults.count) }
         // Once one has failed, so does each later one.
         ensures stays_failed { self.old.sync_failed ≡ true → IsErr result }
-        ensures noted { OnErr result (self.new.sync_failed ≡ true) }
+        ensures noted { IsErr result ↔ (self.new.sync_failed ≡ true) }
     {
-        // This puts the data and the length on the disk.
-        let synced = !self.sync_failed && self.file.sync_data().is_ok();
-        if !synced {
-            self.sync_failed = true;
-            self.faults = self.faults.saturating_add(1);
-            return Err(Failed);
+        if self.sync_failed {
+            return Err(self.faults.rise());
         }
-        Ok(())
+        // This puts the data and the length on the disk.
+        let synced = self.file.sync_data();
+        self.sync_failed = synced.is_err();
+        self.told(synced)
     }
+
+    ghost bounded = { λ self. self.faults.bounded };
 }

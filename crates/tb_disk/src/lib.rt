@@ -14,5 +14,8 @@ mod tests;
 
 pub use disk::Disk;
 pub use file_disk::FileDisk;
-pub use laws::contents_may_be_left;
+pub use laws::{
+    contents_may_be_left, images_are_those_of_the_sentences, unsynced_may_be_lost,
+    unsynced_may_be_torn,
+};
 pub use memory_disk::MemoryDisk;

@@ -1,10 +1,10 @@
 //! A disk in memory, which tells all that happened to it.
 ghost use Rattle.std.specs.Prelude.{◌≡◌, ◌+◌, ◌-◌, ◌*◌, ◌^◌, ◌<◌, ◌≤◌, ◌↔◌, ◌⊎◌, ◌++◌, [], min, take, drop, length, vec_len, vec_capacity, IfOk, OnOk, OnErr, IsErr, IsTrue, Contains};
-ghost use Rattle.tb_link.specs.Counts.{last_count};
+ghost use Rattle.tb_link.specs.Counts.{counted};
 ghost use Rattle.tb_disk.specs.Steps.{Wrote, CutTo, Synced};
 ghost use Rattle.tb_disk.specs.Past.{Began, contents_of};
 ghost use Rattle.tb_disk.specs.Disks.{Takes, LeavesDisk, Fails, FailsToWrite, FailsToCut, HasLength, Reaches, Gives};
-ghost use Rattle.tb_disk.specs.Notes.{torn_over};
+ghost use Rattle.tb_disk.specs.Notes.{WritesNothing, torn_over};
 ghost use Rattle.tb_disk.specs.Logging.{recorded, taken_of, HasRoom};
 
 use crate::bytes::{put, tear};
@@ -12,7 +12,7 @@ use crate::disk::Disk;
 use crate::log::Log;
 use crate::note::Note;
 use std::alloc::Global;
-use tb_link::Failed;
+use tb_link::{Failed, Faults};
 use tb_units::OutOfMemory;
 
 /// Keeps its bytes, up to its room, and a record of its calls, and fails at stated calls.
@@ -24,15 +24,14 @@ pub struct MemoryDisk {
     room: u64,
     fails: Vec<u64>,
     calls: u64,
-    faults: u64,
+    faults: Faults,
     ghost told: { bytes.items ≡ contents_of (recorded torn log) },
     ghost within: { vec_len bytes ≤ room },
     ghost reserved: { room ≤ vec_capacity bytes },
-    ghost bounded: { faults ≤ last_count },
 }
 
 impl MemoryDisk {
-    ghost use Rattle.tb_disk.specs.Memory.{memory_disk, MustFail, CountsCall};
+    ghost use Rattle.tb_disk.specs.Memory.{memory_disk, MustFail, CountsCall, Passes};
 
     /// A disk with these contents, all of them synced, and at most `room` bytes. A call fails where its number, from
     /// 0, is in `fails`, where it writes past the room, and where the record of `log_room` bytes hasn't 32 bytes
@@ -63,7 +62,7 @@ impl MemoryDisk {
             room,
             fails,
             calls: 0,
-            faults: 0,
+            faults: Faults::none(),
         })
     }
 
@@ -88,24 +87,28 @@ impl MemoryDisk {
         self.fails.contains(&self.calls) || end > self.room
     }
 
-    // A call that does nothing to the bytes.
-    fn pass(&mut self) -> Result<(), Failed>
-        ensures same { OnOk result (LeavesDisk (memory_disk self.old) (memory_disk self.new)) }
+    // A call that writes no bytes, noted as this where it succeeds.
+    fn pass(&mut self, note: Note) -> Result<(), Failed>
+        requires { WritesNothing note }
+        ensures passes { OnOk result (Passes note self.old self.new) }
         ensures fails { OnErr result (Fails (memory_disk self.old) (memory_disk self.new)) }
+        ensures one_fault { OnErr result (self.new.faults.count ≡ counted self.old.faults.count) }
+        ensures unchanged { OnErr result (self.new.bytes ≡ self.old.bytes) }
         ensures exactly { IsErr result ↔ MustFail self.old 0 }
-        ensures unchanged { self.new.bytes ≡ self.old.bytes }
         ensures call { CountsCall 0 self.old self.new }
     {
         let stated = self.fails.contains(&self.calls);
         self.calls = self.calls.saturating_add(1);
         if !self.log.has_room(0) {
-            self.faults = self.faults.saturating_add(1);
-            return Err(Failed);
+            return Err(self.faults.rise());
         }
-        self.log.note(Note::Nothing, &[]);
         if stated {
-            self.faults = self.faults.saturating_add(1);
-            return Err(Failed);
+            self.log.note(Note::Nothing, &[]);
+            return Err(self.faults.rise());
+        }
+        self.log.note(note, &[]);
+        if let Note::Cut { length } = note {
+            self.bytes.truncate(length as usize);
         }
         Ok(())
     }
@@ -132,10 +135,11 @@ impl Disk for MemoryDisk {
         ensures length { IfOk result (λ n. HasLength (memory_disk self.old) n) }
         ensures same { OnOk result (LeavesDisk (memory_disk self.old) (memory_disk self.new)) }
         ensures fails { OnErr result (Fails (memory_disk self.old) (memory_disk self.new)) }
+        ensures one_fault { OnErr result (self.new.faults.count ≡ counted self.old.faults.count) }
         ensures exactly { IsErr result ↔ MustFail self.old 0 }
         ensures call { CountsCall 0 self.old self.new }
     {
-        self.pass()?;
+        self.pass(Note::Nothing)?;
         Ok(self.bytes.len() as u64)
     }
 
@@ -143,10 +147,12 @@ impl Disk for MemoryDisk {
         ensures gives { IfOk result (λ n. Gives (memory_disk self.old) place into.old into.new n) }
         ensures same { OnOk result (LeavesDisk (memory_disk self.old) (memory_disk self.new)) }
         ensures fails { OnErr result (Fails (memory_disk self.old) (memory_disk self.new)) }
+        ensures one_fault { OnErr result (self.new.faults.count ≡ counted self.old.faults.count) }
+        ensures nothing { OnErr result (into.new ≡ into.old) }
         ensures exactly { IsErr result ↔ MustFail self.old 0 }
         ensures call { CountsCall 0 self.old self.new }
     {
-        self.pass()?;
+        self.pass(Note::Nothing)?;
         Ok(fill(&self.bytes, place, into))
     }
 
@@ -155,8 +161,11 @@ impl Disk for MemoryDisk {
         requires end { place + length bytes.now < 2 ^ 42 }
         ensures writes { OnOk result (Takes (Wrote place bytes.now) (memory_disk self.old) (memory_disk self.new)) }
         ensures fails { OnErr result (FailsToWrite place (length bytes.now) (memory_disk self.old) (memory_disk self.new)) }
-        ensures exactly { IsErr result ↔ (MustFail self.old (length bytes.now) ⊎ (self.old.room < place + length bytes.now)) }
-        ensures torn { OnErr result (HasRoom self.old.log (length bytes.now) → self.new.bytes.items ≡ torn_over place (length bytes.now) self.old.torn self.old.bytes.items) }
+        ensures one_fault { OnErr result (self.new.faults.count ≡ counted self.old.faults.count) }
+        ensures exactly { IsErr result
+            ↔ (MustFail self.old (length bytes.now) ⊎ (self.old.room < place + length bytes.now)) }
+        ensures torn { OnErr result (HasRoom self.old.log (length bytes.now)
+            → self.new.bytes.items ≡ torn_over place (length bytes.now) self.old.torn self.old.bytes.items) }
         ensures nothing { (HasRoom self.old.log (length bytes.now) → ⊥) → self.new.bytes ≡ self.old.bytes }
         ensures call { CountsCall (length bytes.now) self.old self.new }
     {
@@ -164,16 +173,14 @@ impl Disk for MemoryDisk {
         let refused = self.is_refused(place + size);
         self.calls = self.calls.saturating_add(1);
         if !self.log.has_room(bytes.len()) {
-            self.faults = self.faults.saturating_add(1);
-            return Err(Failed);
+            return Err(self.faults.rise());
         }
         if refused {
-            self.log.note(Note::TornWrite(place, size), bytes);
+            self.log.note(Note::TornWrite { place, size }, bytes);
             tear(&mut self.bytes, place as usize, bytes.len(), self.torn);
-            self.faults = self.faults.saturating_add(1);
-            return Err(Failed);
+            return Err(self.faults.rise());
         }
-        self.log.note(Note::Write(place, size), bytes);
+        self.log.note(Note::Write { place, size }, bytes);
         put(&mut self.bytes, place as usize, bytes);
         Ok(())
     }
@@ -182,45 +189,24 @@ impl Disk for MemoryDisk {
         requires { Reaches (memory_disk self.old) len }
         ensures cuts { OnOk result (Takes (CutTo len) (memory_disk self.old) (memory_disk self.new)) }
         ensures fails { OnErr result (FailsToCut len (memory_disk self.old) (memory_disk self.new)) }
+        ensures one_fault { OnErr result (self.new.faults.count ≡ counted self.old.faults.count) }
         ensures exactly { IsErr result ↔ MustFail self.old 0 }
         ensures unchanged { OnErr result (self.new.bytes ≡ self.old.bytes) }
         ensures call { CountsCall 0 self.old self.new }
     {
-        let stated = self.fails.contains(&self.calls);
-        self.calls = self.calls.saturating_add(1);
-        if !self.log.has_room(0) {
-            self.faults = self.faults.saturating_add(1);
-            return Err(Failed);
-        }
-        if stated {
-            self.log.note(Note::Nothing, &[]);
-            self.faults = self.faults.saturating_add(1);
-            return Err(Failed);
-        }
-        self.log.note(Note::Cut(len), &[]);
-        self.bytes.truncate(len as usize);
-        Ok(())
+        self.pass(Note::Cut { length: len })
     }
 
     fn sync(&mut self) -> Result<(), Failed>
         ensures syncs { OnOk result (Takes Synced (memory_disk self.old) (memory_disk self.new)) }
         ensures fails { OnErr result (Fails (memory_disk self.old) (memory_disk self.new)) }
+        ensures one_fault { OnErr result (self.new.faults.count ≡ counted self.old.faults.count) }
         ensures exactly { IsErr result ↔ MustFail self.old 0 }
-        ensures unchanged { self.new.bytes ≡ self.old.bytes }
+        ensures unchanged { self.new.bytes.items ≡ self.old.bytes.items }
         ensures call { CountsCall 0 self.old self.new }
     {
-        let stated = self.fails.contains(&self.calls);
-        self.calls = self.calls.saturating_add(1);
-        if !self.log.has_room(0) {
-            self.faults = self.faults.saturating_add(1);
-            return Err(Failed);
-        }
-        if stated {
-            self.log.note(Note::Nothing, &[]);
-            self.faults = self.faults.saturating_add(1);
-            return Err(Failed);
-        }
-        self.log.note(Note::Sync, &[]);
-        Ok(())
+        self.pass(Note::Sync)
     }
+
+    ghost bounded = { λ self. self.faults.bounded };
 }

@@ -1,12 +1,11 @@
 //! What a disk in memory notes of each call.
 
-/// A call as it took place: a write and its place and size, a failed write and its place and size, a cut and its
-/// length, a sync, or a call that did nothing to the bytes.
+/// A call as it took place. A torn write is one that failed.
 #[derive(Clone, Copy, Drop)]
 pub(crate) enum Note {
-    Write(u64, u64),
-    TornWrite(u64, u64),
-    Cut(u64),
+    Write { place: u64, size: u64 },
+    TornWrite { place: u64, size: u64 },
+    Cut { length: u64 },
     Sync,
     Nothing,
 }

@@ -8,38 +8,63 @@ use Rattle.tb_journal.specs.Answers.{Answer, IsTrueOf, SpeaksOfFile, IsExact}
 use Rattle.tb_journal.specs.declared.fault.JournalFault.TheVariants.{DiskFault, NotAJournal, Damaged, OutOfMemory}
 use Rattle.tb_journal.proofs.Spelling.{StandsFor-one, StandsFor-journal, StandsFor-whole, IsDamaged-journal, IsDamaged-one}
 
-one_found : (file : List ℕ) (ps : List (List ℕ)) (other : Answer) → StandsFor ps file → IsTrueOf file other → SpeaksOfFile other → Ok ps ≡ other
-one_found file ps (Ok qs) is also speaks = ap Ok (StandsFor-one ps qs file is also)
-one_found file ps (Err (NotAJournal found)) is also speaks = absurd (StandsFor-journal ps file found is also)
-one_found file ps (Err (Damaged place)) is also speaks = absurd (StandsFor-whole ps file place is also)
-one_found file ps (Err DiskFault) is also speaks = absurd (speaks.0 refl)
-one_found file ps (Err OutOfMemory) is also speaks = absurd (speaks.1 refl)
+-- a file that stands for a list has no other answer
+one_found : (file : List ℕ) (payloads : List (List ℕ)) (other : Answer) → StandsFor payloads file → IsTrueOf file other
+    → SpeaksOfFile other → Ok payloads ≡ other
+one_found file payloads (Ok others) is also speaks = ap Ok (StandsFor-one payloads others file is also)
+one_found file payloads (Err (NotAJournal found)) is also speaks =
+    absurd (StandsFor-journal payloads file found is also)
+one_found file payloads (Err (Damaged place)) is also speaks = absurd (StandsFor-whole payloads file place is also)
+one_found file payloads (Err DiskFault) is also speaks = absurd (speaks.0 refl)
+one_found file payloads (Err OutOfMemory) is also speaks = absurd (speaks.1 refl)
 
-one_foreign : (file found : List ℕ) (other : Answer) → IsNoJournal file found → IsTrueOf file other → SpeaksOfFile other → Err (NotAJournal found) ≡ other
-one_foreign file found (Ok qs) is also speaks = absurd (StandsFor-journal qs file found also is)
-one_foreign file found (Err (NotAJournal seen)) is also speaks = ap (λ (l : List ℕ). Err (NotAJournal l)) (is.begins ∙ sym also.begins)
+-- a file that is no journal has no other answer
+one_foreign : (file found : List ℕ) (other : Answer) → IsNoJournal file found → IsTrueOf file other → SpeaksOfFile other
+    → Err (NotAJournal found) ≡ other
+one_foreign file found (Ok others) is also speaks = absurd (StandsFor-journal others file found also is)
+one_foreign file found (Err (NotAJournal seen)) is also speaks = ap (λ (list : List ℕ). Err (NotAJournal list))
+    (is.begins ∙ sym also.begins)
 one_foreign file found (Err (Damaged place)) is also speaks = absurd (IsDamaged-journal file found place also is)
 one_foreign file found (Err DiskFault) is also speaks = absurd (speaks.0 refl)
 one_foreign file found (Err OutOfMemory) is also speaks = absurd (speaks.1 refl)
 
-one_damaged : (file : List ℕ) (place : ℕ) (other : Answer) → IsDamaged file place → IsTrueOf file other → SpeaksOfFile other → Err (Damaged place) ≡ other
-one_damaged file place (Ok qs) is also speaks = absurd (StandsFor-whole qs file place also is)
+-- a damaged file has no other answer
+one_damaged : (file : List ℕ) (place : ℕ) (other : Answer) → IsDamaged file place → IsTrueOf file other
+    → SpeaksOfFile other → Err (Damaged place) ≡ other
+one_damaged file place (Ok others) is also speaks = absurd (StandsFor-whole others file place also is)
 one_damaged file place (Err (NotAJournal found)) is also speaks = absurd (IsDamaged-journal file found place is also)
-one_damaged file place (Err (Damaged other)) is also speaks = ap (λ (n : ℕ). Err (Damaged n)) (IsDamaged-one file place other is also)
+one_damaged file place (Err (Damaged other)) is also speaks = ap (λ (place : ℕ). Err (Damaged place))
+    (IsDamaged-one file place other is also)
 one_damaged file place (Err DiskFault) is also speaks = absurd (speaks.0 refl)
 one_damaged file place (Err OutOfMemory) is also speaks = absurd (speaks.1 refl)
 
+-- a true answer is the only one
 pub IsExact-true : (file : List ℕ) (answer : Answer) → IsTrueOf file answer → IsExact file answer
-IsExact-true file (Ok ps) is = record { is_true = is; only = λ other also speaks _. one_found file ps other is also speaks }
-IsExact-true file (Err (NotAJournal found)) is = record { is_true = is; only = λ other also speaks _. one_foreign file found other is also speaks }
-IsExact-true file (Err (Damaged place)) is = record { is_true = is; only = λ other also speaks _. one_damaged file place other is also speaks }
+IsExact-true file (Ok payloads) is = record {
+  is_true = is;
+  only =
+      λ other also speaks _. one_found file payloads other is also speaks;
+}
+IsExact-true file (Err (NotAJournal found)) is = record {
+  is_true = is;
+  only =
+      λ other also speaks _. one_foreign file found other is also speaks;
+}
+IsExact-true file (Err (Damaged place)) is = record {
+  is_true = is;
+  only =
+      λ other also speaks _. one_damaged file place other is also speaks;
+}
 IsExact-true file (Err DiskFault) is = record { is_true = is; only = λ other also speaks self. absurd (self.0 refl) }
 IsExact-true file (Err OutOfMemory) is = record { is_true = is; only = λ other also speaks self. absurd (self.1 refl) }
 
 -- what is told of the disk as it was
-pub exact_told : (answer : Answer) (P : Past → Past → Type 0) (old new : DiskState) → ((before now : Past) → P before now → IsTrueOf (contents_of before) answer) → Told old new P → IfSome old.past (λ past. IsExact (contents_of past) answer)
+pub exact_told : (answer : Answer) (P : Past → Past → Type 0) (old new : DiskState)
+    → ((before now : Past) → P before now → IsTrueOf (contents_of before) answer) → Told old new P
+    → IfSome old.past (λ past. IsExact (contents_of past) answer)
 exact_told answer P old new is_true told = go old.past refl
   where
     go : (past : Option Past) → old.past ≡ past → IfSome past (λ past. IsExact (contents_of past) answer)
-    go None e = tt
-    go (Some past) e = (let t = told.told past e in IsExact-true (contents_of past) answer (is_true past t.0 t.2))
+    go None now = tt
+    go (Some past) now = (let first = told.told past now in IsExact-true (contents_of past) answer
+        (is_true past first.0 first.2))

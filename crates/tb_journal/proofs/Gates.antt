@@ -7,90 +7,175 @@ use Rattle.tb_journal.specs.Frames.{header, framed, frames, front, IsPayload, Ar
 use Rattle.tb_journal.specs.Image.{IsFramed, StandsFor}
 use Rattle.tb_journal.specs.Journal.{IsDoubtful, WithOrWithout}
 
-frames_push : (ps : List (List ℕ)) (p rest : List ℕ) → frames (ps ++ p ∷ []) ++ rest ≡ frames ps ++ 1 ∷ (framed p ++ rest)
-frames_push [] p rest = ap (λ (l : List ℕ). 1 ∷ l) (append_assoc (framed p) [] rest)
-frames_push (q ∷ ps) p rest = ap (λ (l : List ℕ). 1 ∷ l) (append_assoc (framed q) (frames (ps ++ p ∷ [])) rest ∙ (ap (λ (l : List ℕ). framed q ++ l) (frames_push ps p rest) ∙ sym (append_assoc (framed q) (frames ps) (1 ∷ (framed p ++ rest)))))
+-- one more frame, and what is behind it, without the header
+frames_push : (payloads : List (List ℕ)) (payload rest : List ℕ)
+    → frames (payloads ++ payload ∷ []) ++ rest ≡ frames payloads ++ 1 ∷ (framed payload ++ rest)
+frames_push [] payload rest = ap (λ (list : List ℕ). 1 ∷ list) (append_assoc (framed payload) [] rest)
+frames_push (first ∷ payloads) payload rest = ap (λ (list : List ℕ). 1 ∷ list)
+    (append_assoc (framed first) (frames (payloads ++ payload ∷ [])) rest
+    ∙ (ap (λ (list : List ℕ). framed first ++ list) (frames_push payloads payload rest)
+    ∙ sym (append_assoc (framed first) (frames payloads) (1 ∷ (framed payload ++ rest)))))
 
 -- one more frame, and what is behind it
-pub front_push : (ps : List (List ℕ)) (p rest : List ℕ) → front (ps ++ p ∷ []) ++ rest ≡ front ps ++ 1 ∷ (framed p ++ rest)
-front_push ps p rest = append_assoc header (frames (ps ++ p ∷ [])) rest ∙ (ap (λ (l : List ℕ). header ++ l) (frames_push ps p rest) ∙ sym (append_assoc header (frames ps) (1 ∷ (framed p ++ rest))))
+pub front_push : (payloads : List (List ℕ)) (payload rest : List ℕ)
+    → front (payloads ++ payload ∷ []) ++ rest ≡ front payloads ++ 1 ∷ (framed payload ++ rest)
+front_push payloads payload rest = append_assoc header (frames (payloads ++ payload ∷ [])) rest
+    ∙ (ap (λ (list : List ℕ). header ++ list) (frames_push payloads payload rest)
+    ∙ sym (append_assoc header (frames payloads) (1 ∷ (framed payload ++ rest))))
 
-pub length-front_push : (ps : List (List ℕ)) (p : List ℕ) → length (front (ps ++ p ∷ [])) ≡ length (front ps) + 1 + length (framed p)
-length-front_push ps p = let e = ap length (front_push ps p []) in omega (arith, e, length-append (front (ps ++ p ∷ [])) [], length-append (front ps) (1 ∷ (framed p ++ [])), length-append (framed p) [])
+-- how long one more frame is
+pub length-front_push : (payloads : List (List ℕ)) (payload : List ℕ)
+    → length (front (payloads ++ payload ∷ [])) ≡ length (front payloads) + 1 + length (framed payload)
+length-front_push payloads payload = let same = ap length (front_push payloads payload []) in
+    omega (
+      arith,
+      same,
+      length-append (front (payloads ++ payload ∷ [])) [],
+      length-append (front payloads) (1 ∷ (framed payload ++ [])),
+      length-append (framed payload) [],
+    )
 
-pub ArePayloads-push : (ps : List (List ℕ)) (p : List ℕ) → ArePayloads ps → IsPayload p → ArePayloads (ps ++ p ∷ [])
-ArePayloads-push [] p are is = (is, tt)
-ArePayloads-push (q ∷ ps) p are is = (are.0, ArePayloads-push ps p are.1 is)
+-- one more payload
+pub ArePayloads-push : (payloads : List (List ℕ)) (payload : List ℕ) → ArePayloads payloads → IsPayload payload
+    → ArePayloads (payloads ++ payload ∷ [])
+ArePayloads-push [] payload are is = (is, tt)
+ArePayloads-push (first ∷ payloads) payload are is = (are.0, ArePayloads-push payloads payload are.1 is)
 
+-- the header is 16 bytes
 pub length-header : length header ≡ 16
 unfolding header
 length-header = refl
 
 -- what is framed stands for its payloads
-pub IsFramed-stands : (ps : List (List ℕ)) (c : List ℕ) → IsFramed ps c → StandsFor ps c
-IsFramed-stands [] c f = elim (cases_lt 17 (length c)) [
-  | inl long ↦ inr (long, f)
+pub IsFramed-stands : (payloads : List (List ℕ)) (file : List ℕ) → IsFramed payloads file → StandsFor payloads file
+IsFramed-stands [] file framing = elim (cases_lt 17 (length file)) [
+  | inl long ↦ inr (long, framing)
   | inr short ↦ inl (short, refl)
 ]
-IsFramed-stands (p ∷ ps) c f = inr (omega (arith, ap length f.is, length-append (front (p ∷ ps)) (f.gate ∷ f.rest), length-append header (frames (p ∷ ps)), length-append (framed p) (frames ps), length-header, f.sizes.0.some), f)
+IsFramed-stands (payload ∷ payloads) file framing = inr (
+  omega (
+    arith,
+    ap length framing.is,
+    length-append (front (payload ∷ payloads)) (framing.gate ∷ framing.rest),
+    length-append header (frames (payload ∷ payloads)),
+    length-append (framed payload) (frames payloads),
+    length-header,
+    framing.sizes.0.some,
+  ),
+  framing,
+)
 
-pub doubtful_stands : (ps : List (List ℕ)) (p c : List ℕ) → IsDoubtful ps p c → WithOrWithout ps p c
-doubtful_stands ps p c d = elim (cases_eq d.gate 1) [
-  | inl one ↦ (let w = d.whole one in inr (IsFramed-stands (ps ++ p ∷ []) c record {
-    sizes = ArePayloads-push ps p d.sizes d.size;
-    gate = w.0;
-    rest = w.1;
-    is = d.is ∙ (ap (λ (g : ℕ). front ps ++ g ∷ d.rest) one ∙ (ap (λ (l : List ℕ). front ps ++ 1 ∷ l) w.2 ∙ sym (front_push ps p (w.0 ∷ w.1))));
-    closed = w.3;
+-- a file in doubt stands for the payloads with one more or without it
+pub doubtful_stands : (payloads : List (List ℕ)) (payload file : List ℕ) → IsDoubtful payloads payload file
+    → WithOrWithout payloads payload file
+doubtful_stands payloads payload file doubt = elim (cases_eq doubt.gate 1) [
+  | inl one ↦ (let whole = doubt.whole one in inr (IsFramed-stands (payloads ++ payload ∷ []) file record {
+    sizes = ArePayloads-push payloads payload doubt.sizes doubt.size;
+    gate = whole.0;
+    rest = whole.1;
+    is = doubt.is ∙ (ap (λ (byte : ℕ). front payloads ++ byte ∷ doubt.rest) one
+        ∙ (ap (λ (list : List ℕ). front payloads ++ 1 ∷ list) whole.2
+        ∙ sym (front_push payloads payload (whole.0 ∷ whole.1))));
+    closed = whole.3;
   }))
-  | inr shut ↦ inl (IsFramed-stands ps c record { sizes = d.sizes; gate = d.gate; rest = d.rest; is = d.is; closed = shut })
+  | inr shut ↦ inl (IsFramed-stands payloads file record {
+    sizes = doubt.sizes;
+    gate = doubt.gate;
+    rest =
+        doubt.rest;
+    is = doubt.is;
+    closed = shut;
+  })
 ]
 
-pub closed_doubtful : (ps : List (List ℕ)) (p c : List ℕ) → IsPayload p → IsFramed ps c → IsDoubtful ps p c
-closed_doubtful ps p c size s = record { sizes = s.sizes; size = size; gate = s.gate; rest = s.rest; is = s.is; whole = λ one. absurd (s.closed one) }
+-- a framed file, seen as one in doubt whose gate is closed
+pub closed_doubtful : (payloads : List (List ℕ)) (payload file : List ℕ) → IsPayload payload → IsFramed payloads file
+    → IsDoubtful payloads payload file
+closed_doubtful payloads payload file size framing = record {
+  sizes = framing.sizes;
+  size = size;
+  gate =
+      framing.gate;
+  rest = framing.rest;
+  is = framing.is;
+  whole = λ one. absurd (framing.closed one);
+}
 
-module _ (ps : List (List ℕ)) (gate : ℕ) (place : length (front ps) ≡ gate) where
-  head_at : (g : ℕ) (rest : List ℕ) → take (gate + 1) (front ps ++ g ∷ rest) ≡ front ps ++ g ∷ []
-  head_at g rest = ap (λ (l : List ℕ). take (gate + 1) l) (sym (append_assoc (front ps) (g ∷ []) rest)) ∙ take_at (front ps ++ g ∷ []) rest (gate + 1) (omega (arith, length-append (front ps) (g ∷ []), place))
+module _ (payloads : List (List ℕ)) (gate : ℕ) (place : length (front payloads) ≡ gate) where
+  -- the file up to its gate
+  head_at : (byte : ℕ) (rest : List ℕ) → take (gate + 1) (front payloads ++ byte ∷ rest) ≡ front payloads ++ byte ∷ []
+  head_at byte rest = ap (λ (list : List ℕ). take (gate + 1) list)
+      (sym (append_assoc (front payloads) (byte ∷ []) rest)) ∙ take_at (front payloads ++ byte ∷ []) rest (gate + 1)
+      (omega (arith, length-append (front payloads) (byte ∷ []), place))
 
-  tail_at : (g : ℕ) (rest : List ℕ) → drop (gate + 1) (front ps ++ g ∷ rest) ≡ rest
-  tail_at g rest = ap (λ (l : List ℕ). drop (gate + 1) l) (sym (append_assoc (front ps) (g ∷ []) rest)) ∙ drop_at (front ps ++ g ∷ []) rest (gate + 1) (omega (arith, length-append (front ps) (g ∷ []), place))
+  -- the file behind its gate
+  tail_at : (byte : ℕ) (rest : List ℕ) → drop (gate + 1) (front payloads ++ byte ∷ rest) ≡ rest
+  tail_at byte rest = ap (λ (list : List ℕ). drop (gate + 1) list)
+      (sym (append_assoc (front payloads) (byte ∷ []) rest)) ∙ drop_at (front payloads ++ byte ∷ []) rest (gate + 1)
+      (omega (arith, length-append (front payloads) (byte ∷ []), place))
 
   -- a write behind the gate leaves the gate
-  pub torn_behind : (n longest : ℕ) (d c : List ℕ) → IsFramed ps d → Torn (gate + 1) n longest d c → IsFramed ps c
-  torn_behind n longest d c s torn = record {
-    sizes = s.sizes;
-    gate = s.gate;
-    rest = drop (gate + 1) c;
-    is = sym (take-append-drop (gate + 1) c)
-        ∙ (ap (λ (l : List ℕ). l ++ drop (gate + 1) c) (torn.before ∙ (ap (λ (l : List ℕ). take (gate + 1) l) s.is ∙ head_at s.gate s.rest)) ∙ append_assoc (front ps) (s.gate ∷ []) (drop (gate + 1) c));
-    closed = s.closed;
+  pub torn_behind : (count longest : ℕ) (file image : List ℕ) → IsFramed payloads file
+      → Torn (gate + 1) count longest file image → IsFramed payloads image
+  torn_behind count longest file image framing torn = record {
+    sizes = framing.sizes;
+    gate = framing.gate;
+    rest = drop (gate + 1) image;
+    is = sym (take-append-drop (gate + 1) image)
+        ∙ (ap (λ (list : List ℕ). list ++ drop (gate + 1) image)
+        (torn.before ∙ (ap (λ (list : List ℕ). take (gate + 1) list) framing.is
+        ∙ head_at framing.gate framing.rest)) ∙ append_assoc (front payloads) (framing.gate ∷ [])
+        (drop (gate + 1) image));
+    closed = framing.closed;
   }
 
   -- what a write of a frame and a closed gate behind the gate makes
-  pub written_behind : (p d : List ℕ) (s : IsFramed ps d) → over (gate + 1) (framed p ++ 0 ∷ []) d ≡ front ps ++ s.gate ∷ (framed p ++ 0 ∷ drop (gate + 1 + length (framed p ++ 0 ∷ [])) d)
-  written_behind p d s = let block : List ℕ = framed p ++ 0 ∷ [] in let more : List ℕ = drop (gate + 1 + length block) d in
-      ap (λ (l : List ℕ). l ++ (block ++ more)) (ap (λ (l : List ℕ). take (gate + 1) l) s.is ∙ head_at s.gate s.rest)
-      ∙ (append_assoc (front ps) (s.gate ∷ []) (block ++ more) ∙ ap (λ (l : List ℕ). front ps ++ s.gate ∷ l) (append_assoc (framed p) (0 ∷ []) more))
+  pub written_behind : (payload file : List ℕ) (framing : IsFramed payloads file)
+      → over (gate + 1) (framed payload ++ 0 ∷ []) file ≡ front
+      payloads ++ framing.gate ∷ (framed payload ++ 0 ∷ drop (gate + 1 + length (framed payload ++ 0 ∷ [])) file)
+  written_behind payload file framing = let block : List ℕ = framed payload ++ 0 ∷ [] in
+      let more : List ℕ = drop (gate + 1 + length block) file in
+      ap (λ (list : List ℕ). list ++ (block ++ more)) (ap (λ (list : List ℕ). take (gate + 1) list) framing.is
+      ∙ head_at framing.gate framing.rest)
+      ∙ (append_assoc (front payloads) (framing.gate ∷ []) (block ++ more)
+      ∙ ap (λ (list : List ℕ). front payloads ++ framing.gate ∷ list) (append_assoc (framed payload) (0 ∷ []) more))
 
   -- a write of the gate alone leaves the frame
-  pub torn_gate : (p more d c : List ℕ) (g longest : ℕ) → ArePayloads ps → IsPayload p → d ≡ front ps ++ g ∷ (framed p ++ 0 ∷ more) → Torn gate 1 longest d c → IsDoubtful ps p c
-  torn_gate p more d c g longest sizes size is torn =
-      let long : gate < length d = omega (arith, ap length is, length-append (front ps) (g ∷ (framed p ++ 0 ∷ more)), place) in
-      let rest : drop (gate + 1) c ≡ framed p ++ 0 ∷ more = torn.behind ∙ (ap (λ (l : List ℕ). drop (gate + 1) l) is ∙ tail_at g (framed p ++ 0 ∷ more)) in
-      let start : take gate c ≡ front ps = torn.before ∙ (ap (λ (l : List ℕ). take gate l) is ∙ take_at (front ps) (g ∷ (framed p ++ 0 ∷ more)) gate place) in
-      let behind : drop gate c ≡ get_or c gate 0 ∷ (framed p ++ 0 ∷ more) = drop_more c gate 0 (omega (arith, torn.no_shorter)) ∙ ap (λ (l : List ℕ). get_or c gate 0 ∷ l) rest in
+  pub torn_gate : (payload more file image : List ℕ) (byte longest : ℕ) → ArePayloads payloads → IsPayload payload
+      → file ≡ front payloads ++ byte ∷ (framed payload ++ 0 ∷ more) → Torn gate 1 longest file image
+      → IsDoubtful payloads payload image
+  torn_gate payload more file image byte longest sizes size is torn =
+      let long : gate < length file = omega (
+        arith,
+        ap length is,
+        length-append (front payloads) (byte ∷ (framed payload ++ 0 ∷ more)),
+        place,
+      ) in
+      let rest : drop (gate + 1) image ≡ framed payload ++ 0 ∷ more = torn.behind
+      ∙ (ap (λ (list : List ℕ). drop (gate + 1) list) is ∙ tail_at byte (framed payload ++ 0 ∷ more)) in
+      let start : take gate image ≡ front payloads = torn.before
+      ∙ (ap (λ (list : List ℕ). take gate list) is ∙ take_at (front payloads)
+      (byte ∷ (framed payload ++ 0 ∷ more)) gate place) in
+      let behind : drop gate image ≡ get_or image gate 0 ∷ (framed payload ++ 0 ∷ more) =
+      drop_more image gate 0 (omega (arith, torn.no_shorter))
+      ∙ ap (λ (list : List ℕ). get_or image gate 0 ∷ list) rest in
       record {
         sizes = sizes;
         size = size;
-        gate = get_or c gate 0;
-        rest = framed p ++ 0 ∷ more;
-        is = sym (take-append-drop gate c) ∙ (ap (λ (l : List ℕ). l ++ drop gate c) start ∙ ap (λ (l : List ℕ). front ps ++ l) behind);
-        whole = λ one. (0, more, refl, λ e. omega arith);
+        gate = get_or image gate 0;
+        rest = framed payload ++ 0 ∷ more;
+        is = sym (take-append-drop gate image) ∙ (ap (λ (list : List ℕ). list ++ drop gate image) start
+            ∙ ap (λ (list : List ℕ). front payloads ++ list) behind);
+        whole = λ one. (0, more, refl, λ same. omega arith);
       }
 
   -- what a write of the gate byte 1 makes
-  pub written_gate : (p more d : List ℕ) (g : ℕ) → d ≡ front ps ++ g ∷ (framed p ++ 0 ∷ more) → over gate (1 ∷ []) d ≡ front ps ++ 1 ∷ (framed p ++ 0 ∷ more)
-  written_gate p more d g is =
-      ap (λ (l : List ℕ). l ++ (1 ∷ drop (gate + 1) d)) (ap (λ (l : List ℕ). take gate l) is ∙ take_at (front ps) (g ∷ (framed p ++ 0 ∷ more)) gate place)
-      ∙ ap (λ (l : List ℕ). front ps ++ 1 ∷ l) (ap (λ (l : List ℕ). drop (gate + 1) l) is ∙ tail_at g (framed p ++ 0 ∷ more))
+  pub written_gate : (payload more file : List ℕ) (byte : ℕ) → file ≡ front
+      payloads ++ byte ∷ (framed payload ++ 0 ∷ more) → over gate
+      (1 ∷ []) file ≡ front payloads ++ 1 ∷ (framed payload ++ 0 ∷ more)
+  written_gate payload more file byte is =
+      ap (λ (list : List ℕ). list ++ (1 ∷ drop (gate + 1) file))
+      (ap (λ (list : List ℕ). take gate list) is ∙ take_at (front payloads)
+      (byte ∷ (framed payload ++ 0 ∷ more)) gate place)
+      ∙ ap (λ (list : List ℕ). front payloads ++ 1 ∷ list) (ap (λ (list : List ℕ). drop (gate + 1) list) is
+      ∙ tail_at byte (framed payload ++ 0 ∷ more))

@@ -1,9 +1,10 @@
 pub mod Gates
+pub mod ToldLemmas
 pub mod Calls
 pub mod Spelling
 pub mod Settling
 pub mod Reading
 pub mod OpeningLemmas
-pub mod Knowing
+pub mod SinceLemmas
 pub mod Placing
 pub mod Exactness

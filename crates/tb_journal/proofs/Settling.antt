@@ -9,39 +9,64 @@ use Rattle.tb_journal.specs.Frames.{front}
 use Rattle.tb_journal.specs.Journal.{IsDoubtful, WithOrWithout, Holds, InDoubt}
 use Rattle.tb_journal.proofs.Gates.{doubtful_stands, front_push, length-front_push, ArePayloads-push}
 
-pub doubtful_long : (ps : List (List ℕ)) (p c : List ℕ) (gate : ℕ) → length (front ps) ≡ gate → IsDoubtful ps p c → gate < length c
-doubtful_long ps p c gate place d = omega (arith, ap length d.is, length-append (front ps) (d.gate ∷ d.rest), place)
+-- the gate of a file in doubt is within the file
+pub doubtful_long : (payloads : List (List ℕ)) (payload image : List ℕ) (gate : ℕ) → length (front payloads) ≡ gate
+    → IsDoubtful payloads payload image → gate < length image
+doubtful_long payloads payload image gate place doubt = omega
+    (arith, ap length doubt.is, length-append (front payloads) (doubt.gate ∷ doubt.rest), place)
 
-module _ (ps : List (List ℕ)) (p : List ℕ) (gate next : ℕ) (before : Past) (d : InDoubt ps p gate next before) where
-  pub doubt_start : Leaves (WithOrWithout ps p) before before
-  doubt_start = Leaves-start (WithOrWithout ps p) before (λ c left. doubtful_stands ps p c (d.images c left))
+module _ (payloads : List (List ℕ)) (payload : List ℕ) (gate next : ℕ) (before : Past)
+    (doubt : InDoubt payloads payload gate next before) where
+  -- what a crash leaves of a journal in doubt
+  pub doubt_start : Leaves (WithOrWithout payloads payload) before before
+  doubt_start = Leaves-start (WithOrWithout payloads payload) before
+      (λ image left. doubtful_stands payloads payload image (doubt.images image left))
 
-  synced_image : (c : List ℕ) → c ≡ contents_of before → IsDoubtful ps p c
-  synced_image c left = subst (λ (l : List ℕ). IsDoubtful ps p l) (sym left) d.file
+  -- after a sync there is the contents alone
+  synced_image : (image : List ℕ) → image ≡ contents_of before → IsDoubtful payloads payload image
+  synced_image image left = subst (λ (list : List ℕ). IsDoubtful payloads payload list) (sym left) doubt.file
 
-  pub doubt_synced : InDoubt ps p gate next (Then Synced before)
-  doubt_synced = record { place = d.place; after = d.after; file = d.file; images = synced_image }
+  -- a sync leaves it in doubt
+  pub doubt_synced : InDoubt payloads payload gate next (Then Synced before)
+  doubt_synced = record { place = doubt.place; after = doubt.after; file = doubt.file; images = synced_image }
 
-  pub doubt_leaves : Leaves (WithOrWithout ps p) before (Then Synced before)
-  doubt_leaves = Leaves-step (WithOrWithout ps p) before before Synced doubt_start (λ c left. doubtful_stands ps p c (synced_image c left))
+  -- what a crash leaves up to the end of a sync
+  pub doubt_leaves : Leaves (WithOrWithout payloads payload) before (Then Synced before)
+  doubt_leaves = Leaves-step (WithOrWithout payloads payload) before before Synced doubt_start
+      (λ image left. doubtful_stands payloads payload image (synced_image image left))
 
-  pub doubt_gate : get_or (contents_of before) gate 0 ≡ d.file.gate
-  doubt_gate = ap (λ (l : List ℕ). get_or l gate 0) d.file.is ∙ get_or_at (front ps) d.file.gate d.file.rest 0 gate d.place
+  -- the byte at the gate's place is the gate
+  pub doubt_gate : get_or (contents_of before) gate 0 ≡ doubt.file.gate
+  doubt_gate = ap (λ (list : List ℕ). get_or list gate 0) doubt.file.is
+      ∙ get_or_at (front payloads) doubt.file.gate doubt.file.rest 0 gate doubt.place
 
-  pub settled : (counts : Bool) → (IsTrue counts ↔ (get_or (contents_of before) gate 0 ≡ 1)) → MatchBool counts (Holds (ps ++ p ∷ []) next (Then Synced before)) (Holds ps gate (Then Synced before))
-  settled true is = let one : d.file.gate ≡ 1 = sym doubt_gate ∙ is.0 refl in let w = d.file.whole one in record {
-    place = omega (arith, length-front_push ps p, d.place, d.after);
-    file = record {
-      sizes = ArePayloads-push ps p d.file.sizes d.file.size;
-      gate = w.0;
-      rest = w.1;
-      is = d.file.is ∙ (ap (λ (g : ℕ). front ps ++ g ∷ d.file.rest) one ∙ (ap (λ (l : List ℕ). front ps ++ 1 ∷ l) w.2 ∙ sym (front_push ps p (w.0 ∷ w.1))));
-      closed = w.3;
-    };
-    synced = λ c left. left;
-  }
+  -- the gate byte on the disk says whether the payload counts
+  pub settled : (counts : Bool) → (IsTrue counts ↔ (get_or (contents_of before) gate 0 ≡ 1))
+      → MatchBool counts (Holds (payloads ++ payload ∷ []) next (Then Synced before))
+      (Holds payloads gate (Then Synced before))
+  settled true is = let one : doubt.file.gate ≡ 1 = sym doubt_gate ∙ is.0 refl in let whole = doubt.file.whole one in
+      record {
+        place = omega (arith, length-front_push payloads payload, doubt.place, doubt.after);
+        file = record {
+          sizes = ArePayloads-push payloads payload doubt.file.sizes doubt.file.size;
+          gate = whole.0;
+          rest = whole.1;
+          is = doubt.file.is ∙ (ap (λ (byte : ℕ). front payloads ++ byte ∷ doubt.file.rest) one
+              ∙ (ap (λ (list : List ℕ). front payloads ++ 1 ∷ list) whole.2
+              ∙ sym (front_push payloads payload (whole.0 ∷ whole.1))));
+          closed = whole.3;
+        };
+        synced = λ image left. left;
+      }
   settled false is = record {
-    place = d.place;
-    file = record { sizes = d.file.sizes; gate = d.file.gate; rest = d.file.rest; is = d.file.is; closed = λ one. true≢false (sym (is.1 (doubt_gate ∙ one))) };
-    synced = λ c left. left;
+    place = doubt.place;
+    file = record {
+      sizes = doubt.file.sizes;
+      gate = doubt.file.gate;
+      rest = doubt.file.rest;
+      is =
+          doubt.file.is;
+      closed = λ one. true≢false (sym (is.1 (doubt_gate ∙ one)));
+    };
+    synced = λ image left. left;
   }

@@ -1,5 +1,7 @@
 -- What an opening may answer.
 use Rattle.std.specs.Prelude.{◌≡◌, ◌≢◌, ℕ, List, Result, Ok, Err}
+use Rattle.tb_disk.specs.Steps.{Synced}
+use Rattle.tb_disk.specs.Past.{Past, Then}
 use Rattle.tb_journal.specs.Image.{StandsFor, IsNoJournal, IsDamaged}
 use Rattle.tb_journal.specs.declared.fault.JournalFault.{JournalFault}
 use Rattle.tb_journal.specs.declared.fault.JournalFault.TheVariants.{DiskFault, NotAJournal, Damaged, OutOfMemory}
@@ -26,9 +28,9 @@ pub record IsExact (file : List ℕ) (answer : Answer) : Type 0 where
   pub is_true : IsTrueOf file answer
   pub only : (other : Answer) → IsTrueOf file other → SpeaksOfFile other → SpeaksOfFile answer → answer ≡ other
 
--- a refusal of a file that is no journal, or damaged, leaves it as it was
-abbrev pub LeavesRefused : JournalFault → List ℕ → List ℕ → Type 0
-LeavesRefused (NotAJournal found) before now = now ≡ before
-LeavesRefused (Damaged place) before now = now ≡ before
+-- a file that is no journal, or damaged, was put on the disk and nothing else: its contents are as they were
+abbrev pub LeavesRefused : JournalFault → Past → Past → Type 0
+LeavesRefused (NotAJournal found) before now = now ≡ Then Synced before
+LeavesRefused (Damaged place) before now = now ≡ Then Synced before
 LeavesRefused DiskFault before now = Unit {0}
 LeavesRefused OutOfMemory before now = Unit {0}

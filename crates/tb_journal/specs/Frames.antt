@@ -6,6 +6,17 @@ use Rattle.std.specs.Int.{w32, to_be_bytes}
 unfoldable pub header : List ℕ
 header = codes "TBHOSTJOURNAL001"
 
+-- the gate byte before a frame that counts, and the one that is written behind the last frame
+abbrev pub open_gate : ℕ
+open_gate = 1
+
+abbrev pub closed_gate : ℕ
+closed_gate = 0
+
+-- how long an empty journal is: the header and a gate byte
+abbrev pub empty_size : ℕ
+empty_size = 17
+
 -- how long a payload may be
 pub record IsPayload (payload : List ℕ) : Type 0 where
   pub some : 1 ≤ length payload
@@ -20,10 +31,10 @@ ArePayloads (payload ∷ payloads) = IsPayload payload × ArePayloads payloads
 unfoldable pub framed : List ℕ → List ℕ
 framed payload = to_be_bytes w32 (length payload) ++ payload
 
--- frames whose gate bytes are 1
+-- frames whose gates are open
 abbrev pub frames : List (List ℕ) → List ℕ
 frames [] = []
-frames (payload ∷ payloads) = 1 ∷ (framed payload ++ frames payloads)
+frames (payload ∷ payloads) = open_gate ∷ (framed payload ++ frames payloads)
 
 -- the header, and the frames of these payloads
 abbrev pub front : List (List ℕ) → List ℕ

@@ -1,9 +1,9 @@
 -- What a journal's disk holds, between calls and in doubt.
-use Rattle.std.specs.Prelude.{◌≡◌, ◌≢◌, ◌⊎◌, ℕ, ◌+◌, List, [], ◌∷◌, ◌++◌, length, Option, Some, None}
+use Rattle.std.specs.Prelude.{◌≡◌, ◌≢◌, ◌⊎◌, ℕ, ◌+◌, List, [], ◌∷◌, ◌++◌, length, Option, Some, None, Bool, MatchBool}
 use Rattle.tb_disk.specs.Past.{Past, Then, contents_of, MayLeave, IsSynced, Leaves}
-use Rattle.tb_disk.specs.Steps.{Wrote, Synced}
+use Rattle.tb_disk.specs.Steps.{Wrote, Tore, Synced, Torn}
 use Rattle.tb_disk.specs.Disks.{DiskState}
-use Rattle.tb_journal.specs.Frames.{IsPayload, ArePayloads, framed, front}
+use Rattle.tb_journal.specs.Frames.{open_gate, closed_gate, IsPayload, ArePayloads, framed, front}
 use Rattle.tb_journal.specs.Image.{IsFramed, StandsFor}
 
 -- a gate byte that may be 1: where it is, the frame of this payload stands whole behind it, and then a closed gate
@@ -13,7 +13,8 @@ pub record IsDoubtful (payloads : List (List ℕ)) (payload file : List ℕ) : T
   pub gate : ℕ
   pub rest : List ℕ
   pub is : file ≡ front payloads ++ gate ∷ rest
-  pub whole : gate ≡ 1 → (next : ℕ) × (more : List ℕ) × (rest ≡ framed payload ++ next ∷ more) × (next ≢ 1)
+  pub whole : gate ≡ open_gate
+      → (next : ℕ) × (more : List ℕ) × (rest ≡ framed payload ++ next ∷ more) × (next ≢ open_gate)
 
 -- the file stands for the payloads, with one more or without it
 abbrev pub WithOrWithout : List (List ℕ) → List ℕ → List ℕ → Type 0
@@ -39,8 +40,8 @@ pub record IsStaged (payloads : List (List ℕ)) (payload : List ℕ) (gate : �
   pub size : IsPayload payload
   pub closed : ℕ
   pub more : List ℕ
-  pub is : contents_of past ≡ front payloads ++ closed ∷ (framed payload ++ 0 ∷ more)
-  pub shut : closed ≢ 1
+  pub is : contents_of past ≡ front payloads ++ closed ∷ (framed payload ++ closed_gate ∷ more)
+  pub shut : closed ≢ open_gate
   pub synced : IsSynced past
 
 -- what a call did to a disk: one that told what had happened to it tells it again, and then P holds of both; one
@@ -51,11 +52,11 @@ pub record Told (old new : DiskState) (P : Past → Past → Type 0) : Type 0 wh
 
 -- the frame of a payload and a closed gate were written behind the gate, and synced
 abbrev pub staged_past : List ℕ → ℕ → Past → Past
-staged_past payload gate before = Then Synced (Then (Wrote (gate + 1) (framed payload ++ 0 ∷ [])) before)
+staged_past payload gate before = Then Synced (Then (Wrote (gate + 1) (framed payload ++ closed_gate ∷ [])) before)
 
 -- the byte 1 was written on the gate, and synced
 abbrev pub opened_past : ℕ → Past → Past
-opened_past gate before = Then Synced (Then (Wrote gate (1 ∷ [])) before)
+opened_past gate before = Then Synced (Then (Wrote gate (open_gate ∷ [])) before)
 
 -- behind a closed gate one more payload may count or not, and all images since stand for the payloads with it or
 -- without
@@ -83,7 +84,51 @@ abbrev pub Adds : List ℕ → ℕ → ℕ → Past → Past → Type 0
 Adds payload gate next before now = (payloads : List (List ℕ)) → Holds payloads gate before
     → Holds (payloads ++ payload ∷ []) next now × Leaves (WithOrWithout payloads payload) before now
 
--- what a journal knows of its disk: where its gate is, and if a payload is in doubt, where the gate is behind it
-abbrev pub Keeps : ℕ → Option ℕ → Past → Type 0
-Keeps gate None past = (payloads : List (List ℕ)) × Holds payloads gate past
-Keeps gate (Some next) past = (payloads : List (List ℕ)) × (payload : List ℕ) × InDoubt payloads payload gate next past
+-- from then on each crash leaves the new list
+abbrev pub Stays : List ℕ → ℕ → Past → Past → Type 0
+Stays payload gate before now = (payloads : List (List ℕ)) → Holds payloads gate before
+    → (image : List ℕ) → MayLeave now image → StandsFor (payloads ++ payload ∷ []) image
+
+-- each crash meanwhile leaves the old list or the new
+abbrev pub LeavesOldOrNew : List ℕ → ℕ → Past → Past → Type 0
+LeavesOldOrNew payload gate before now = (payloads : List (List ℕ)) → Holds payloads gate before
+    → Leaves (WithOrWithout payloads payload) before now
+
+-- the payload in doubt counts, or it doesn't; then the gate is here
+abbrev pub Settles : ℕ → ℕ → ℕ → Bool → Past → Past → Type 0
+Settles gate next here counts before now = (payloads : List (List ℕ)) (payload : List ℕ)
+    → InDoubt payloads payload gate next before
+    → MatchBool counts (Holds (payloads ++ payload ∷ []) here now) (Holds payloads here now)
+
+-- the payload in doubt is in doubt still
+abbrev pub StaysInDoubt : ℕ → ℕ → Past → Past → Type 0
+StaysInDoubt gate next before now = (payloads : List (List ℕ)) (payload : List ℕ)
+    → InDoubt payloads payload gate next before → InDoubt payloads payload gate next now
+
+-- each crash meanwhile leaves the payloads with the one in doubt or without
+abbrev pub LeavesInDoubt : ℕ → ℕ → Past → Past → Type 0
+LeavesInDoubt gate next before now = (payloads : List (List ℕ)) (payload : List ℕ)
+    → InDoubt payloads payload gate next before → Leaves (WithOrWithout payloads payload) before now
+
+-- a write and a sync of which one failed: nothing was done, or the write left a torn file, or it isn't synced
+abbrev pub WritesInPart : ℕ → List ℕ → Past → Past → Type 0
+WritesInPart place bytes before now =
+    (now ≡ before)
+    ⊎ ((left : List ℕ) × Torn place (length bytes) (place + length bytes) (contents_of before) left
+    × (now ≡ Then (Tore place (length bytes) left) before))
+    ⊎ (now ≡ Then (Wrote place bytes) before)
+
+-- the disk failed while a payload was added: the frame was written in part, or it was staged and the gate opened in part
+abbrev pub AddsInPart : List ℕ → ℕ → Past → Past → Type 0
+AddsInPart payload gate before now =
+    WritesInPart (gate + 1) (framed payload ++ closed_gate ∷ []) before now
+    ⊎ WritesInPart gate (open_gate ∷ []) (staged_past payload gate before) now
+
+-- all was put on the disk, or nothing happened
+abbrev pub SyncsOrNot : Past → Past → Type 0
+SyncsOrNot before now = (now ≡ before) ⊎ (now ≡ Then Synced before)
+
+-- the journal holds these payloads, with its gate here; or one more may count or not, and the gate is at `next` behind it
+abbrev pub KeepsAt : List (List ℕ) → ℕ → Option ℕ → Past → Type 0
+KeepsAt payloads gate None past = Holds payloads gate past
+KeepsAt payloads gate (Some next) past = (payload : List ℕ) × InDoubt payloads payload gate next past

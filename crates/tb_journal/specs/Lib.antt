@@ -1,6 +1,7 @@
 pub mod Frames
 pub mod Image
 pub mod Journal
+pub mod Journals
 pub mod Opening
 pub mod Payloads
 pub mod Answers

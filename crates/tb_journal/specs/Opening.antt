@@ -1,8 +1,8 @@
 -- What opening a journal does to its disk.
-use Rattle.std.specs.Prelude.{◌≡◌, ◌⊎◌, ℕ, List, [], ◌∷◌, ◌++◌}
+use Rattle.std.specs.Prelude.{◌≡◌, ◌⊎◌, ℕ, ◌<◌, ◌≤◌, List, [], ◌∷◌, ◌++◌, length}
 use Rattle.tb_disk.specs.Steps.{Wrote, Tore, Synced, Torn}
 use Rattle.tb_disk.specs.Past.{Past, Then, contents_of, MayLeave, Leaves}
-use Rattle.tb_journal.specs.Frames.{header}
+use Rattle.tb_journal.specs.Frames.{header, closed_gate, empty_size}
 use Rattle.tb_journal.specs.Image.{StandsFor}
 
 -- what the old file stood for, the new one stands for too
@@ -11,19 +11,23 @@ StandsAsWell old new = (payloads : List (List ℕ)) → StandsFor payloads old �
 
 -- an empty journal: the header and a closed gate
 abbrev pub empty_journal : List ℕ
-empty_journal = header ++ 0 ∷ []
-
--- all was put on the disk, or nothing happened
-abbrev pub SyncsOrNot : Past → Past → Type 0
-SyncsOrNot before now = (now ≡ before) ⊎ (now ≡ Then Synced before)
+empty_journal = header ++ closed_gate ∷ []
 
 -- an empty journal was written, and synced
 abbrev pub made_past : Past → Past
 made_past before = Then Synced (Then (Wrote 0 empty_journal) before)
 
+-- All was put on the disk; over at most 17 bytes an empty journal was made then, and over more nothing was written.
+pub record Opens (before now : Past) : Type 0 where
+  pub kept : empty_size < length (contents_of before) → now ≡ Then Synced before
+  pub made : length (contents_of before) ≤ empty_size → now ≡ made_past (Then Synced before)
+
 -- the disk failed while an empty journal was written or synced
 abbrev pub MadeInPart : Past → Past → Type 0
-MadeInPart before now = (now ≡ before) ⊎ ((left : List ℕ) × Torn 0 17 17 (contents_of before) left × (now ≡ Then (Tore 0 17 left) before)) ⊎ (now ≡ Then (Wrote 0 empty_journal) before)
+MadeInPart before now =
+    (now ≡ before)
+    ⊎ ((left : List ℕ) × Torn 0 17 17 (contents_of before) left × (now ≡ Then (Tore 0 17 left) before))
+    ⊎ (now ≡ Then (Wrote 0 empty_journal) before)
 
 -- Each crash since leaves what a crash before could leave, or what stands for all that the disk stood for; and so do
 -- the contents.

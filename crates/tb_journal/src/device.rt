@@ -1,12 +1,13 @@
 //! The device calls of a journal: two put a frame behind the gate, two open the gate, two look at it.
-ghost use Rattle.std.specs.Prelude.{◌≡◌, ◌⊎◌, ◌+◌, ◌<◌, ◌≤◌, ◌↔◌, ◌^◌, ℕ, List, [], ◌∷◌, ◌++◌, length, slice_index, vec_capacity, IfOk, OnOk, OnErr, IsTrue};
+ghost use Rattle.std.specs.Prelude.{◌≡◌, ◌+◌, ◌<◌, ◌≤◌, ◌↔◌, ◌^◌, ℕ, List, [], ◌∷◌, ◌++◌, length, slice_index, vec_capacity, IfOk, OnOk, OnErr, IsTrue};
 ghost use Rattle.tb_link.specs.Counts.{Rose, NeverFalls};
 ghost use Rattle.tb_disk.specs.Steps.{Synced};
 ghost use Rattle.tb_disk.specs.Past.{Then, contents_of};
 ghost use Rattle.tb_disk.specs.Disks.{Reaches};
 ghost use Rattle.tb_journal.specs.Frames.{IsPayload, framed};
-ghost use Rattle.tb_journal.specs.Journal.{Told, Stages, Doubts, Counts, MaybeCounts, staged_past, opened_past};
+ghost use Rattle.tb_journal.specs.Journal.{Told, Stages, Doubts, Counts, MaybeCounts, WritesInPart, SyncsOrNot, staged_past, opened_past};
 
+use crate::frames::{CLOSED, OPEN};
 use tb_disk::Disk;
 use tb_link::Failed;
 
@@ -22,7 +23,7 @@ pub fn spell(block: &mut Vec<u8>, payload: &[u8])
     let length = payload.len() as u32;
     block.extend_from_slice(&length.to_be_bytes()).unwrap();
     block.extend_from_slice(payload).unwrap();
-    block.push(0).unwrap();
+    block.push(CLOSED).unwrap();
 }
 
 /// Puts the frame of a payload behind the closed gate.
@@ -37,9 +38,14 @@ pub fn stage<D: Disk>(
     requires place { Reaches (D.disk disk.old) (gate + 1) }
     requires end { gate + 6 + length payload.now < 2 ^ 42 }
     ensures ok { OnOk result (Told (D.disk disk.old) (D.disk disk.new) (Stages payload.now gate)) }
-    ensures steps { OnOk result (Told (D.disk disk.old) (D.disk disk.new) (λ before now. now ≡ staged_past payload.now gate before)) }
-    ensures err { OnErr result (Told (D.disk disk.old) (D.disk disk.new) (Doubts payload.now gate (gate + 5 + length payload.now))) }
+    ensures steps { OnOk result (Told (D.disk disk.old) (D.disk disk.new)
+        (λ before now. now ≡ staged_past payload.now gate before)) }
+    ensures err { OnErr result (Told (D.disk disk.old) (D.disk disk.new)
+        (Doubts payload.now gate (gate + 5 + length payload.now))) }
+    ensures steps_failed { OnErr result (Told (D.disk disk.old) (D.disk disk.new)
+        (WritesInPart (gate + 1) (framed payload.now ++ 0 ∷ []))) }
     ensures fault { OnErr result (Rose (D.disk disk.old).faults (D.disk disk.new).faults) }
+    ensures no_fault { OnOk result ((D.disk disk.new).faults ≡ (D.disk disk.old).faults) }
     ensures count { NeverFalls (D.disk disk.old).faults (D.disk disk.new).faults }
     ensures room { vec_capacity block.old ≤ vec_capacity block.new }
 {
@@ -53,27 +59,34 @@ pub fn stage<D: Disk>(
 pub fn open_gate<D: Disk>(disk: &mut D, gate: u64) -> Result<(), Failed>
     requires place { Reaches (D.disk disk.old) gate }
     requires end { gate + 1 < 2 ^ 42 }
-    ensures ok { OnOk result ((payload : List ℕ) → Told (D.disk disk.old) (D.disk disk.new) (Counts payload gate (gate + 5 + length payload))) }
-    ensures steps { OnOk result (Told (D.disk disk.old) (D.disk disk.new) (λ before now. now ≡ opened_past gate before)) }
-    ensures err { OnErr result ((payload : List ℕ) → Told (D.disk disk.old) (D.disk disk.new) (MaybeCounts payload gate (gate + 5 + length payload))) }
+    ensures ok { OnOk result ((payload : List ℕ) → Told (D.disk disk.old) (D.disk disk.new)
+        (Counts payload gate (gate + 5 + length payload))) }
+    ensures steps { OnOk result (Told (D.disk disk.old) (D.disk disk.new)
+        (λ before now. now ≡ opened_past gate before)) }
+    ensures err { OnErr result ((payload : List ℕ) → Told (D.disk disk.old) (D.disk disk.new)
+        (MaybeCounts payload gate (gate + 5 + length payload))) }
+    ensures steps_failed { OnErr result (Told (D.disk disk.old) (D.disk disk.new) (WritesInPart gate (1 ∷ []))) }
     ensures fault { OnErr result (Rose (D.disk disk.old).faults (D.disk disk.new).faults) }
+    ensures no_fault { OnOk result ((D.disk disk.new).faults ≡ (D.disk disk.old).faults) }
     ensures count { NeverFalls (D.disk disk.old).faults (D.disk disk.new).faults }
 {
     // The gate byte comes last: a crash before it leaves the old payloads.
-    disk.write_at(gate, &[1])?;
+    disk.write_at(gate, &[OPEN])?;
     disk.sync()
 }
 
 /// Syncs, and says whether the gate byte is 1.
 pub fn gate_is_open<D: Disk>(disk: &mut D, gate: u64) -> Result<bool, Failed>
-    ensures ok { IfOk result (λ counts. Told (D.disk disk.old) (D.disk disk.new) (λ before now. (now ≡ Then Synced before)
+    ensures ok { IfOk result (λ counts. Told (D.disk disk.old) (D.disk disk.new) (λ before now.
+        (now ≡ Then Synced before)
         × (gate < length (contents_of before) → IsTrue counts ↔ (slice_index (contents_of before) gate ≡ 1)))) }
-    ensures err { OnErr result (Told (D.disk disk.old) (D.disk disk.new) (λ before now. (now ≡ before) ⊎ (now ≡ Then Synced before))) }
+    ensures err { OnErr result (Told (D.disk disk.old) (D.disk disk.new) SyncsOrNot) }
     ensures fault { OnErr result (Rose (D.disk disk.old).faults (D.disk disk.new).faults) }
+    ensures no_fault { OnOk result ((D.disk disk.new).faults ≡ (D.disk disk.old).faults) }
     ensures count { NeverFalls (D.disk disk.old).faults (D.disk disk.new).faults }
 {
     disk.sync()?;
-    let mut byte = [0u8];
+    let mut byte = [CLOSED];
     let count = disk.read(gate, &mut byte)?;
-    Ok(count == 1 && byte[0] == 1)
+    Ok(count == 1 && byte[0] == OPEN)
 }

@@ -11,11 +11,21 @@ use std::marker::Model;
 
 const HEADER: &[u8] = b"TBHOSTJOURNAL001";
 
-const OPEN: u8 = 1;
+/// The place of the first gate byte, behind the header.
+pub(crate) const FIRST_GATE: usize = 16;
+
+/// The gate byte before a frame that counts.
+pub(crate) const OPEN: u8 = 1;
+
+/// The gate byte behind the last frame, as this journal writes it: any byte but 1 would do.
+pub(crate) const CLOSED: u8 = 0;
 
 const SHORTEST_PAYLOAD: usize = 1;
 
-const LONGEST_PAYLOAD: usize = 32_768;
+pub(crate) const LONGEST_PAYLOAD: usize = 32_768;
+
+/// How many bytes of a frame stand before its payload: the gate byte and four bytes of length.
+pub(crate) const FRAME_HEAD: usize = 5;
 
 #[derive(Drop)]
 pub(crate) struct Frame {
@@ -76,7 +86,8 @@ impl Frames {
 
 // The payload of the frame whose gate byte stands before these bytes.
 fn payload_at(rest: &[u8]) -> Option<&[u8]>
-    ensures found { IfSome result (λ payload. IsPayload payload.now × ((more : List ℕ) × (rest.now ≡ framed payload.now ++ more))) }
+    ensures found { IfSome result (λ payload. IsPayload payload.now
+        × ((more : List ℕ) × (rest.now ≡ framed payload.now ++ more))) }
     ensures none { IfNone result (IsNoFrame rest.now) }
 {
     if rest.len() < 4 {
@@ -98,7 +109,7 @@ fn frames_behind(alloc: Global, bytes: &[u8]) -> Result<(Frames, u64), JournalFa
     ensures refused { IfErr result (λ fault. IsTrueOf bytes.now (Err fault) × (fault ≢ DiskFault)) }
 {
     let mut frames = Vec::new(alloc);
-    let mut place = 16;
+    let mut place = FIRST_GATE;
     'frames: while place < bytes.len() && bytes[place] == OPEN {
         let Some(payload) = payload_at(&bytes[place + 1..]) else {
             return Err(JournalFault::Damaged(place as u64));
@@ -109,7 +120,7 @@ fn frames_behind(alloc: Global, bytes: &[u8]) -> Result<(Frames, u64), JournalFa
             place: place as u64,
             payload,
         })?;
-        place += 5 + size;
+        place += FRAME_HEAD + size;
     }
     if place >= bytes.len() {
         return Err(JournalFault::Damaged(place as u64));

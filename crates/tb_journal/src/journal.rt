@@ -1,31 +1,47 @@
 //! The journal between its calls.
-ghost use Rattle.std.specs.Prelude.{◌≡◌, ◌+◌, ◌<◌, ◌≤◌, ◌↔◌, ◌^◌, ℕ, List, [], ◌∷◌, ◌++◌, length, slice_index, vec_capacity, None, Some, if◌then◌else◌, MatchBool, IfSome, IsSome, IfOk, OnOk, OnErr, IsTrue};
+ghost use Rattle.std.specs.Prelude.{◌≡◌, ◌+◌, ◌<◌, ◌≤◌, ◌↔◌, ◌^◌, ℕ, length, slice_index, vec_capacity, None, Some, if◌then◌else◌, IfSome, IsSome, IfOk, OnOk, OnErr, IsTrue};
 ghost use Rattle.tb_link.specs.Counts.{Rose, NeverFalls};
 ghost use Rattle.tb_disk.specs.Steps.{Synced};
-ghost use Rattle.tb_disk.specs.Past.{Then, contents_of, MayLeave, Leaves};
+ghost use Rattle.tb_disk.specs.Past.{Then, contents_of};
 ghost use Rattle.tb_disk.specs.Disks.{Reaches};
 ghost use Rattle.tb_journal.specs.Frames.{IsPayload};
-ghost use Rattle.tb_journal.specs.Image.{StandsFor};
-ghost use Rattle.tb_journal.specs.Journal.{Told, Holds, InDoubt, WithOrWithout, Keeps, Adds, Doubts, staged_past, opened_past};
+ghost use Rattle.tb_journal.specs.Journal.{Told, Adds, Doubts, Stays, LeavesOldOrNew, Settles, StaysInDoubt, LeavesInDoubt, AddsInPart, SyncsOrNot, staged_past, opened_past};
+ghost use Rattle.tb_journal.specs.Journals.{SinceOpening, IsJournal};
 
 use crate::device::{gate_is_open, open_gate, stage};
 use crate::fault::DiskFault;
+use crate::frames::{FRAME_HEAD, LONGEST_PAYLOAD};
+use std::marker::Model;
+use std::snapshot::Snapshot;
 use tb_disk::Disk;
 use tb_link::Failed;
 
 // Room for the longest frame and a closed gate.
-pub(crate) const BLOCK: usize = 32_773;
+pub(crate) const BLOCK: usize = LONGEST_PAYLOAD + FRAME_HEAD;
 
 /// A list of payloads on a disk. It keeps the place of its gate byte and, while a payload may count or not, the place
-/// of the gate byte behind that payload. Of the payloads it keeps nothing.
+/// of the gate byte behind that payload; and for contracts the disk as the opening left it. Of the payloads it keeps
+/// nothing.
 #[derive(Drop)]
 pub struct Journal<D: Disk> {
-    pub(crate) disk: D,
-    pub(crate) gate: u64,
-    pub(crate) doubt: Option<u64>,
-    pub(crate) block: Vec<u8>,
-    ghost room: { 32773 ≤ vec_capacity block },
-    ghost known: { ∥ IfSome (D.disk disk).past (Keeps gate doubt) ∥₁ },
+    disk: D,
+    gate: u64,
+    doubt: Option<u64>,
+    block: Vec<u8>,
+    opened: Snapshot<D>,
+}
+
+impl<D: Disk> Model for Journal<D> {
+    ghost use Rattle.std.specs.Prelude.{vec_capacity};
+    ghost use Rattle.tb_journal.specs.Journals.{JournalView, journal_code, IsJournal};
+
+    ghost Value = { JournalView D };
+
+    ghost coded = { journal_code D.code };
+
+    ghost view = { λ a. record { disk = a.disk; opened = a.opened.value; gate = a.gate; doubt = a.doubt } };
+
+    ghost invariant = { λ a. IsJournal (D.disk a.disk) (D.disk a.opened.value) a.gate a.doubt (vec_capacity a.block) };
 }
 
 // The four device calls that add a payload.
@@ -34,10 +50,15 @@ fn add<D: Disk>(disk: &mut D, gate: u64, payload: &[u8], block: &mut Vec<u8>) ->
     requires room { length payload.now + 5 ≤ vec_capacity block.old }
     requires place { Reaches (D.disk disk.old) (gate + 1) }
     requires end { gate + 6 + length payload.now < 2 ^ 42 }
-    ensures ok { OnOk result (Told (D.disk disk.old) (D.disk disk.new) (Adds payload.now gate (gate + 5 + length payload.now))) }
-    ensures steps { OnOk result (Told (D.disk disk.old) (D.disk disk.new) (λ before now. now ≡ opened_past gate (staged_past payload.now gate before))) }
-    ensures err { OnErr result (Told (D.disk disk.old) (D.disk disk.new) (Doubts payload.now gate (gate + 5 + length payload.now))) }
+    ensures ok { OnOk result (Told (D.disk disk.old) (D.disk disk.new)
+        (Adds payload.now gate (gate + 5 + length payload.now))) }
+    ensures steps { OnOk result (Told (D.disk disk.old) (D.disk disk.new)
+        (λ before now. now ≡ opened_past gate (staged_past payload.now gate before))) }
+    ensures err { OnErr result (Told (D.disk disk.old) (D.disk disk.new)
+        (Doubts payload.now gate (gate + 5 + length payload.now))) }
+    ensures steps_failed { OnErr result (Told (D.disk disk.old) (D.disk disk.new) (AddsInPart payload.now gate)) }
     ensures fault { OnErr result (Rose (D.disk disk.old).faults (D.disk disk.new).faults) }
+    ensures no_fault { OnOk result ((D.disk disk.new).faults ≡ (D.disk disk.old).faults) }
     ensures count { NeverFalls (D.disk disk.old).faults (D.disk disk.new).faults }
     ensures room { vec_capacity block.old ≤ vec_capacity block.new }
 {
@@ -45,12 +66,36 @@ fn add<D: Disk>(disk: &mut D, gate: u64, payload: &[u8], block: &mut Vec<u8>) ->
     open_gate(disk, gate)
 }
 
+// A journal that was just opened.
+pub(crate) fn opened<D: Disk>(disk: D, gate: u64, block: Vec<u8>) -> Journal<D>
+    requires room { 32773 ≤ vec_capacity block }
+    requires since { Told (D.disk disk) (D.disk disk) (SinceOpening gate None) }
+    ensures { result ≡ record { disk = disk; opened = disk; gate = gate; doubt = None } }
+{
+    Journal {
+        opened: Snapshot::of(&disk),
+        disk,
+        gate,
+        doubt: None,
+        block,
+    }
+}
+
 impl<D: Disk> Journal<D> {
     /// The disk as it stands.
     pub fn into_disk(self) -> D
-        ensures { result ≡ self.disk }
+        ensures disk { result ≡ self.disk }
+        // What the disk holds, and what every crash since the opening left.
+        ensures since { Told (D.disk self.opened) (D.disk result) (SinceOpening self.gate self.doubt) }
     {
-        self.disk
+        let Journal {
+            disk,
+            gate: _,
+            doubt: _,
+            block: _,
+            opened: _,
+        } = self;
+        disk
     }
 
     /// Whether a payload may count or not.
@@ -73,25 +118,31 @@ impl<D: Disk> Journal<D> {
         requires sure { self.old.doubt ≡ None }
         requires size { IsPayload payload.now }
         requires end { self.old.gate + 6 + length payload.now < 2 ^ 42 }
-        ensures adds { OnOk result (Told (D.disk self.old.disk) (D.disk self.new.disk) (λ before now.
-            (payloads : List (List ℕ)) → Holds payloads self.old.gate before → Holds (payloads ++ payload.now ∷ []) self.new.gate now)) }
+        ensures adds { OnOk result (Told (D.disk self.old.disk) (D.disk self.new.disk)
+            (Adds payload.now self.old.gate self.new.gate)) }
         // From then on a crash leaves the new list and nothing else.
-        ensures stays { OnOk result (Told (D.disk self.old.disk) (D.disk self.new.disk) (λ before now.
-            (payloads : List (List ℕ)) → Holds payloads self.old.gate before → (c : List ℕ) → MayLeave now c → StandsFor (payloads ++ payload.now ∷ []) c)) }
+        ensures stays { OnOk result (Told (D.disk self.old.disk) (D.disk self.new.disk)
+            (Stays payload.now self.old.gate)) }
         // A write behind the gate, a sync, a write of the gate and a sync.
         ensures steps { OnOk result (Told (D.disk self.old.disk) (D.disk self.new.disk) (λ before now.
             now ≡ opened_past self.old.gate (staged_past payload.now self.old.gate before))) }
-        ensures doubts { OnErr result (Told (D.disk self.old.disk) (D.disk self.new.disk) (λ before now.
-            (payloads : List (List ℕ)) → Holds payloads self.old.gate before → InDoubt payloads payload.now self.new.gate (self.old.gate + 5 + length payload.now) now)) }
+        // After a fault a beginning of these.
+        ensures steps_failed { OnErr result (Told (D.disk self.old.disk) (D.disk self.new.disk)
+            (AddsInPart payload.now self.old.gate)) }
+        ensures doubts { OnErr result (Told (D.disk self.old.disk) (D.disk self.new.disk)
+            (Doubts payload.now self.old.gate (self.old.gate + 5 + length payload.now))) }
         // A crash at any moment of the call leaves the payloads from before it, with the new one or without.
-        ensures crash { Told (D.disk self.old.disk) (D.disk self.new.disk) (λ before now.
-            (payloads : List (List ℕ)) → Holds payloads self.old.gate before → Leaves (WithOrWithout payloads payload.now) before now) }
+        ensures crash { Told (D.disk self.old.disk) (D.disk self.new.disk) (LeavesOldOrNew payload.now self.old.gate) }
         ensures fault { OnErr result (Rose (D.disk self.old.disk).faults (D.disk self.new.disk).faults) }
+        ensures no_fault { OnOk result ((D.disk self.new.disk).faults ≡ (D.disk self.old.disk).faults) }
         ensures count { NeverFalls (D.disk self.old.disk).faults (D.disk self.new.disk).faults }
-        ensures sure { OnOk result ((self.new.doubt ≡ None) × (self.new.gate ≡ self.old.gate + 5 + length payload.now)) }
-        ensures unsure { OnErr result ((self.new.doubt ≡ Some (self.old.gate + 5 + length payload.now)) × (self.new.gate ≡ self.old.gate)) }
+        ensures sure { OnOk result ((self.new.doubt ≡ None)
+            × (self.new.gate ≡ self.old.gate + 5 + length payload.now)) }
+        ensures unsure { OnErr result ((self.new.doubt ≡ Some (self.old.gate + 5 + length payload.now))
+            × (self.new.gate ≡ self.old.gate)) }
+        ensures opened { self.new.opened ≡ self.old.opened }
     {
-        let next = self.gate + 5 + payload.len() as u64;
+        let next = self.gate + FRAME_HEAD as u64 + payload.len() as u64;
         match add(&mut self.disk, self.gate, payload, &mut self.block) {
             Ok(()) => {
                 self.gate = next;
@@ -108,19 +159,26 @@ impl<D: Disk> Journal<D> {
     /// in doubt still.
     pub fn resolve(&mut self) -> Result<bool, DiskFault>
         requires { IsSome self.old.doubt }
-        ensures settles { IfOk result (λ counts. (next : ℕ) → self.old.doubt ≡ Some next → Told (D.disk self.old.disk) (D.disk self.new.disk) (λ before now.
-            (payloads : List (List ℕ)) (payload : List ℕ) → InDoubt payloads payload self.old.gate next before
-            → MatchBool counts (Holds (payloads ++ payload ∷ []) self.new.gate now) (Holds payloads self.new.gate now))) }
-        ensures byte { IfOk result (λ counts. IfSome (D.disk self.old.disk).past (λ past. IsTrue counts ↔ (slice_index (contents_of past) self.old.gate ≡ 1))) }
-        ensures doubts { OnErr result ((next : ℕ) → self.old.doubt ≡ Some next → Told (D.disk self.old.disk) (D.disk self.new.disk) (λ before now.
-            (payloads : List (List ℕ)) (payload : List ℕ) → InDoubt payloads payload self.old.gate next before → InDoubt payloads payload self.new.gate next now)) }
+        ensures settles { IfOk result (λ counts. (next : ℕ) → self.old.doubt ≡ Some next
+            → Told (D.disk self.old.disk) (D.disk self.new.disk) (Settles self.old.gate next self.new.gate counts)) }
+        ensures byte { IfOk result (λ counts. IfSome (D.disk self.old.disk).past
+            (λ past. IsTrue counts ↔ (slice_index (contents_of past) self.old.gate ≡ 1))) }
+        // A sync and no other step.
+        ensures steps { OnOk result (Told (D.disk self.old.disk) (D.disk self.new.disk)
+            (λ before now. now ≡ Then Synced before)) }
+        ensures steps_failed { OnErr result (Told (D.disk self.old.disk) (D.disk self.new.disk) SyncsOrNot) }
+        ensures doubts { OnErr result ((next : ℕ) → self.old.doubt ≡ Some next
+            → Told (D.disk self.old.disk) (D.disk self.new.disk) (StaysInDoubt self.old.gate next)) }
         // A crash at any moment of the call leaves the payloads with the one in doubt or without.
-        ensures crash { (next : ℕ) → self.old.doubt ≡ Some next → Told (D.disk self.old.disk) (D.disk self.new.disk) (λ before now.
-            (payloads : List (List ℕ)) (payload : List ℕ) → InDoubt payloads payload self.old.gate next before → Leaves (WithOrWithout payloads payload) before now) }
+        ensures crash { (next : ℕ) → self.old.doubt ≡ Some next
+            → Told (D.disk self.old.disk) (D.disk self.new.disk) (LeavesInDoubt self.old.gate next) }
         ensures fault { OnErr result (Rose (D.disk self.old.disk).faults (D.disk self.new.disk).faults) }
+        ensures no_fault { OnOk result ((D.disk self.new.disk).faults ≡ (D.disk self.old.disk).faults) }
         ensures count { NeverFalls (D.disk self.old.disk).faults (D.disk self.new.disk).faults }
-        ensures sure { IfOk result (λ counts. (self.new.doubt ≡ None) × ((next : ℕ) → self.old.doubt ≡ Some next → self.new.gate ≡ (if counts then next else self.old.gate))) }
+        ensures sure { IfOk result (λ counts. (self.new.doubt ≡ None) × ((next : ℕ) → self.old.doubt ≡ Some next
+            → self.new.gate ≡ (if counts then next else self.old.gate))) }
         ensures unsure { OnErr result ((self.new.doubt ≡ self.old.doubt) × (self.new.gate ≡ self.old.gate)) }
+        ensures opened { self.new.opened ≡ self.old.opened }
     {
         let next = self.doubt.unwrap();
         match gate_is_open(&mut self.disk, self.gate) {

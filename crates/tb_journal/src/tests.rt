@@ -115,6 +115,33 @@ fn other_files_are_refused(rt: HostRuntime) -> Result<(), Fail> {
     Ok(())
 }
 
+// One payload of 33 bytes, byte by byte, and the same file cut within its frame.
+#[test]
+fn a_journal_has_the_bytes_of_its_format(rt: HostRuntime) -> Result<(), Fail> {
+    let alloc = rt.alloc();
+    let payload = b"\x08operator\0\0\0\0\0\0\0\x01\x67\x28\x62\xe0\x01\x07dealer1\x02k1".as_slice();
+    let file = b"TBHOSTJOURNAL001\
+        \x01\0\0\0\x21\x08operator\0\0\0\0\0\0\0\x01\x67\x28\x62\xe0\x01\x07dealer1\x02k1\
+        \0"
+        .as_slice();
+    assert_eq!(rt; file.len(), 55);
+    let disk = disk_of(&rt, alloc, b"", Vec::new(alloc), 0)?;
+    let Ok((mut journal, _frames)) = Journal::open(alloc, disk) else {
+        return Ok(assert!(rt; false, "not opened"));
+    };
+    assert_eq!(rt; add(&rt, &mut journal, payload), Ok(()));
+    assert_eq!(rt; journal.into_disk().contents(), file);
+    let mut found = vec![in alloc; 16]?;
+    found.extend_from_slice(payload)?;
+    assert_eq!(rt; payloads_in(&rt, alloc, file)?.as_slice(), found.as_slice());
+    let cut = disk_of(&rt, alloc, &file[..40], Vec::new(alloc), 0)?;
+    match Journal::open(alloc, cut) {
+        Ok(_opened) => assert!(rt; false, "it was opened"),
+        Err((_disk, fault)) => assert_eq!(rt; fault, JournalFault::Damaged(16)),
+    }
+    Ok(())
+}
+
 // Opening an empty disk takes the calls 0 to 4: a sync, the length, a read, a write and a sync. Those of the first
 // append are 5 to 8, and then come a sync and a read of `resolve`.
 #[test]

@@ -19,7 +19,7 @@ after_taken taken bytes = option_map (λ front. front ++ bytes) taken
 -- a write takes the piece, all of it
 pub record Takes (old new : SinkState) (bytes : List ℕ) : Type 0 where
   pub taken : new.taken ≡ after_taken old.taken bytes
-  pub count : NeverFalls old.faults new.faults
+  pub no_fault : new.faults ≡ old.faults
 
 -- the sink has taken a prefix of these bytes
 abbrev pub TakesPrefix : SinkState → SinkState → List ℕ → Type 0

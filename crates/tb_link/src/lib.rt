@@ -2,6 +2,7 @@
 //! them, and each has a count of its faults: a call fails only where the count rose in that call.
 #![tactic(auto)]
 
+mod faults;
 mod memory_sink;
 mod memory_source;
 mod sink;
@@ -10,6 +11,7 @@ mod std_streams;
 #[cfg(test)]
 mod tests;
 
+pub use faults::Faults;
 pub use memory_sink::TextSink;
 pub use memory_source::TextSource;
 pub use sink::Sink;

@@ -1,9 +1,10 @@
 //! A sink in memory, which tells its bytes.
 ghost use Rattle.std.specs.Prelude.{◌≡◌, ◌+◌, ◌<◌, ◌≤◌, ◌↔◌, ◌⊎◌, [], length, vec_len, vec_capacity, IfOk, OnOk, OnErr, IsErr, IsTrue, Contains};
-ghost use Rattle.tb_link.specs.Counts.{last_count};
+ghost use Rattle.tb_link.specs.Counts.{counted};
 ghost use Rattle.tb_link.specs.Sinks.{Takes, FailsToTake};
 ghost use Rattle.tb_link.specs.Sources.{LeavesSource, no_source};
 
+use crate::faults::Faults;
 use crate::sink::Sink;
 use crate::source::Failed;
 use std::alloc::Global;
@@ -16,10 +17,9 @@ pub struct TextSink {
     room: usize,
     fails: Vec<u64>,
     calls: u64,
-    faults: u64,
+    faults: Faults,
     ghost within: { vec_len bytes ≤ room },
     ghost reserved: { room ≤ vec_capacity bytes },
-    ghost bounded: { faults ≤ last_count },
 }
 
 impl TextSink {
@@ -27,7 +27,7 @@ impl TextSink {
     /// passes the room; a call that fails takes nothing.
     pub fn new(alloc: Global, room: usize, fails: Vec<u64>) -> Result<TextSink, OutOfMemory>
         ensures empty { IfOk result (λ sink. (sink.bytes.items ≡ []) × (sink.room ≡ room)) }
-        ensures start { IfOk result (λ sink. (sink.faults ≡ 0) × (sink.calls ≡ 0)) }
+        ensures start { IfOk result (λ sink. (sink.faults.count ≡ 0) × (sink.calls ≡ 0)) }
         ensures fails { IfOk result (λ sink. sink.fails.items ≡ fails.items) }
     {
         let bytes = Vec::with_capacity(alloc, room)?;
@@ -36,7 +36,7 @@ impl TextSink {
             room,
             fails,
             calls: 0,
-            faults: 0,
+            faults: Faults::none(),
         })
     }
 
@@ -56,7 +56,7 @@ impl TextSink {
 }
 
 impl Sink for TextSink {
-    ghost use Rattle.tb_link.specs.Memory.{text_sink};
+    ghost use Rattle.tb_link.specs.Memory.{text_sink, CountsWrite};
 
     ghost sink = { text_sink };
 
@@ -67,14 +67,18 @@ impl Sink for TextSink {
         // It fails at the stated calls and where the piece passes the room, and at no other.
         ensures exactly { IsErr result ↔ (Contains self.old.fails.items self.old.calls
             ⊎ (self.old.room < vec_len self.old.bytes + length bytes.now)) }
+        ensures nothing { OnErr result (self.new.bytes.items ≡ self.old.bytes.items) }
+        ensures one_fault { OnErr result (self.new.faults.count ≡ counted self.old.faults.count) }
+        ensures call { CountsWrite self.old self.new }
     {
         let refused = self.is_refused(bytes);
         self.calls = self.calls.saturating_add(1);
         if refused {
-            self.faults = self.faults.saturating_add(1);
-            return Err(Failed);
+            return Err(self.faults.rise());
         }
         self.bytes.extend_from_slice(bytes).unwrap();
         Ok(())
     }
+
+    ghost bounded = { λ self. self.faults.bounded };
 }

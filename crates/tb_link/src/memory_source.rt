@@ -1,9 +1,10 @@
 //! A source in memory, which tells its bytes.
 ghost use Rattle.std.specs.Prelude.{◌≡◌, ◌+◌, ◌<◌, ◌≤◌, ◌↔◌, [], ◌++◌, drop, length, vec_len, IfOk, OnErr, IsErr, Contains};
-ghost use Rattle.tb_link.specs.Counts.{last_count};
+ghost use Rattle.tb_link.specs.Counts.{counted};
 ghost use Rattle.tb_link.specs.Sources.{Gives, FailsToGive};
 ghost use Rattle.tb_link.specs.Sinks.{LeavesSink, no_sink};
 
+use crate::faults::Faults;
 use crate::source::{Failed, Source};
 
 /// Gives bytes in pieces, and fails at stated calls.
@@ -14,10 +15,9 @@ pub struct TextSource {
     piece: usize,
     fails: Vec<u64>,
     calls: u64,
-    faults: u64,
+    faults: Faults,
     ghost within: { at ≤ vec_len bytes },
     ghost some: { 1 ≤ piece },
-    ghost bounded: { faults ≤ last_count },
 }
 
 impl TextSource {
@@ -25,8 +25,8 @@ impl TextSource {
     pub fn new(bytes: Vec<u8>, piece: usize, fails: Vec<u64>) -> TextSource
         requires { 1 ≤ piece }
         ensures bytes { result.bytes.items ≡ bytes.items }
-        ensures start { (result.at ≡ 0) × (result.faults ≡ 0) × (result.calls ≡ 0) }
-        ensures fails { result.fails.items ≡ fails.items }
+        ensures start { (result.at ≡ 0) × (result.faults.count ≡ 0) × (result.calls ≡ 0) }
+        ensures as_given { (result.piece ≡ piece) × (result.fails.items ≡ fails.items) }
     {
         TextSource {
             bytes,
@@ -34,7 +34,7 @@ impl TextSource {
             piece,
             fails,
             calls: 0,
-            faults: 0,
+            faults: Faults::none(),
         }
     }
 
@@ -44,6 +44,7 @@ impl TextSource {
         ensures next { drop self.now.at self.now.bytes.items ≡ result.now ++ drop (self.now.at + length result.now) self.now.bytes.items }
         ensures within { self.now.at + length result.now ≤ vec_len self.now.bytes }
         ensures short { length result.now ≤ most }
+        ensures few { length result.now ≤ self.now.piece }
         ensures at_end { (length result.now ≡ 0) ↔ (drop self.now.at self.now.bytes.items ≡ []) }
     {
         let left = &self.bytes[self.at..];
@@ -53,7 +54,7 @@ impl TextSource {
 }
 
 impl Source for TextSource {
-    ghost use Rattle.tb_link.specs.Memory.{text_source};
+    ghost use Rattle.tb_link.specs.Memory.{text_source, CountsRead};
 
     ghost source = { text_source };
 
@@ -64,12 +65,14 @@ impl Source for TextSource {
         ensures beside { LeavesSink no_sink no_sink }
         // It fails at the stated calls and at no other.
         ensures exactly { IsErr result ↔ Contains self.old.fails.items self.old.calls }
+        ensures few { IfOk result (λ n. n ≤ self.old.piece) }
+        ensures one_fault { OnErr result (self.new.faults.count ≡ counted self.old.faults.count) }
+        ensures call { CountsRead self.old self.new }
     {
         let call = self.calls;
         self.calls = call.saturating_add(1);
         if self.fails.contains(&call) {
-            self.faults = self.faults.saturating_add(1);
-            return Err(Failed);
+            return Err(self.faults.rise());
         }
         let next = self.next_piece(into.len());
         let count = next.len();
@@ -77,4 +80,6 @@ impl Source for TextSource {
         self.at += count;
         Ok(count)
     }
+
+    ghost bounded = { λ self. self.faults.bounded };
 }

@@ -1,5 +1,6 @@
 //! Sinks of bytes.
-ghost use Rattle.std.specs.Prelude.{OnOk, OnErr};
+ghost use Rattle.std.specs.Prelude.{◌≤◌, OnOk, OnErr};
+ghost use Rattle.tb_link.specs.Counts.{last_count};
 ghost use Rattle.tb_link.specs.Sinks.{SinkState, Takes, FailsToTake};
 ghost use Rattle.tb_link.specs.Sources.{SourceState, LeavesSource, no_source};
 
@@ -18,4 +19,7 @@ pub trait Sink {
         ensures takes { OnOk result (Takes (sink self.old) (sink self.new) bytes.now) }
         ensures fails { OnErr result (FailsToTake (sink self.old) (sink self.new) bytes.now) }
         ensures beside { LeavesSource (source_beside self.old) (source_beside self.new) };
+
+    /// The count of faults is at most its last value.
+    ghost bounded: { (self : Self) → (sink self).faults ≤ last_count };
 }

@@ -1,5 +1,6 @@
 //! Sources of bytes.
-ghost use Rattle.std.specs.Prelude.{◌<◌, length, codes, Some, IfOk, OnErr};
+ghost use Rattle.std.specs.Prelude.{◌<◌, ◌≤◌, length, codes, Some, IfOk, OnErr};
+ghost use Rattle.tb_link.specs.Counts.{last_count};
 ghost use Rattle.tb_link.specs.Sources.{SourceState, Gives, FailsToGive};
 ghost use Rattle.tb_link.specs.Sinks.{SinkState, LeavesSink, no_sink};
 
@@ -22,7 +23,7 @@ impl Error for Failed {}
 
 /// Where bytes come from.
 pub trait Source {
-    /// The bytes left, where it tells them, and its count of faults.
+    /// The bytes left, where it tells them, its count of faults, and how many reads there were.
     ghost source: { Self → SourceState };
 
     /// Where it is a sink too, what a read leaves of the sink.
@@ -34,4 +35,7 @@ pub trait Source {
         ensures gives { IfOk result (Gives (source self.old) (source self.new) into.new) }
         ensures fails { OnErr result (FailsToGive (source self.old) (source self.new)) }
         ensures beside { LeavesSink (sink_beside self.old) (sink_beside self.new) };
+
+    /// The count of faults is at most its last value.
+    ghost bounded: { (self : Self) → (source self).faults ≤ last_count };
 }

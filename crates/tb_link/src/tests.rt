@@ -1,4 +1,5 @@
 use super::*;
+use std::io::{self, ErrorKind, Read};
 use std::test::Fail;
 
 #[test]
@@ -37,5 +38,36 @@ fn adapters_pass_bytes_on(rt: HostRuntime) -> Result<(), Fail> {
     assert_eq!(rt; source.read(&mut buffer), Ok(0));
     let mut sink = StdSink::new(Vec::new(rt.alloc()));
     assert_eq!(rt; sink.write(b"ab"), Ok(()));
+    Ok(())
+}
+
+// A reader that is interrupted at every other read.
+#[derive(Drop)]
+struct Disturbed<'a> {
+    bytes: &'a [u8],
+    disturbed: bool,
+}
+
+impl Read for Disturbed<'_> {
+    fn read(&mut self, into: &mut [u8]) -> io::Result<usize> {
+        self.disturbed = !self.disturbed;
+        if self.disturbed {
+            return Err(ErrorKind::Interrupted.into());
+        }
+        self.bytes.read(into)
+    }
+}
+
+#[test]
+fn an_interrupted_read_is_made_again(rt: HostRuntime) -> Result<(), Fail> {
+    let mut source = StdSource::new(Disturbed {
+        bytes: b"abc",
+        disturbed: false,
+    });
+    let mut buffer = [0u8; 2];
+    assert_eq!(rt; source.read(&mut buffer), Ok(2));
+    assert_eq!(rt; buffer, *b"ab");
+    assert_eq!(rt; source.read(&mut buffer), Ok(1));
+    assert_eq!(rt; source.read(&mut buffer), Ok(0));
     Ok(())
 }

@@ -9,7 +9,13 @@ index-requires c = omega (arith, c.requires, ap length c.self.view_is, length-pa
 pub returns : goal.returns
 returns c =
     let items = c.self.inside.frames.items in
-    let within : c.args.index < length items = omega (arith, c.requires, ap length c.self.view_is, length-payloads_of items) in
+    let within : c.args.index < length items = omega (
+      arith,
+      c.requires,
+      ap length c.self.view_is,
+      length-payloads_of items,
+    ) in
     c.as_slice.ensures.value
     ∙ (ap (λ (f : Frame). f.payload.items) c.index.ensures
-    ∙ (sym (get_or-payloads_of items c.args.index c.index.result.now within) ∙ ap (λ (l : List (List ℕ)). get_or l c.args.index []) c.self.view_is))
+    ∙ (sym (get_or-payloads_of items c.args.index c.index.result.now within)
+    ∙ ap (λ (l : List (List ℕ)). get_or l c.args.index []) c.self.view_is))

@@ -10,7 +10,12 @@ index-requires c = omega (arith, c.requires, ap length c.self.view_is, length-pa
 pub returns : goal.returns
 returns c =
     let items = c.self.inside.frames.items in
-    let within : c.args.index < length items = omega (arith, c.requires, ap length c.self.view_is, length-payloads_of items) in
+    let within : c.args.index < length items = omega (
+      arith,
+      c.requires,
+      ap length c.self.view_is,
+      length-payloads_of items,
+    ) in
     omega (
       arith,
       ap (λ (f : Frame). f.place) c.index.ensures,

@@ -1,38 +1,64 @@
-use Rattle.std.proofs.Common.{◌+◌, ◌++◌, [], ◌∷◌, ℕ, List, Option, length, subst, sym, arith}
-use Rattle.tb_disk.specs.Past.{MayLeave}
-use Rattle.tb_journal.specs.Image.{StandsFor}
-use Rattle.tb_journal.specs.Journal.{Holds, Adds}
-use Rattle.tb_journal.proofs.Calls.{Known, Told-weaker, held_stays}
-use Rattle.tb_journal.proofs.Knowing.{known_added, known_doubted}
+-- A payload is added, or it is in doubt.
+use Rattle.std.proofs.Common.{◌≡◌, ◌+◌, ◌++◌, [], ◌∷◌, ℕ, Option, None, length, ap, subst, sym, ◌∙◌, arith}
+use Rattle.tb_journal.specs.Journal.{Told, Adds, Stays}
+use Rattle.tb_journal.specs.Journals.{JournalView}
+use Rattle.tb_journal.proofs.ToldLemmas.{Told-weaker}
+use Rattle.tb_journal.proofs.Calls.{held_stays}
+use Rattle.tb_journal.proofs.SinceLemmas.{Knows, knows_added, knows_doubted, reaches_behind}
 use Rattle.tb_journal.proofs.journal.Journal.append.Goals as goal
+
+pub add-requires-clause-place : goal.add-requires-clause-place
+add-requires-clause-place g c =
+    let d = g.D.Disk.disk in
+    let inside = c.self.inside in
+    let sure : inside.doubt ≡ None = ap (λ (view : JournalView g.row.D.Denot). view.doubt) c.self.view_is
+    ∙ c.requires.sure in
+    let known = subst (λ (doubt : Option ℕ). Knows (d inside.opened.value) (d inside.disk) inside.gate doubt) sure
+    c.self.invariant.since in
+    reaches_behind (d inside.opened.value) (d inside.disk) inside.gate known
 
 pub invariant_of-self : goal.invariant_of-self
 invariant_of-self g c =
     let d = g.D.Disk.disk in
-    let p = c.args.payload.now in
-    let gate = c.args.self.now.gate in
-    let known = subst (λ (o : Option ℕ). Known (d c.args.self.now.disk) gate o) c.requires.sure c.args.self.now.known in
+    let inside = c.self.inside in
+    let payload = c.args.payload.now in
+    let next = inside.gate + 5 + length payload in
+    let sure : inside.doubt ≡ None = ap (λ (view : JournalView g.row.D.Denot). view.doubt) c.self.view_is
+    ∙ c.requires.sure in
+    let known = subst (λ (doubt : Option ℕ). Knows (d inside.opened.value) (d inside.disk) inside.gate doubt) sure
+    c.self.invariant.since in
+    let added = knows_added payload inside.gate next (d inside.opened.value) (d inside.disk)
+    (d c.add.new.disk) known c.in-Ok.ensures.ok in
     record {
-      room = omega (arith, c.add.ensures.room, c.args.self.now.room);
-      known = subst (λ (o : Option ℕ). Known (d c.add.new.disk) (gate + 5 + length p) o) (sym c.requires.sure) (known_added p gate (gate + 5 + length p) (d c.args.self.now.disk) (d c.add.new.disk) known c.in-Ok.ensures.ok);
+      room_enough = omega (arith, c.add.ensures.room, c.self.invariant.room_enough);
+      since = subst (λ (doubt : Option ℕ). Knows (d inside.opened.value) (d c.add.new.disk) next doubt)
+          (sym sure) added;
     }
 
 pub invariant_of-self-in-Err : goal.invariant_of-self-in-Err
 invariant_of-self-in-Err g c =
     let d = g.D.Disk.disk in
-    let p = c.args.payload.now in
-    let gate = c.args.self.now.gate in
-    let known = subst (λ (o : Option ℕ). Known (d c.args.self.now.disk) gate o) c.requires.sure c.args.self.now.known in
+    let inside = c.self.inside in
+    let payload = c.args.payload.now in
+    let sure : inside.doubt ≡ None = ap (λ (view : JournalView g.row.D.Denot). view.doubt) c.self.view_is
+    ∙ c.requires.sure in
+    let known = subst (λ (doubt : Option ℕ). Knows (d inside.opened.value) (d inside.disk) inside.gate doubt) sure
+    c.self.invariant.since in
     record {
-      room = omega (arith, c.add.ensures.room, c.args.self.now.room);
-      known = known_doubted p gate (gate + 5 + length p) (d c.args.self.now.disk) (d c.add.new.disk) known c.in-Err.ensures.err;
+      room_enough = omega (arith, c.add.ensures.room, c.self.invariant.room_enough);
+      since = knows_doubted payload inside.gate (inside.gate + 5 + length payload) (d inside.opened.value)
+          (d inside.disk) (d c.add.new.disk) known c.in-Err.ensures.err;
     }
 
 pub returns-in-Ok-clause-stays : goal.returns-in-Ok-clause-stays
 returns-in-Ok-clause-stays g c =
     let d = g.D.Disk.disk in
-    let p = c.args.payload.now in
-    let gate = c.args.self.now.gate in
-    let next = gate + 5 + length p in
-    Told-weaker (Adds p gate next) (λ before now. (ps : List (List ℕ)) → Holds ps gate before → (f : List ℕ) → MayLeave now f → StandsFor (ps ++ p ∷ []) f) (d c.args.self.now.disk) (d c.add.new.disk)
-    (λ a b adds ps holds. held_stays (ps ++ p ∷ []) next b (adds ps holds).0) c.in-Ok.ensures.ok
+    let inside = c.self.inside in
+    let payload = c.args.payload.now in
+    let next = inside.gate + 5 + length payload in
+    let Goal : JournalView g.row.D.Denot → Type 0 = λ view. Told (d view.disk) (d c.add.new.disk)
+    (Stays payload view.gate) in
+    subst Goal c.self.view_is
+    (Told-weaker (Adds payload inside.gate next) (Stays payload inside.gate) (d inside.disk) (d c.add.new.disk)
+    (λ before now adds payloads holds. held_stays (payloads ++ payload ∷ []) next now (adds payloads holds).0)
+    c.in-Ok.ensures.ok)

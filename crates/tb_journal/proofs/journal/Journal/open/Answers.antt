@@ -1,14 +1,23 @@
 use Rattle.std.proofs.Common.{Ok, Err}
 use Rattle.tb_journal.proofs.OpeningLemmas.{Finds, Refuses}
 use Rattle.tb_journal.proofs.Exactness.{exact_told}
+use Rattle.tb_journal.proofs.SinceLemmas.{knows_opened}
 use Rattle.tb_journal.proofs.journal.Journal.open.Goals as goal
+
+pub opened-requires-clause-since : goal.opened-requires-clause-since
+opened-requires-clause-since g c =
+    let d = g.D.Disk.disk in
+    knows_opened (Finds c.in-Ok.frames c.in-Ok.gate) c.in-Ok.frames c.in-Ok.gate (d c.args.disk) (d c.find.new.disk)
+    (λ before now finds. finds.1) c.in-Ok.ensures.ok
 
 pub returns-in-Ok-with_capacity-clause-exact : goal.returns-in-Ok-with_capacity-clause-exact
 returns-in-Ok-with_capacity-clause-exact g c =
     let d = g.D.Disk.disk in
-    exact_told (Ok c.in-Ok.frames) (Finds c.in-Ok.frames c.in-Ok.gate) (d c.args.disk) (d c.find.new.disk) (λ before now finds. finds.0) c.in-Ok.ensures.ok
+    exact_told (Ok c.in-Ok.frames) (Finds c.in-Ok.frames c.in-Ok.gate) (d c.args.disk) (d c.find.new.disk)
+    (λ before now finds. finds.0) c.in-Ok.ensures.ok
 
 pub returns-in-Err-clause-exact_refusal : goal.returns-in-Err-clause-exact_refusal
 returns-in-Err-clause-exact_refusal g c =
     let d = g.D.Disk.disk in
-    exact_told (Err c.in-Err.fault) (Refuses c.in-Err.fault) (d c.args.disk) (d c.find.new.disk) (λ before now refuses. refuses.0) c.in-Err.ensures.err
+    exact_told (Err c.in-Err.fault) (Refuses c.in-Err.fault) (d c.args.disk) (d c.find.new.disk)
+    (λ before now refuses. refuses.0) c.in-Err.ensures.err

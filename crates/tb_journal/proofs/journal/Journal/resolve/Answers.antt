@@ -1,61 +1,112 @@
-use Rattle.std.proofs.Common.{◌≡◌, ℕ, List, [], ◌∷◌, ◌++◌, Option, Some, Bool, true, false, subst, sym, ◌∙◌}
-use Rattle.tb_journal.specs.Journal.{Told, Holds, InDoubt}
-use Rattle.tb_journal.proofs.Calls.{Known}
-use Rattle.tb_journal.proofs.Knowing.{Looks, known_counts, known_counts_not, known_still, settles, byte_known, leaves_looked, leaves_still}
+-- What is in doubt is settled, or it is in doubt still.
+use Rattle.std.proofs.Common.{◌≡◌, ◌↔◌, ℕ, Option, Some, IfSome, IsTrue, Bool, true, slice_index, ap, subst, sym, ◌∙◌}
+use Rattle.tb_disk.specs.Past.{contents_of}
+use Rattle.tb_journal.specs.Journal.{Told, Settles, LeavesInDoubt}
+use Rattle.tb_journal.specs.Journals.{JournalView}
+use Rattle.tb_journal.proofs.SinceLemmas.{Knows, Looks, knows_counts, knows_counts_not, knows_still, settles, byte_known, leaves_looked, leaves_still}
 use Rattle.tb_journal.proofs.journal.Journal.resolve.Goals as goal
 
-same_next : {m n : ℕ} → Some m ≡ Some n → m ≡ n
-same_next e = cc
+-- there is one place behind the payload in doubt
+same_next : {first second : ℕ} → Some first ≡ Some second → first ≡ second
+same_next is = cc
 
 pub invariant_of-self : goal.invariant_of-self
 invariant_of-self g c =
     let d = g.D.Disk.disk in
-    let gate = c.args.self.now.gate in
+    let inside = c.self.inside in
     let next = c.unwrap-next.result in
-    let known = subst (λ (o : Option ℕ). Known (d c.args.self.now.disk) gate o) c.unwrap-next.ensures c.args.self.now.known in
-    record { room = c.args.self.now.room; known = known_counts gate next (d c.args.self.now.disk) (d c.gate_is_open.new.disk) known (subst (λ (b : Bool). Told (d c.args.self.now.disk) (d c.gate_is_open.new.disk) (Looks c.args.self.now.gate b)) c.in-Ok-true.field-0-test c.in-Ok-true.ensures.ok) }
+    let known = subst (λ (doubt : Option ℕ). Knows (d inside.opened.value) (d inside.disk) inside.gate doubt)
+    c.unwrap-next.ensures c.self.invariant.since in
+    let looks = subst (λ (counts : Bool). Told (d inside.disk) (d c.gate_is_open.new.disk) (Looks inside.gate counts))
+    c.in-Ok-true.field-0-test c.in-Ok-true.ensures.ok in
+    record {
+      room_enough = c.self.invariant.room_enough;
+      since = knows_counts inside.gate next (d inside.opened.value) (d inside.disk)
+          (d c.gate_is_open.new.disk) known looks;
+    }
 
 pub invariant_of-self-in-Ok-false : goal.invariant_of-self-in-Ok-false
 invariant_of-self-in-Ok-false g c =
     let d = g.D.Disk.disk in
-    let gate = c.args.self.now.gate in
+    let inside = c.self.inside in
     let next = c.unwrap-next.result in
-    let known = subst (λ (o : Option ℕ). Known (d c.args.self.now.disk) gate o) c.unwrap-next.ensures c.args.self.now.known in
-    record { room = c.args.self.now.room; known = known_counts_not gate next (d c.args.self.now.disk) (d c.gate_is_open.new.disk) known (subst (λ (b : Bool). Told (d c.args.self.now.disk) (d c.gate_is_open.new.disk) (Looks c.args.self.now.gate b)) c.in-Ok-false.field-0-test c.in-Ok-false.ensures.ok) }
+    let known = subst (λ (doubt : Option ℕ). Knows (d inside.opened.value) (d inside.disk) inside.gate doubt)
+    c.unwrap-next.ensures c.self.invariant.since in
+    let looks = subst (λ (counts : Bool). Told (d inside.disk) (d c.gate_is_open.new.disk) (Looks inside.gate counts))
+    c.in-Ok-false.field-0-test c.in-Ok-false.ensures.ok in
+    record {
+      room_enough = c.self.invariant.room_enough;
+      since = knows_counts_not inside.gate next (d inside.opened.value) (d inside.disk)
+          (d c.gate_is_open.new.disk) known looks;
+    }
 
 pub invariant_of-self-in-Err : goal.invariant_of-self-in-Err
 invariant_of-self-in-Err g c =
     let d = g.D.Disk.disk in
-    let gate = c.args.self.now.gate in
+    let inside = c.self.inside in
     let next = c.unwrap-next.result in
-    let known = subst (λ (o : Option ℕ). Known (d c.args.self.now.disk) gate o) c.unwrap-next.ensures c.args.self.now.known in
-    record { room = c.args.self.now.room; known = subst (λ (o : Option ℕ). Known (d c.gate_is_open.new.disk) gate o) (sym c.unwrap-next.ensures) (known_still gate next (d c.args.self.now.disk) (d c.gate_is_open.new.disk) known c.in-Err.ensures.err) }
+    let known = subst (λ (doubt : Option ℕ). Knows (d inside.opened.value) (d inside.disk) inside.gate doubt)
+    c.unwrap-next.ensures c.self.invariant.since in
+    let still = knows_still inside.gate next (d inside.opened.value) (d inside.disk)
+    (d c.gate_is_open.new.disk) known c.in-Err.ensures.err in
+    record {
+      room_enough = c.self.invariant.room_enough;
+      since = subst (λ (doubt : Option ℕ). Knows (d inside.opened.value) (d c.gate_is_open.new.disk) inside.gate doubt)
+          (sym c.unwrap-next.ensures) still;
+    }
 
 pub returns-in-Ok-true-clause-settles : goal.returns-in-Ok-true-clause-settles
 returns-in-Ok-true-clause-settles g c next doubt =
     let d = g.D.Disk.disk in
-    let same : next ≡ c.unwrap-next.result = same_next (sym doubt ∙ c.unwrap-next.ensures) in
-    let gate = c.args.self.now.gate in
-    subst (λ (n : ℕ). Told (d c.args.self.now.disk) (d c.gate_is_open.new.disk) (λ before now. (ps : List (List ℕ)) (p : List ℕ) → InDoubt ps p gate next before → Holds (ps ++ p ∷ []) n now)) same
-    (settles gate next true (d c.args.self.now.disk) (d c.gate_is_open.new.disk) (subst (λ (b : Bool). Told (d c.args.self.now.disk) (d c.gate_is_open.new.disk) (Looks c.args.self.now.gate b)) c.in-Ok-true.field-0-test c.in-Ok-true.ensures.ok))
+    let inside = c.self.inside in
+    let here = c.unwrap-next.result in
+    let looks = subst (λ (counts : Bool). Told (d inside.disk) (d c.gate_is_open.new.disk) (Looks inside.gate counts))
+    c.in-Ok-true.field-0-test c.in-Ok-true.ensures.ok in
+    let same : here ≡ next = same_next (sym c.unwrap-next.ensures
+    ∙ (ap (λ (view : JournalView g.row.D.Denot). view.doubt) c.self.view_is ∙ doubt)) in
+    let Goal : JournalView g.row.D.Denot → Type 0 = λ view. Told (d view.disk) (d c.gate_is_open.new.disk)
+    (Settles view.gate next here true) in
+    subst Goal c.self.view_is
+    (subst (λ (n : ℕ). Told (d inside.disk) (d c.gate_is_open.new.disk) (Settles inside.gate n here true)) same
+    (settles inside.gate here true (d inside.disk) (d c.gate_is_open.new.disk) looks))
 
 pub returns-in-Ok-true-clause-byte : goal.returns-in-Ok-true-clause-byte
 returns-in-Ok-true-clause-byte g c =
     let d = g.D.Disk.disk in
-    let known = subst (λ (o : Option ℕ). Known (d c.args.self.now.disk) c.args.self.now.gate o) c.unwrap-next.ensures c.args.self.now.known in
-    byte_known c.args.self.now.gate c.unwrap-next.result true (d c.args.self.now.disk) (d c.gate_is_open.new.disk) known (subst (λ (b : Bool). Told (d c.args.self.now.disk) (d c.gate_is_open.new.disk) (Looks c.args.self.now.gate b)) c.in-Ok-true.field-0-test c.in-Ok-true.ensures.ok)
+    let inside = c.self.inside in
+    let next = c.unwrap-next.result in
+    let known = subst (λ (doubt : Option ℕ). Knows (d inside.opened.value) (d inside.disk) inside.gate doubt)
+    c.unwrap-next.ensures c.self.invariant.since in
+    let looks = subst (λ (counts : Bool). Told (d inside.disk) (d c.gate_is_open.new.disk) (Looks inside.gate counts))
+    c.in-Ok-true.field-0-test c.in-Ok-true.ensures.ok in
+    let Goal : JournalView g.row.D.Denot → Type 0 = λ view. IfSome (d view.disk).past
+    (λ past. IsTrue true ↔ (slice_index (contents_of past) view.gate ≡ 1)) in
+    subst Goal c.self.view_is (byte_known inside.gate next true (d inside.opened.value) (d inside.disk)
+    (d c.gate_is_open.new.disk) known looks)
 
 pub returns-in-Ok-true-clause-crash : goal.returns-in-Ok-true-clause-crash
 returns-in-Ok-true-clause-crash g c next doubt =
     let d = g.D.Disk.disk in
-    leaves_looked c.args.self.now.gate next true (d c.args.self.now.disk) (d c.gate_is_open.new.disk) (subst (λ (b : Bool). Told (d c.args.self.now.disk) (d c.gate_is_open.new.disk) (Looks c.args.self.now.gate b)) c.in-Ok-true.field-0-test c.in-Ok-true.ensures.ok)
+    let inside = c.self.inside in
+    let Goal : JournalView g.row.D.Denot → Type 0 = λ view. Told (d view.disk) (d c.gate_is_open.new.disk)
+    (LeavesInDoubt view.gate next) in
+    subst Goal c.self.view_is (leaves_looked inside.gate next c.in-Ok-true.field-0 (d inside.disk)
+    (d c.gate_is_open.new.disk) c.in-Ok-true.ensures.ok)
 
 pub returns-in-Ok-false-clause-crash : goal.returns-in-Ok-false-clause-crash
 returns-in-Ok-false-clause-crash g c next doubt =
     let d = g.D.Disk.disk in
-    leaves_looked c.args.self.now.gate next false (d c.args.self.now.disk) (d c.gate_is_open.new.disk) (subst (λ (b : Bool). Told (d c.args.self.now.disk) (d c.gate_is_open.new.disk) (Looks c.args.self.now.gate b)) c.in-Ok-false.field-0-test c.in-Ok-false.ensures.ok)
+    let inside = c.self.inside in
+    let Goal : JournalView g.row.D.Denot → Type 0 = λ view. Told (d view.disk) (d c.gate_is_open.new.disk)
+    (LeavesInDoubt view.gate next) in
+    subst Goal c.self.view_is (leaves_looked inside.gate next c.in-Ok-false.field-0 (d inside.disk)
+    (d c.gate_is_open.new.disk) c.in-Ok-false.ensures.ok)
 
 pub returns-in-Err-clause-crash : goal.returns-in-Err-clause-crash
 returns-in-Err-clause-crash g c next doubt =
     let d = g.D.Disk.disk in
-    leaves_still c.args.self.now.gate next (d c.args.self.now.disk) (d c.gate_is_open.new.disk) c.in-Err.ensures.err
+    let inside = c.self.inside in
+    let Goal : JournalView g.row.D.Denot → Type 0 = λ view. Told (d view.disk) (d c.gate_is_open.new.disk)
+    (LeavesInDoubt view.gate next) in
+    subst Goal c.self.view_is (leaves_still inside.gate next (d inside.disk)
+    (d c.gate_is_open.new.disk) c.in-Err.ensures.err)
