@@ -1,0 +1,37 @@
+-- The forms of members and fields, and their values.
+use Rattle.std.specs.Prelude.{Option, Some, None, if◌then◌else◌, ℕ, ◌^◌, ◌==◌, ℤ, List, length, Bool, false, ◌&&◌, nat_le, nat_lt, unsigned_abs}
+use Rattle.tb_units.specs.Names.{is_name}
+
+pub data Form : Type 0 where
+  name : Form
+  cusip : Form
+  amount : Form
+  number : Form
+  position : Form
+  rate : Form
+  day : Form
+  minute : Form
+  moment : Form
+
+-- a value of one of the forms: a rate by its steps, a day by its number, a moment by its seconds
+pub data Part : Type 0 where
+  text : List ℕ → Part
+  whole : ℕ → Part
+  signed : ℤ → Part
+
+-- the range of each form
+abbrev pub is_of : Form → Part → Bool
+is_of name (text t) = is_name t
+is_of cusip (text t) = length t == 9
+is_of amount (whole n) = nat_le n (10 ^ 12)
+is_of number (whole n) = nat_le 1 n && nat_le n (10 ^ 15)
+is_of position (signed z) = nat_le (unsigned_abs z) (10 ^ 12)
+is_of rate (whole n) = nat_le n 199999
+is_of day (whole n) = nat_le 10957 n && nat_le n 47481
+is_of minute (whole n) = nat_lt n 1440
+is_of moment (whole n) = nat_le 946702800 n && nat_le n 4102444799
+is_of form part = false
+
+-- the value, if it is in the range of the form
+abbrev pub in_range : Form → Part → Option Part
+in_range form part = if is_of form part then Some part else None

@@ -1,0 +1,9 @@
+pub mod Forms
+pub mod Keys
+pub mod Kinds
+pub mod Queries
+pub mod Messages
+pub mod Spelling
+pub mod Reading
+pub mod Requests
+pub mod Verdicts

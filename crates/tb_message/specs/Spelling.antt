@@ -1,0 +1,68 @@
+-- Records of entries: the one spelling of each entry.
+use Rattle.std.specs.Prelude.{◌≡◌, ℕ, List, [], ◌∷◌, ◌++◌, length, drop, true, ⊤}
+use Rattle.std.specs.List.{flat_map}
+use Rattle.std.specs.Int.{w16, w32, w64, to_be_bytes, cast_unsigned}
+use Rattle.tb_message.specs.declared.message.Entry.{Entry}
+use Rattle.tb_message.specs.declared.message.Message.{Message}
+use Rattle.tb_message.specs.Forms.{Form, name, cusip, amount, number, position, rate, day, minute, moment, Part, text, whole, signed, is_of}
+use Rattle.tb_message.specs.Kinds.{tag_of, forms_of}
+use Rattle.tb_message.specs.Messages.{kind_of, parts_of}
+
+-- a name is one length byte and its bytes, a CUSIP its nine bytes; numbers are big-endian, a position in two's complement
+unfoldable pub spelled : Form → Part → List ℕ
+spelled name (text t) = length t ∷ t
+spelled cusip (text t) = t
+spelled amount (whole n) = to_be_bytes w64 n
+spelled number (whole n) = to_be_bytes w64 n
+spelled position (signed z) = to_be_bytes w64 (cast_unsigned w64 z)
+spelled rate (whole n) = to_be_bytes w32 n
+spelled day (whole n) = to_be_bytes w32 n
+spelled minute (whole n) = to_be_bytes w16 n
+spelled moment (whole n) = to_be_bytes w32 n
+spelled form part = []
+
+-- fields, one after another
+abbrev pub spelled_all : List Form → List Part → List ℕ
+spelled_all [] parts = []
+spelled_all (form ∷ forms) [] = []
+spelled_all (form ∷ forms) (part ∷ parts) = spelled form part ++ spelled_all forms parts
+
+-- each part is in the range of its form
+abbrev pub AreOf : List Form → List Part → Type 0
+AreOf [] [] = ⊤
+AreOf [] (part ∷ parts) = ⊥
+AreOf (form ∷ forms) [] = ⊥
+AreOf (form ∷ forms) (part ∷ parts) = (is_of form part ≡ true) × AreOf forms parts
+
+-- what stands in front of the tag
+abbrev pub head_forms : List Form
+head_forms = name ∷ number ∷ moment ∷ []
+
+abbrev pub head_of : Entry → List Part
+head_of entry = text entry.submitter ∷ whole entry.number ∷ whole entry.moment.seconds ∷ []
+
+-- the values of the entry are in their ranges
+pub record IsInRange (entry : Entry) : Type 0 where
+  pub head : AreOf head_forms (head_of entry)
+  pub body : AreOf (forms_of (kind_of entry.message)) (parts_of entry.message)
+
+-- a number and a message that an entry can carry
+pub record IsNumbered (n : ℕ) (message : Message) : Type 0 where
+  pub number_fits : is_of number (whole n) ≡ true
+  pub message_fits : AreOf (forms_of (kind_of message)) (parts_of message)
+
+-- submitter, number, moment, tag, and the fields of the kind
+abbrev pub spelling : Entry → List ℕ
+spelling entry =
+    spelled_all head_forms (head_of entry)
+    ++ tag_of (kind_of entry.message) ∷ spelled_all (forms_of (kind_of entry.message)) (parts_of entry.message)
+
+-- the spellings of a list of entries, one behind the other
+abbrev pub spellings : List Entry → List ℕ
+spellings entries = flat_map spelling entries
+
+-- the bytes begin with the spelling of the entry, which is in its ranges, and that is so many bytes
+pub record IsTaken (bytes : List ℕ) (entry : Entry) (size : ℕ) : Type 0 where
+  pub in_range : IsInRange entry
+  pub begins : bytes ≡ spelling entry ++ drop size bytes
+  pub whole : size ≡ length (spelling entry)

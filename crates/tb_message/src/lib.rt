@@ -1,0 +1,27 @@
+//! Messages and entries: the kinds with their members, the records of entries, and requests read from JSON.
+#![tactic(auto)]
+
+mod fields;
+mod key;
+mod kind;
+mod laws;
+mod members;
+mod message;
+mod putting;
+mod query;
+mod record;
+mod requests;
+mod taking;
+#[cfg(test)]
+mod tests;
+mod verdict;
+mod writing;
+
+pub use key::Key;
+pub use kind::Kind;
+pub use laws::{one_list, one_request, one_spelling};
+pub use message::{Entry, Message};
+pub use query::{Query, QueryKind, ReadFault, Request};
+pub use record::Record;
+pub use requests::read_request;
+pub use verdict::{Line, Verdict, verdict_line};

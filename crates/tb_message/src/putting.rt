@@ -1,0 +1,209 @@
+//! Entries, spelled as records.
+ghost use Rattle.std.specs.Prelude.{◌≡◌, ◌+◌, ◌≤◌, ◌^◌, [], ◌++◌, length, take, drop, true};
+ghost use Rattle.std.specs.Int.{w16, w32, w64};
+ghost use Rattle.tb_units.specs.Names.{is_name};
+ghost use Rattle.tb_message.specs.Forms.{text, whole, signed};
+ghost use Rattle.tb_message.specs.Forms as form;
+ghost use Rattle.tb_message.specs.Spelling.{spelled, spelling, spelled_all, head_forms, head_of, IsInRange, AreOf};
+ghost use Rattle.tb_message.specs.Messages.{kind_of, parts_of};
+ghost use Rattle.tb_message.specs.declared.message.Message.TheVariants as messages;
+ghost use Rattle.tb_message.specs.declared.kind.Kind.TheVariants as kinds;
+ghost use Rattle.tb_message.specs.Kinds.{tag_of, forms_of};
+
+use crate::message::{Entry, Message};
+use crate::record::Record;
+use tb_terms::{Announcement, Cusip};
+use tb_units::{Day, Dollars, Ident, Moment, Rate};
+
+impl Record {
+    #[tactic(auto, unfolding(crate::specs::Spelling::spelled))]
+    fn amount(&mut self, amount: Dollars)
+        requires room { length self.old ≤ 500 }
+        requires range { amount.value ≤ 10 ^ 12 }
+        ensures amount { self.new ≡ self.old ++ spelled form.amount (whole amount.value) }
+        ensures size { length self.new ≡ length self.old + 8 }
+    {
+        self.push(&(amount.value as u64).to_be_bytes());
+    }
+
+    #[tactic(auto, unfolding(crate::specs::Spelling::spelled))]
+    fn number(&mut self, number: u64)
+        requires room { length self.old ≤ 500 }
+        ensures number { self.new ≡ self.old ++ spelled form.number (whole number) }
+        ensures size { length self.new ≡ length self.old + 8 }
+    {
+        self.push(&number.to_be_bytes());
+    }
+
+    #[tactic(auto, unfolding(crate::specs::Spelling::spelled))]
+    fn position(&mut self, position: i64)
+        requires room { length self.old ≤ 500 }
+        ensures position { self.new ≡ self.old ++ spelled form.position (signed position) }
+        ensures size { length self.new ≡ length self.old + 8 }
+    {
+        self.push(&position.to_be_bytes());
+    }
+
+    #[tactic(auto, unfolding(crate::specs::Spelling::spelled))]
+    fn rate(&mut self, rate: Rate)
+        requires room { length self.old ≤ 500 }
+        ensures rate { self.new ≡ self.old ++ spelled form.rate (whole rate.steps) }
+        ensures size { length self.new ≡ length self.old + 4 }
+    {
+        self.push(&rate.steps.to_be_bytes());
+    }
+
+    #[tactic(auto, unfolding(crate::specs::Spelling::spelled))]
+    fn day(&mut self, day: Day)
+        requires room { length self.old ≤ 500 }
+        ensures day { self.new ≡ self.old ++ spelled form.day (whole day.number) }
+        ensures size { length self.new ≡ length self.old + 4 }
+    {
+        self.push(&day.number.to_be_bytes());
+    }
+
+    #[tactic(auto, unfolding(crate::specs::Spelling::spelled))]
+    fn moment(&mut self, moment: Moment)
+        requires room { length self.old ≤ 500 }
+        ensures moment { self.new ≡ self.old ++ spelled form.moment (whole moment.seconds) }
+        ensures size { length self.new ≡ length self.old + 4 }
+    {
+        self.push(&(moment.seconds as u32).to_be_bytes());
+    }
+
+    #[tactic(auto, unfolding(crate::specs::Spelling::spelled))]
+    fn minute(&mut self, minute: u16)
+        requires room { length self.old ≤ 500 }
+        ensures minute { self.new ≡ self.old ++ spelled form.minute (whole minute) }
+        ensures size { length self.new ≡ length self.old + 2 }
+    {
+        self.push(&minute.to_be_bytes());
+    }
+
+    #[tactic(auto, unfolding(crate::specs::Spelling::spelled))]
+    fn cusip(&mut self, cusip: &Cusip)
+        requires room { length self.old ≤ 500 }
+        ensures cusip { self.new ≡ self.old ++ spelled form.cusip (text cusip.now.bytes) }
+        ensures size { length self.new ≡ length self.old + 9 }
+    {
+        self.push(&cusip.bytes);
+    }
+
+    #[tactic(auto, unfolding(crate::specs::Spelling::spelled))]
+    fn name(&mut self, name: &Ident)
+        requires room { length self.old ≤ 470 }
+        ensures name { self.new ≡ self.old ++ spelled form.name (text name.now) }
+        ensures size { length self.new ≤ length self.old + 33 }
+    {
+        let bytes = name.bytes();
+        self.push(&[bytes.len() as u8]);
+        self.push(bytes);
+    }
+
+    #[tactic(auto, using(crate::proofs::Texts::joined))]
+    fn terms(&mut self, terms: &Announcement)
+        requires room { length self.old ≤ 100 }
+        requires range { AreOf (forms_of kinds.Announce) (parts_of (messages.Announce terms.now)) }
+        ensures { self.new ≡ self.old ++ spelled_all (forms_of kinds.Announce) (parts_of (messages.Announce terms.now)) }
+    {
+        self.name(&terms.auction);
+        self.cusip(&terms.cusip);
+        self.amount(terms.offering);
+        self.amount(terms.minimum);
+        self.amount(terms.nc_ceiling);
+        self.amount(terms.competitive_floor);
+        self.amount(terms.nlp_threshold);
+        self.day(terms.auction_date);
+        self.minute(terms.nc_close);
+        self.minute(terms.c_close);
+        self.day(terms.issue);
+        self.day(terms.maturity);
+    }
+
+    #[tactic(auto, using(crate::proofs::Texts::joined))]
+    fn body(&mut self, message: &Message)
+        requires room { length self.old ≤ 100 }
+        requires range { AreOf (forms_of (kind_of message.now)) (parts_of message.now) }
+        ensures { self.new ≡ self.old ++ spelled_all (forms_of (kind_of message.now)) (parts_of message.now) }
+    {
+        match message {
+            Message::Register { submitter, key } => {
+                self.name(submitter);
+                self.name(key);
+            }
+            Message::Enrol { bidder, submitter } => {
+                self.name(bidder);
+                self.name(submitter);
+            }
+            Message::Holiday { day } => self.day(*day),
+            Message::Announce { terms } => self.terms(terms),
+            Message::Bid {
+                auction,
+                bidder,
+                rate: Some(rate),
+                amount,
+            } => {
+                self.name(auction);
+                self.name(bidder);
+                self.rate(*rate);
+                self.amount(*amount);
+            }
+            Message::Bid {
+                auction,
+                bidder,
+                rate: None,
+                amount,
+            } => {
+                self.name(auction);
+                self.name(bidder);
+                self.amount(*amount);
+            }
+            Message::Cancel { auction, bid } => {
+                self.name(auction);
+                self.number(*bid);
+            }
+            Message::Position {
+                auction,
+                bidder,
+                position,
+            } => {
+                self.name(auction);
+                self.name(bidder);
+                self.position(*position);
+            }
+            Message::Publish { auction } | Message::Settle { auction } => self.name(auction),
+            Message::Transfer { cusip, to, amount } | Message::Pledge { cusip, to, amount } => {
+                self.cusip(cusip);
+                self.name(to);
+                self.amount(*amount);
+            }
+            Message::Release {
+                holder,
+                pledge,
+                amount,
+            } => {
+                self.name(holder);
+                self.number(*pledge);
+                self.amount(*amount);
+            }
+            Message::Redeem { cusip } => self.cusip(cusip),
+        }
+    }
+}
+
+impl Entry {
+    /// The record of the entry: its one spelling.
+    #[tactic(auto, using(crate::proofs::Texts::joined))]
+    pub fn put(&self) -> Record
+        requires { IsInRange self.now }
+        ensures { result ≡ spelling self.now }
+    {
+        let mut record = Record::new();
+        record.name(&self.submitter);
+        record.number(self.number);
+        record.moment(self.moment);
+        record.push(&[self.message.kind().tag()]);
+        record.body(&self.message);
+        record
+    }
+}

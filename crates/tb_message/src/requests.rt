@@ -1,0 +1,298 @@
+//! Requests, read from JSON.
+ghost use Rattle.std.specs.Prelude.{◌≡◌, Some, IfOk, IfErr};
+ghost use Rattle.serde_json.specs.View.{view};
+ghost use Rattle.tb_message.specs.Forms.{whole};
+ghost use Rattle.tb_message.specs.Kinds.{kind_of_text};
+ghost use Rattle.tb_message.specs.Queries.{query_of_text, query_kind_of, query_parts_of};
+ghost use Rattle.tb_message.specs.Messages.{kind_of, parts_of};
+ghost use Rattle.tb_message.specs.Spelling.{IsNumbered};
+ghost use Rattle.tb_message.specs.Requests.{result_map, body_in, message_in, object_in, request_in, query, asked_by, Says, FaultOf, AnswerOf, IsRequestInRange};
+ghost use Rattle.tb_message.specs.Requests as asked;
+ghost use Rattle.tb_message.specs.declared.kind.Kind.TheVariants as kinds;
+
+use crate::kind::Kind;
+use crate::members;
+use crate::message::Message;
+use crate::query::{Query, QueryKind, ReadFault, Request};
+use serde_json::{Category, Value};
+use std::alloc::Global;
+use tb_terms::{Announcement, Field};
+
+#[tactic(auto, unfolding(crate::specs::Kinds::kind_of_text))]
+fn kind_of_name(text: &str) -> Option<Kind>
+    ensures { result ≡ kind_of_text text.now }
+{
+    match text {
+        "register" => Some(Kind::Register),
+        "enrol" => Some(Kind::Enrol),
+        "holiday" => Some(Kind::Holiday),
+        "announce" => Some(Kind::Announce),
+        "bid" => Some(Kind::Bid),
+        "noncompetitive" => Some(Kind::Noncompetitive),
+        "cancel" => Some(Kind::Cancel),
+        "position" => Some(Kind::Position),
+        "publish" => Some(Kind::Publish),
+        "settle" => Some(Kind::Settle),
+        "transfer" => Some(Kind::Transfer),
+        "pledge" => Some(Kind::Pledge),
+        "release" => Some(Kind::Release),
+        "redeem" => Some(Kind::Redeem),
+        _ => None,
+    }
+}
+
+#[tactic(auto, unfolding(crate::specs::Queries::query_of_text))]
+fn query_kind_of_name(text: &str) -> Option<QueryKind>
+    ensures { result ≡ query_of_text text.now }
+{
+    match text {
+        "terms" => Some(QueryKind::Terms),
+        "results" => Some(QueryKind::Results),
+        "awards" => Some(QueryKind::Awards),
+        "bids" => Some(QueryKind::Bids),
+        "holdings" => Some(QueryKind::Holdings),
+        "redemption" => Some(QueryKind::Redemption),
+        _ => None,
+    }
+}
+
+fn register(object: &Value) -> Result<Message, Field>
+    ensures { result_map (λ m. (kind_of m, parts_of m)) result ≡ body_in (view object.now) kinds.Register }
+{
+    Ok(Message::Register {
+        submitter: members::name(object, Field::Submitter)?,
+        key: members::name(object, Field::Key)?,
+    })
+}
+
+fn enrol(object: &Value) -> Result<Message, Field>
+    ensures { result_map (λ m. (kind_of m, parts_of m)) result ≡ body_in (view object.now) kinds.Enrol }
+{
+    Ok(Message::Enrol {
+        bidder: members::name(object, Field::Bidder)?,
+        submitter: members::name(object, Field::Submitter)?,
+    })
+}
+
+fn holiday(object: &Value) -> Result<Message, Field>
+    ensures { result_map (λ m. (kind_of m, parts_of m)) result ≡ body_in (view object.now) kinds.Holiday }
+{
+    Ok(Message::Holiday {
+        day: members::day(object, Field::Day)?,
+    })
+}
+
+fn announce(object: &Value) -> Result<Message, Field>
+    ensures { result_map (λ m. (kind_of m, parts_of m)) result ≡ body_in (view object.now) kinds.Announce }
+{
+    Ok(Message::Announce {
+        terms: Announcement {
+            auction: members::name(object, Field::Auction)?,
+            cusip: members::cusip(object, Field::Cusip)?,
+            offering: members::amount(object, Field::Offering)?,
+            minimum: members::amount(object, Field::Minimum)?,
+            nc_ceiling: members::amount(object, Field::Ceiling)?,
+            competitive_floor: members::amount(object, Field::Floor)?,
+            nlp_threshold: members::amount(object, Field::Threshold)?,
+            auction_date: members::day(object, Field::Date)?,
+            nc_close: members::minute(object, Field::NcClose)?,
+            c_close: members::minute(object, Field::CClose)?,
+            issue: members::day(object, Field::Issue)?,
+            maturity: members::day(object, Field::Maturity)?,
+        },
+    })
+}
+
+fn bid(object: &Value) -> Result<Message, Field>
+    ensures { result_map (λ m. (kind_of m, parts_of m)) result ≡ body_in (view object.now) kinds.Bid }
+{
+    Ok(Message::Bid {
+        auction: members::name(object, Field::Auction)?,
+        bidder: members::name(object, Field::Bidder)?,
+        rate: Some(members::rate(object, Field::Rate)?),
+        amount: members::amount(object, Field::Amount)?,
+    })
+}
+
+fn noncompetitive(object: &Value) -> Result<Message, Field>
+    ensures { result_map (λ m. (kind_of m, parts_of m)) result ≡ body_in (view object.now) kinds.Noncompetitive }
+{
+    Ok(Message::Bid {
+        auction: members::name(object, Field::Auction)?,
+        bidder: members::name(object, Field::Bidder)?,
+        rate: None,
+        amount: members::amount(object, Field::Amount)?,
+    })
+}
+
+fn cancel(object: &Value) -> Result<Message, Field>
+    ensures { result_map (λ m. (kind_of m, parts_of m)) result ≡ body_in (view object.now) kinds.Cancel }
+{
+    Ok(Message::Cancel {
+        auction: members::name(object, Field::Auction)?,
+        bid: members::number(object, Field::Bid)?,
+    })
+}
+
+fn position(object: &Value) -> Result<Message, Field>
+    ensures { result_map (λ m. (kind_of m, parts_of m)) result ≡ body_in (view object.now) kinds.Position }
+{
+    Ok(Message::Position {
+        auction: members::name(object, Field::Auction)?,
+        bidder: members::name(object, Field::Bidder)?,
+        position: members::position(object, Field::Position)?,
+    })
+}
+
+fn publish(object: &Value) -> Result<Message, Field>
+    ensures { result_map (λ m. (kind_of m, parts_of m)) result ≡ body_in (view object.now) kinds.Publish }
+{
+    Ok(Message::Publish {
+        auction: members::name(object, Field::Auction)?,
+    })
+}
+
+fn settle(object: &Value) -> Result<Message, Field>
+    ensures { result_map (λ m. (kind_of m, parts_of m)) result ≡ body_in (view object.now) kinds.Settle }
+{
+    Ok(Message::Settle {
+        auction: members::name(object, Field::Auction)?,
+    })
+}
+
+fn transfer(object: &Value) -> Result<Message, Field>
+    ensures { result_map (λ m. (kind_of m, parts_of m)) result ≡ body_in (view object.now) kinds.Transfer }
+{
+    Ok(Message::Transfer {
+        cusip: members::cusip(object, Field::Cusip)?,
+        to: members::name(object, Field::To)?,
+        amount: members::amount(object, Field::Amount)?,
+    })
+}
+
+fn pledge(object: &Value) -> Result<Message, Field>
+    ensures { result_map (λ m. (kind_of m, parts_of m)) result ≡ body_in (view object.now) kinds.Pledge }
+{
+    Ok(Message::Pledge {
+        cusip: members::cusip(object, Field::Cusip)?,
+        to: members::name(object, Field::To)?,
+        amount: members::amount(object, Field::Amount)?,
+    })
+}
+
+fn release(object: &Value) -> Result<Message, Field>
+    ensures { result_map (λ m. (kind_of m, parts_of m)) result ≡ body_in (view object.now) kinds.Release }
+{
+    Ok(Message::Release {
+        holder: members::name(object, Field::Holder)?,
+        pledge: members::number(object, Field::Pledge)?,
+        amount: members::amount(object, Field::Amount)?,
+    })
+}
+
+fn redeem(object: &Value) -> Result<Message, Field>
+    ensures { result_map (λ m. (kind_of m, parts_of m)) result ≡ body_in (view object.now) kinds.Redeem }
+{
+    Ok(Message::Redeem {
+        cusip: members::cusip(object, Field::Cusip)?,
+    })
+}
+
+fn message_of(kind: Kind, object: &Value) -> Result<Message, Field>
+    ensures { result_map (λ m. (kind_of m, parts_of m)) result ≡ body_in (view object.now) kind }
+{
+    match kind {
+        Kind::Register => register(object),
+        Kind::Enrol => enrol(object),
+        Kind::Holiday => holiday(object),
+        Kind::Announce => announce(object),
+        Kind::Bid => bid(object),
+        Kind::Noncompetitive => noncompetitive(object),
+        Kind::Cancel => cancel(object),
+        Kind::Position => position(object),
+        Kind::Publish => publish(object),
+        Kind::Settle => settle(object),
+        Kind::Transfer => transfer(object),
+        Kind::Pledge => pledge(object),
+        Kind::Release => release(object),
+        Kind::Redeem => redeem(object),
+    }
+}
+
+fn query_of(kind: QueryKind, object: &Value) -> Result<Query, Field>
+    ensures { result_map (λ q. query (query_kind_of q) (query_parts_of q)) result ≡ object_in (view object.now) (Some kind) }
+{
+    match kind {
+        QueryKind::Terms => Ok(Query::Terms(members::name(object, Field::Auction)?)),
+        QueryKind::Results => Ok(Query::Results(members::name(object, Field::Auction)?)),
+        QueryKind::Awards => Ok(Query::Awards(members::name(object, Field::Auction)?)),
+        QueryKind::Bids => Ok(Query::Bids(members::name(object, Field::Auction)?)),
+        QueryKind::Holdings => Ok(Query::Holdings),
+        QueryKind::Redemption => Ok(Query::Redemption(members::cusip(object, Field::Cusip)?)),
+    }
+}
+
+fn message_kind_in(object: &Value) -> Option<Kind>
+    ensures { result ≡ asked.message_kind_in (view object.now) }
+{
+    members::text_of(object, Field::Kind).and_then(kind_of_name)
+}
+
+fn query_kind_in(object: &Value) -> Option<QueryKind>
+    ensures { result ≡ asked.query_kind_in (view object.now) }
+{
+    members::text_of(object, Field::Kind).and_then(query_kind_of_name)
+}
+
+fn message(object: &Value) -> Result<(u64, Message), Field>
+    ensures asked { result_map (λ x. (whole x.0, kind_of x.1, parts_of x.1)) result ≡ message_in (view object.now) }
+    ensures in_range { IfOk result (λ x. IsNumbered x.0 x.1) }
+{
+    let number = members::number(object, Field::Number)?;
+    let Some(kind) = message_kind_in(object) else {
+        return Err(Field::Kind);
+    };
+    let message = message_of(kind, object)?;
+    Ok((number, message))
+}
+
+fn request(object: &Value) -> Result<Request, Field>
+    ensures asked { result_map asked_by result ≡ request_in (view object.now) }
+    ensures in_range { IfOk result IsRequestInRange }
+{
+    if !object.is_object() {
+        return Err(Field::Body);
+    }
+    match query_kind_in(object) {
+        Some(kind) => Ok(Request::Query(query_of(kind, object)?)),
+        None => {
+            let (number, message) = message(object)?;
+            Ok(Request::Message { number, message })
+        }
+    }
+}
+
+fn parse(alloc: Global, bytes: &[u8]) -> Result<Value, ReadFault>
+    ensures ok { IfOk result (λ v. Says bytes.now (view v)) }
+    ensures bad { IfErr result (λ e. FaultOf bytes.now e) }
+{
+    match Value::from_slice(alloc, bytes) {
+        Ok(value) => Ok(value),
+        Err(error) => match error.classify() {
+            Category::Memory => Err(ReadFault::OutOfMemory),
+            _ => Err(ReadFault::BadJson),
+        },
+    }
+}
+
+/// Reads a request. `BadShape` carries the first member that fails, in the order of the kind.
+pub fn read_request(alloc: Global, bytes: &[u8]) -> Result<Request, ReadFault>
+    ensures answer { AnswerOf bytes.now result }
+    ensures in_range { IfOk result IsRequestInRange }
+{
+    let value = parse(alloc, bytes)?;
+    match request(&value) {
+        Ok(request) => Ok(request),
+        Err(field) => Err(ReadFault::BadShape(field)),
+    }
+}

@@ -1,0 +1,182 @@
+//! Tests of the public calls. The bytes of records were spelled by hand from the table of formats.
+use crate::*;
+use std::alloc::Global;
+use std::process::Abort;
+use std::test::Fail;
+use tb_terms::{Field, Refusal};
+use tb_units::{Day, Dollars, Ident, Moment};
+
+/// A record in hexadecimal, and the text of its message, for each kind. All are of one moment.
+const RECORDS: &str =
+    r#"086f70657261746f720000000000000001672862e001076465616c657231026b31 {"number":1,"kind":"register","submitter":"dealer1","key":"k1"}
+086f70657261746f720000000000000002672862e0020566756e6431076465616c657231 {"number":2,"kind":"enrol","bidder":"fund1","submitter":"dealer1"}
+086f70657261746f720000000000000003672862e00300004ea8 {"number":3,"kind":"holiday","day":"2025-02-17"}
+086f70657261746f720000000000000004672862e0040662696c6c313339313237393741413500000011b1f3f80000000000000000640000000000989680000000003b9aca0000000006317bca0000004e3f029402b200004e4200004e9d {"number":4,"kind":"announce","auction":"bill13","cusip":"912797AA5","offering":76000000000,"minimum":100,"ceiling":10000000,"floor":1000000000,"threshold":26600000000,"date":"2024-11-04","nc_close":"11:00","c_close":"11:30","issue":"2024-11-07","maturity":"2025-02-06"}
+076465616c6572310000000000000001672862e0050662696c6c31330566756e64310000035600000004a817c800 {"number":1,"kind":"bid","auction":"bill13","bidder":"fund1","rate":"4.27","amount":20000000000}
+076465616c6572310000000000000002672862e0060662696c6c31330566756e64310000000000989680 {"number":2,"kind":"noncompetitive","auction":"bill13","bidder":"fund1","amount":10000000}
+076465616c6572310000000000000003672862e0070662696c6c31330000000000000001 {"number":3,"kind":"cancel","auction":"bill13","bid":1}
+076465616c6572310000000000000004672862e0080662696c6c31330566756e6431fffffffffffffe0c {"number":4,"kind":"position","auction":"bill13","bidder":"fund1","position":-500}
+086f70657261746f720000000000000005672862e0090662696c6c3133 {"number":5,"kind":"publish","auction":"bill13"}
+086f70657261746f720000000000000006672862e00a0662696c6c3133 {"number":6,"kind":"settle","auction":"bill13"}
+076465616c6572310000000000000005672862e00b393132373937414135076465616c6572320000000000000190 {"number":5,"kind":"transfer","cusip":"912797AA5","to":"dealer2","amount":400}
+076465616c657231000000000000000c672862e00c393132373937414135076465616c65723200000000000001f4 {"number":12,"kind":"pledge","cusip":"912797AA5","to":"dealer2","amount":500}
+076465616c65723100038d7ea4c68000672862e00d076465616c657231000000000000000c000000000000012c {"number":1000000000000000,"kind":"release","holder":"dealer1","pledge":12,"amount":300}
+086f70657261746f720000000000000007672862e00e393132373937414135 {"number":7,"kind":"redeem","cusip":"912797AA5"}"#;
+
+/// What is told of each text.
+const READINGS: &str = r#"BadJson {
+BadShape(Body) []
+BadShape(Number) {}
+BadShape(Number) {"kind":"bid","number":-0}
+BadShape(Number) {"kind":"bid","number":1.0}
+BadShape(Kind) {"number":1,"kind":"bids "}
+BadShape(Auction) {"number":1,"kind":"bid","auction":"","rate":"5.322"}
+BadShape(Rate) {"number":1,"kind":"bid","auction":"a","bidder":"b","rate":"5.322"}
+BadShape(Amount) {"number":1,"kind":"noncompetitive","auction":"a","bidder":"b","amount":1000000000001}
+BadShape(Position) {"number":1,"kind":"position","auction":"a","bidder":"b","position":-0}
+BadShape(NcClose) {"number":1,"kind":"announce","auction":"a","cusip":"912797AA5","offering":0,"minimum":0,"ceiling":0,"floor":0,"threshold":0,"date":"2024-11-04","nc_close":"24:00"}
+BadShape(Auction) {"number":0,"kind":"results"}
+BadShape(Kind) {"kind":"holdings","number":1,"kind":"none"}
+Query(Holdings) {"number":0,"kind":"none","kind":"holdings"}"#;
+
+fn name(rt: &impl Abort, text: &str) -> Ident {
+    Ident::read(text).expect(rt, "no name")
+}
+
+fn reading(alloc: Global, text: &str) -> Result<String, Fail> {
+    let told = match read_request(alloc, text.as_bytes()) {
+        Ok(request) => format!(in alloc; "{request:?}")?,
+        Err(fault) => format!(in alloc; "{fault:?}")?,
+    };
+    Ok(told)
+}
+
+fn hexadecimal(alloc: Global, bytes: &[u8]) -> Result<String, Fail> {
+    let mut text = String::new(alloc);
+    for byte in bytes {
+        text.push_str(format!(in alloc; "{byte:02x}")?.as_str())?;
+    }
+    Ok(text)
+}
+
+#[test]
+fn a_message_of_each_kind_is_read_put_and_taken(rt: HostRuntime) -> Result<(), Fail> {
+    let alloc = rt.alloc();
+    let moment = Moment {
+        seconds: 1_730_700_000,
+    };
+    for line in RECORDS.lines() {
+        let (record, text) = line.split_once(' ').ok_or("no space")?;
+        let Ok(Request::Message { number, message }) = read_request(alloc, text.as_bytes()) else {
+            return Err(Fail::from("no message"));
+        };
+        let submitter = name(
+            &rt,
+            if record.starts_with("08") {
+                "operator"
+            } else {
+                "dealer1"
+            },
+        );
+        let entry = Entry {
+            submitter,
+            number,
+            moment,
+            message,
+        };
+        let put = entry.put();
+        let (_, front) = put.bytes().split_last().ok_or("no bytes")?;
+        assert_eq!(rt; hexadecimal(alloc, put.bytes())?.as_str(), record);
+        assert_eq!(rt; Entry::take(put.bytes()), Some((entry, put.bytes().len())));
+        assert_eq!(rt; Entry::take(front), None);
+    }
+    assert_eq!(rt; RECORDS.lines().count(), 14);
+    Ok(())
+}
+
+#[test]
+fn the_first_member_that_fails_is_told(rt: HostRuntime) -> Result<(), Fail> {
+    let alloc = rt.alloc();
+    for line in READINGS.lines() {
+        let (told, text) = line.split_once(' ').ok_or("no space")?;
+        assert_eq!(rt; reading(alloc, text)?.as_str(), told, "{text}");
+    }
+    Ok(())
+}
+
+#[test]
+fn brackets_nest_127_deep(rt: HostRuntime) -> Result<(), Fail> {
+    let alloc = rt.alloc();
+    let mut text = String::new(alloc);
+    for _ in 0..127 {
+        text.push('[')?;
+    }
+    for _ in 0..127 {
+        text.push(']')?;
+    }
+    assert_eq!(rt; reading(alloc, text.as_str())?.as_str(), "BadShape(Body)");
+    let deeper = format!(in alloc; "[{text}]")?;
+    assert_eq!(rt; reading(alloc, deeper.as_str())?.as_str(), "BadJson");
+    Ok(())
+}
+
+#[test]
+fn key_words_are_names_or_those_behind_op(rt: HostRuntime) {
+    assert_eq!(rt; Key::read("k1"), Some(Key::Submitter(name(&rt, "k1"))));
+    assert_eq!(rt;
+        Key::read("op:root"),
+        Some(Key::Operator(name(&rt, "root")))
+    );
+    assert_eq!(rt; Key::read("op:"), None);
+    assert_eq!(rt; Key::read("Op:root"), None);
+}
+
+#[test]
+fn verdicts_are_told_with_their_values(rt: HostRuntime) {
+    let moment = Moment {
+        seconds: 1_730_737_800,
+    };
+    let repeat = Verdict::Repeat { number: 1, moment };
+    let late = Verdict::Refused(Refusal::Late {
+        moment,
+        closing: moment,
+    });
+    let free = Dollars { value: 600 };
+    let payment = Day { number: 20_137 };
+    let auction = name(&rt, "sat1");
+    tells(&rt, repeat, "accepted 1 1730737800");
+    tells(&rt, late, "refused 17 Late 1730737800 1730737800");
+    tells(
+        &rt,
+        Verdict::Refused(Refusal::BadShape(Field::Rate)),
+        "refused 6 BadShape rate",
+    );
+    tells(
+        &rt,
+        Verdict::Refused(Refusal::InsufficientFree { free }),
+        "refused 73 InsufficientFree 600",
+    );
+    tells(
+        &rt,
+        Verdict::Refused(Refusal::NotDue { payment }),
+        "refused 81 NotDue 2025-02-18",
+    );
+    tells(
+        &rt,
+        Verdict::Refused(Refusal::Unsettled { auction }),
+        "refused 74 Unsettled sat1",
+    );
+    tells(
+        &rt,
+        Verdict::Refused(Refusal::NumberReused),
+        "refused 3 NumberReused",
+    );
+}
+
+fn tells(rt: &impl Abort, verdict: Verdict, wanted: &str) {
+    assert_eq!(rt;
+        verdict_line(&verdict).bytes(),
+        wanted.as_bytes(),
+        "{wanted}"
+    );
+}
