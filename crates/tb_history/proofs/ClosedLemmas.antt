@@ -1,0 +1,239 @@
+-- The closing of a published auction has come.
+use Rattle.std.proofs.Common.{◌≡◌, ℕ, ◌%◌, ◌==◌, ◌≤◌, ◌&&◌, Bool, true, false, not, nat_le, Option, Some, None, is_some, length, if◌then◌else◌, inl, inr, List, [], ◌∷◌, ◌++◌, refl, subst, arith, append_assoc, append-nil}
+use Rattle.std.specs.List.{find, AllByRecursion}
+use Rattle.std.proofs.lemmas.Bool.{cases_Bool, and_parts, leb-true, ltb-false, or_cases}
+use Rattle.tb_units.specs.declared.moment.Moment.{Moment}
+use Rattle.tb_units.specs.declared.rate.Rate.{Rate}
+use Rattle.tb_units.specs.Moments.{moment_of}
+use Rattle.tb_units.specs.Multiples.{is_multiple}
+use Rattle.tb_terms.specs.Announcements.{has_dates, has_amounts, has_closings, is_closing, is_within, offering_unit, most_offering}
+use Rattle.tb_terms.specs.Cusips.{is_cusip}
+use Rattle.tb_terms.specs.Closings.{c_closing}
+use Rattle.tb_terms.specs.Eastern.{closing_of}
+use Rattle.tb_terms.specs.Faults.{fault_of, fault_rows}
+use Rattle.tb_terms.specs.declared.checking.TermsFault.{TermsFault}
+use Rattle.tb_terms.specs.declared.checking.TermsFault.TheVariants as fault
+use Rattle.tb_terms.specs.declared.announcement.Announcement.{Announcement}
+use Rattle.tb_rules.specs.BidRule.{closing_for}
+use Rattle.tb_message.specs.declared.message.Entry.{Entry}
+use Rattle.tb_message.specs.declared.message.Message.{Message}
+use Rattle.tb_message.specs.declared.message.Message.TheVariants as message
+use Rattle.tb_history.specs.Entries.{is_same, announced_by, published_by}
+use Rattle.tb_history.specs.Roster.{announcements, publications, redemptions, announcement_of, bill_of, is_redeemed, is_published, is_named}
+use Rattle.tb_history.specs.Tables.{rows_of, publish_rows, maturity_rows, full}
+use Rattle.tb_terms.specs.declared.refusal.Refusal.TheVariants as refusal
+use Rattle.tb_history.specs.Legal.{IsLegal, Follows, last_of}
+use Rattle.tb_history.proofs.PartLemmas.{AllByRecursion-append, AllByRecursion-weaker, AllByRecursion-front}
+use Rattle.tb_history.proofs.SameLemmas.{is_same-equal}
+use Rattle.tb_history.proofs.GrowthLemmas.{announcements-snoc, publications-snoc, find-append}
+use Rattle.tb_history.proofs.AcceptedLemmas.{IsClear, accepted-passes}
+use Rattle.tb_history.proofs.LegalLemmas.{by_entries}
+use Rattle.tb_history.proofs.HistoryLemmas.{last_of-push}
+
+-- the announcement is in order
+abbrev pub IsInOrder : Announcement → Type 0
+IsInOrder a = fault_of a ≡ None
+
+-- where no fault is told there is none
+no_fault : (found : Option TermsFault) → AllByRecursion IsClear (fault_rows found) → found ≡ None
+no_fault None clear = refl
+no_fault (Some fault) clear = cc
+
+-- an accepted announcement is in order
+announced_by-in_order : (h : List Entry) (s : List ℕ) (moment : Moment) (m : Message)
+    → AllByRecursion IsClear (rows_of h s moment m)
+    → AllByRecursion IsInOrder (announced_by m)
+announced_by-in_order h s moment (message.Announce a) clear =
+    let rows = (refusal.AuctionExists, is_some (announcement_of (announcements h) a.auction))
+    ∷ fault_rows (fault_of a) in
+    let maturity = maturity_rows (bill_of (announcements h) a.cusip) a.maturity in
+    let rest = (refusal.AlreadyRedeemed, is_redeemed (redemptions h) a.cusip) ∷ full 65536 (length (announcements h))
+    ∷ [] in
+    let front =
+    AllByRecursion-front IsClear rows maturity (AllByRecursion-front IsClear (rows ++ maturity) rest clear) in
+    (no_fault (fault_of a) front.1, tt)
+announced_by-in_order h s moment other clear = tt
+
+-- and stays so with an accepted entry
+IsInOrder-push : (h : List Entry) (e : Entry)
+    → IsLegal h
+    → AllByRecursion IsInOrder (announcements h)
+    → Follows h e
+    → AllByRecursion IsInOrder (announcements (h ++ e ∷ []))
+IsInOrder-push h e legal so_far follows =
+    let passed = accepted-passes h e.submitter e.number e.moment e.message follows.accepted in
+    rw (announcements-snoc h e) (AllByRecursion-append IsInOrder (announcements h) (announced_by e.message) so_far
+    (announced_by-in_order h e.submitter e.moment e.message passed.rows))
+
+-- nothing is announced yet
+IsInOrder-nil : AllByRecursion IsInOrder (announcements [])
+unfolding announcements
+IsInOrder-nil = tt
+
+-- every announcement of a legal history is in order
+pub IsLegal-in_order : (h : List Entry) → IsLegal h → AllByRecursion IsInOrder (announcements h)
+IsLegal-in_order h legal =
+    by_entries (λ h. AllByRecursion IsInOrder (announcements h)) IsInOrder-nil IsInOrder-push h legal
+
+-- what holds of all holds of what is found
+pub found-in : {X : Type 0} (P : X → Type 0) (test : X → Bool) (xs : List X) (x : X)
+    → AllByRecursion P xs
+    → find test xs ≡ Some x
+    → P x
+found-in P test [] x all found = absurd cc
+found-in P test (y ∷ ys) x all found =
+    elim (cases_Bool (test y)) [
+      | inl is ↦ let one : Some y ≡ Some x = rw is at found in let same : y ≡ x = cc in subst P same all.0
+      | inr not ↦ found-in P test ys x all.1 (rw not at found)
+    ]
+
+-- an announcement in order closes noncompetitive bids first
+faultless : (a b c d : Bool)
+    → (if a then (if b then (if c then (if d then None else Some fault.BadClosing) else Some fault.BadAmounts)
+    else Some fault.BadDates) else Some fault.BadCusip) ≡ None
+    → d ≡ true
+faultless true true true true none = refl
+faultless true true true false none = absurd cc
+faultless true true false d none = absurd cc
+faultless true false c d none = absurd cc
+faultless false b c d none = absurd cc
+
+-- so its noncompetitive closing isn't the later one
+closes_first : (a : Announcement) → IsInOrder a → a.nc_close ≤ a.c_close
+closes_first a in_order =
+    let closings = faultless (is_cusip a.cusip.bytes) (has_dates a) (has_amounts a) (has_closings a) in_order in
+    leb-true a.nc_close a.c_close (and_parts (is_closing a.nc_close && is_closing a.c_close)
+    (nat_le a.nc_close a.c_close) closings).1
+
+-- a later minute of a day is no earlier moment
+closings-order : (day early late : ℕ)
+    → early ≤ late → (moment_of (closing_of day early)).seconds ≤ (moment_of (closing_of day late)).seconds
+unfolding moment_of closing_of
+closings-order day early late before = omega (arith, before)
+
+-- no closing is after the competitive one
+pub closing_for-le : (a : Announcement) (rate : Option Rate)
+    → IsInOrder a → (closing_for a rate).seconds ≤ (c_closing a).seconds
+closing_for-le a None in_order = closings-order a.auction_date.number a.nc_close a.c_close (closes_first a in_order)
+closing_for-le a (Some rate) in_order = omega arith
+
+-- the auction is announced, and its competitive closing has come
+pub record IsClosed (h : List Entry) (auction : List ℕ) : Type 0 where
+  pub a : Announcement
+  pub announced : announcement_of (announcements h) auction ≡ Some a
+  pub come : (c_closing a).seconds ≤ last_of h
+
+-- an announcement stays
+pub announced-push : (h : List Entry) (e : Entry) (auction : List ℕ) (a : Announcement)
+    → announcement_of (announcements h) auction ≡ Some a
+    → announcement_of (announcements (h ++ e ∷ [])) auction ≡ Some a
+announced-push h e auction a found =
+    rw (announcements-snoc h e) (find-append (λ (x : Announcement). is_same x.auction auction) (announcements h)
+    (announced_by e.message) a found)
+
+-- whatever comes later
+pub announced-more : (more h : List Entry) (auction : List ℕ) (a : Announcement)
+    → announcement_of (announcements h) auction ≡ Some a
+    → announcement_of (announcements (h ++ more)) auction ≡ Some a
+announced-more [] h auction a found = rw (append-nil h) found
+announced-more (e ∷ more) h auction a found =
+    subst (λ (x : List Entry). announcement_of (announcements x) auction ≡ Some a) (append_assoc h (e ∷ []) more)
+    (announced-more more (h ++ e ∷ []) auction a (announced-push h e auction a found))
+
+-- what is closed stays so
+pub IsClosed-push : (h : List Entry) (e : Entry) (auction : List ℕ)
+    → Follows h e
+    → IsClosed h auction
+    → IsClosed (h ++ e ∷ []) auction
+IsClosed-push h e auction follows closed = record {
+  a = closed.a;
+  announced = announced-push h e auction closed.a closed.announced;
+  come = omega (arith, closed.come, follows.in_time, last_of-push 946702800 h e);
+}
+
+-- an auction is published once it is closed
+published_by-closed : (h : List Entry) (e : Entry) (m : Message)
+    → AllByRecursion IsClear (rows_of h e.submitter e.moment m)
+    → AllByRecursion (IsClosed (h ++ e ∷ [])) (published_by m)
+published_by-closed h e (message.Publish auction) clear =
+    (closed (announcement_of (announcements h) auction) refl clear, tt)
+  where
+    closed : (found : Option Announcement)
+        → announcement_of (announcements h) auction ≡ found
+        → AllByRecursion IsClear (publish_rows found (is_published h auction) e.moment)
+        → IsClosed (h ++ e ∷ []) auction
+    closed None is clear = absurd (let wrong : true ≡ false = clear.0 in cc)
+    closed (Some a) is clear = record {
+      a = a;
+      announced = announced-push h e auction a is;
+      come = omega (arith, ltb-false e.moment.seconds (c_closing a).seconds clear.0, last_of-push 946702800 h e);
+    }
+published_by-closed h e other clear = tt
+
+-- and stays so with an accepted entry
+AreClosed-push : (h : List Entry) (e : Entry)
+    → IsLegal h
+    → AllByRecursion (IsClosed h) (publications h)
+    → Follows h e
+    → AllByRecursion (IsClosed (h ++ e ∷ [])) (publications (h ++ e ∷ []))
+AreClosed-push h e legal closed follows =
+    let passed = accepted-passes h e.submitter e.number e.moment e.message follows.accepted in
+    rw (publications-snoc h e)
+    (AllByRecursion-append (IsClosed (h ++ e ∷ [])) (publications h) (published_by e.message)
+    (AllByRecursion-weaker (IsClosed h) (IsClosed (h ++ e ∷ [])) (λ name. IsClosed-push h e name follows)
+    (publications h) closed)
+    (published_by-closed h e e.message passed.rows))
+
+-- nothing is published yet
+AreClosed-nil : AllByRecursion (IsClosed []) (publications [])
+unfolding publications
+AreClosed-nil = tt
+
+-- every published auction is closed
+pub IsLegal-closed : (h : List Entry) → IsLegal h → AllByRecursion (IsClosed h) (publications h)
+IsLegal-closed h legal =
+    by_entries (λ h. AllByRecursion (IsClosed h) (publications h)) AreClosed-nil AreClosed-push h legal
+
+-- what holds of all names holds of one that is named
+pub named-in : (P : List ℕ → Type 0) (names : List (List ℕ)) (auction : List ℕ)
+    → AllByRecursion P names
+    → is_named names auction ≡ true
+    → P auction
+named-in P [] auction all named = absurd cc
+named-in P (name ∷ names) auction all named =
+    elim (or_cases (is_same name auction) (is_named names auction) named) [
+      | inl is ↦ subst P (is_same-equal name auction is) all.0
+      | inr later ↦ named-in P names auction all.1 later
+    ]
+
+-- so every published auction is closed
+pub published-closed : (h : List Entry) (auction : List ℕ)
+    → IsLegal h
+    → is_published h auction ≡ true
+    → IsClosed h auction
+published-closed h auction legal published =
+    named-in (IsClosed h) (publications h) auction (IsLegal-closed h legal) published
+
+-- an announcement in order seeks at least 100 dollars
+has_amounts-faultless : (a b c d : Bool)
+    → (if a then (if b then (if c then (if d then None else Some fault.BadClosing) else Some fault.BadAmounts)
+    else Some fault.BadDates) else Some fault.BadCusip) ≡ None
+    → c ≡ true
+has_amounts-faultless true true true d none = refl
+has_amounts-faultless true true false d none = absurd cc
+has_amounts-faultless true false c d none = absurd cc
+has_amounts-faultless false b c d none = absurd cc
+
+-- its floor is at least 100 dollars
+pub amounts_of : (a : Announcement) → IsInOrder a → 100 ≤ a.competitive_floor.value
+amounts_of a in_order =
+    let amounts =
+    has_amounts-faultless (is_cusip a.cusip.bytes) (has_dates a) (has_amounts a) (has_closings a) in_order in
+    let floor = is_within a a.competitive_floor.value in
+    let front =
+    is_multiple offering_unit most_offering a.offering.value && is_within a a.minimum.value
+    && is_within a a.nc_ceiling.value in
+    let holds = and_parts front floor (and_parts (front && floor) (is_within a a.nlp_threshold.value) amounts).0 in
+    let size = a.competitive_floor.value in
+    let parts = and_parts ((size % 100 == 0) && nat_le 100 size) (nat_le size a.offering.value) holds.1 in
+    leb-true 100 size (and_parts (size % 100 == 0) (nat_le 100 size) parts.0).1

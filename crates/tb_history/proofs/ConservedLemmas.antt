@@ -1,0 +1,375 @@
+-- Par is conserved over every legal history.
+use Rattle.std.proofs.Common.{◌≡◌, ◌≢◌, ℕ, suc, zero, ◌+◌, ◌<◌, ◌≤◌, ◌==◌, ◌||◌, Bool, true, false, not, cond, if◌then◌else◌, Option, Some, None, inl, inr, List, [], ◌∷◌, ◌++◌, length, get_or, map, drop, sum_by, refl, sym, ap, ◌∙◌, subst, arith, append-nil}
+use Rattle.std.specs.Prelude.{Contains, option_to_list}
+use Rattle.std.specs.List.{AllPairs, AllByRecursion, flat_map, list_any, position_or_len, prefix_len, take_while}
+use Rattle.std.proofs.lemmas.Bool.{cases_Bool, both_ways, or_cases, or_left, or_right, or_parts, eqb-true, eq-eqb, false_from_ne_true}
+use Rattle.std.proofs.lemmas.List.{length-map, get_or-map, take-append-drop}
+use Rattle.std.proofs.lemmas.List.Sums.{sum_by-cons, passes_at_first, take_while-cons}
+use Rattle.std.proofs.lemmas.Grind.{flat_map-append}
+use Rattle.std.proofs.lemmas.List.Quantifiers.{all_pairs_push}
+use Rattle.tb_units.specs.declared.moment.Moment.{Moment}
+use Rattle.tb_units.proofs.ListLemmas.{AllPairs-nil}
+use Rattle.tb_terms.specs.declared.announcement.Announcement.{Announcement}
+use Rattle.tb_terms.specs.declared.cusip.Cusip.{Cusip}
+use Rattle.tb_movements.specs.Movements.{Movement, redeems}
+use Rattle.tb_movements.specs.Translated.{movements_after}
+use Rattle.tb_movements.proofs.SumLemmas.{take_while-stopped, take_while-passed}
+use Rattle.tb_movements.specs.Holdings as moved
+use Rattle.tb_movements.specs.Legal as movements
+use Rattle.tb_movements.proofs.ConservationLemmas.{IsConserved-legal}
+use Rattle.tb_message.specs.declared.message.Entry.{Entry}
+use Rattle.tb_message.specs.declared.message.Message.{Message}
+use Rattle.tb_message.specs.declared.message.Message.TheVariants as message
+use Rattle.tb_history.specs.declared.roster.Registration.{Registration}
+use Rattle.tb_history.specs.Entries.{is_same, operator, registered_by, announced_by}
+use Rattle.tb_history.specs.Roster.{registrations, announcements, redemptions, is_registered, is_redeemed}
+use Rattle.tb_history.specs.Holdings.{held_of, issued, paid_to, pledged_of, before_redemption, redeems as redeems_bill}
+use Rattle.tb_history.specs.Tables.{rows_of}
+use Rattle.tb_history.specs.Legal.{IsLegal, Follows}
+use Rattle.tb_history.specs.Moves.{Numbering, numbering_of, movements_by, meaning_by, IsNumbered, IsBillNumbered, has_bill, participants_of, AreNumbered}
+use Rattle.tb_history.proofs.SameLemmas.{is_same-equal, is_same-refl, is_same-sym}
+use Rattle.tb_history.proofs.GrowthLemmas.{registrations-snoc}
+use Rattle.tb_history.proofs.AcceptedLemmas.{IsClear, accepted-passes}
+use Rattle.tb_history.proofs.LegalLemmas.{by_entries}
+use Rattle.tb_history.proofs.PassLemmas.{AreTold, held-told, pledged-told}
+use Rattle.tb_history.proofs.StableLemmas.{or_false}
+use Rattle.tb_history.proofs.HistoryLemmas.{IsLegal-front}
+use Rattle.tb_history.proofs.MovedLemmas.{redeems-message}
+use Rattle.tb_history.proofs.ToldLemmas.{IsLegal-told, registered-append, has_bill-append}
+
+-- the place of the first element with a name
+abbrev pub place_by : {X : Type 0} → (X → List ℕ) → List X → List ℕ → ℕ
+place_by name_of xs name = position_or_len (λ x. is_same (name_of x) name) xs
+
+-- is within where there is one
+place-within : {X : Type 0} (test : X → Bool) (xs : List X)
+    → list_any test xs ≡ true → position_or_len test xs < length xs
+place-within test [] some = absurd cc
+place-within test (x ∷ xs) some =
+    elim (cases_Bool (test x)) [
+      | inl is ↦ rw is (omega arith)
+      | inr isnt ↦ let rest = place-within test xs (rw isnt at some) in rw isnt (omega (arith, rest))
+    ]
+
+-- and that of no other name
+place_by-own : {X : Type 0} (name_of : X → List ℕ) (xs : List X) (name other : List ℕ)
+    → list_any (λ x. is_same (name_of x) name) xs ≡ true
+    → (place_by name_of xs name == place_by name_of xs other) ≡ is_same other name
+place_by-own name_of [] name other some = absurd cc
+place_by-own {X} name_of (x ∷ xs) name other some =
+    let test : List ℕ → X → Bool = λ n y. is_same (name_of y) n in
+    let here = place-within (test name) (x ∷ xs) some in
+    elim (cases_Bool (is_same other name)) [
+      | inl is ↦ rw is (eq-eqb _ _ (ap (place_by name_of (x ∷ xs)) (sym (is_same-equal other name is))))
+      | inr isnt ↦ rw isnt (false_from_ne_true _ (λ equal.
+          let same : place_by name_of (x ∷ xs) name ≡ place_by name_of (x ∷ xs) other = eqb-true _ _ equal in
+          let there : place_by name_of (x ∷ xs) other < length (x ∷ xs) = omega (arith, same, here) in
+          let one = passes_at_first (test name) (x ∷ xs) x here in
+          let two = passes_at_first (test other) (x ∷ xs) x there in
+          let found = get_or (x ∷ xs) (place_by name_of (x ∷ xs) name) x in
+          let also : is_same (name_of found) other ≡ true =
+          subst (λ (k : ℕ). is_same (name_of (get_or (x ∷ xs) k x)) other ≡ true) (sym same) two in
+          both_ways (is_same other name) isnt
+          (subst (λ (n : List ℕ). is_same n name ≡ true) (is_same-equal (name_of found) other also) one)))
+    ]
+
+-- who is there is among the numbers
+contains-number : (number : List ℕ → ℕ) (registered : List Registration) (name : List ℕ)
+    → is_registered registered name ≡ true
+    → Contains (map (λ (r : Registration). number r.submitter) registered) (number name)
+contains-number number [] name known = absurd cc
+contains-number number (r ∷ rs) name known =
+    elim (or_cases (is_same r.submitter name) (is_registered rs name) known) [
+      | inl is ↦ (0, omega arith, ap number (is_same-equal r.submitter name is))
+      | inr later ↦ let found = contains-number number rs name later in (suc found.0, omega (arith, found.1), found.2)
+    ]
+
+-- places are numbers
+pub places-numbered : (h : List Entry)
+    → AreNumbered (numbering_of (registrations h) (announcements h))
+    (participants_of (numbering_of (registrations h) (announcements h)) (registrations h)) h
+places-numbered h = record {
+  names = λ name known other. place_by-own (λ (r : Registration). r.submitter) (registrations h) name other known;
+  listed = λ name known. contains-number (numbering_of (registrations h) (announcements h)).holder (registrations h)
+      name known;
+  bills = λ bytes known other. place_by-own (λ (a : Announcement). a.cusip.bytes) (announcements h) bytes other known;
+}
+
+-- no submitter is registered twice
+abbrev pub AreSubmitters : List Registration → Type 0
+AreSubmitters registered =
+    AllPairs (λ (one other : Registration). is_same other.submitter one.submitter ≡ false) registered
+
+-- an accepted registration is of a new name
+new-submitter : (registered : List Registration) (submitter key : List ℕ)
+    → list_any (λ (r : Registration). is_same r.submitter submitter || is_same r.key key) registered ≡ false
+    → (k : ℕ) (d : Registration) → k < length registered → is_same submitter (get_or registered k d).submitter ≡ false
+new-submitter [] submitter key none k d within = absurd (omega (arith, within))
+new-submitter (r ∷ rs) submitter key none zero d within =
+    let apart =
+    (or_parts (is_same r.submitter submitter) (is_same r.key key)
+    (or_parts (is_same r.submitter submitter || is_same r.key key) _ none).0).0 in
+    false_from_ne_true _ (λ same. both_ways (is_same r.submitter submitter) apart
+    (is_same-sym submitter r.submitter same))
+new-submitter (r ∷ rs) submitter key none (suc k) d within =
+    new-submitter rs submitter key (or_parts (is_same r.submitter submitter || is_same r.key key) _ none).1 k d
+    (omega (arith, within))
+
+-- so an accepted message registers nobody twice
+submitters-message : (h : List Entry) (s : List ℕ) (moment : Moment) (m : Message)
+    → AllByRecursion IsClear (rows_of h s moment m)
+    → AreSubmitters (registrations h)
+    → AreSubmitters (registrations h ++ registered_by m)
+submitters-message h s moment (message.Register submitter key) clear distinct =
+    let none = (or_parts (is_same submitter operator)
+    (list_any (λ (r : Registration). is_same r.submitter submitter || is_same r.key key) (registrations h))
+    clear.0).1 in
+    all_pairs_push (λ (one other : Registration). is_same other.submitter one.submitter ≡ false) (registrations h)
+    (record { submitter = submitter; key = key }) distinct
+    (λ k d within. new-submitter (registrations h) submitter key none k d within)
+submitters-message h s moment other clear distinct = rw (append-nil (registrations h)) distinct
+
+-- and stays so with an accepted entry
+submitters-push : (h : List Entry) (e : Entry)
+    → IsLegal h
+    → AreSubmitters (registrations h)
+    → Follows h e
+    → AreSubmitters (registrations (h ++ e ∷ []))
+submitters-push h e legal distinct follows =
+    let passed = accepted-passes h e.submitter e.number e.moment e.message follows.accepted in
+    rw (registrations-snoc h e) (submitters-message h e.submitter e.moment e.message passed.rows distinct)
+
+-- nobody is registered yet
+submitters-nil : AreSubmitters (registrations [])
+unfolding registrations
+submitters-nil = AllPairs-nil (λ (one other : Registration). is_same other.submitter one.submitter ≡ false)
+
+-- so it is in every legal history
+IsLegal-submitters : (h : List Entry) → IsLegal h → AreSubmitters (registrations h)
+IsLegal-submitters h legal = by_entries (λ h. AreSubmitters (registrations h)) submitters-nil submitters-push h legal
+
+-- an element is registered
+registered-at : (registered : List Registration) (k : ℕ) (d : Registration)
+    → k < length registered → is_registered registered (get_or registered k d).submitter ≡ true
+registered-at [] k d within = absurd (omega (arith, within))
+registered-at (r ∷ rs) zero d within = or_left (is_same r.submitter r.submitter) _ (is_same-refl r.submitter)
+registered-at (r ∷ rs) (suc k) d within =
+    or_right (is_same r.submitter _) (is_registered rs (get_or rs k d).submitter)
+    (registered-at rs k d (omega (arith, within)))
+
+-- numbers of different submitters are different
+numbers-once : (numbers : Numbering) (registered : List Registration)
+    → AreSubmitters registered
+    → ((name : List ℕ) → is_registered registered name ≡ true → IsNumbered numbers name)
+    → AllPairs (λ (one other : ℕ). one ≢ other) (participants_of numbers registered)
+numbers-once numbers [] distinct names = AllPairs-nil (λ (one other : ℕ). one ≢ other)
+numbers-once numbers (r ∷ rs) distinct names = λ i j d before within same.
+    let all = r ∷ rs in
+    let f : Registration → ℕ = λ (x : Registration). numbers.holder x.submitter in
+    let long : length (map f all) ≡ length all = length-map all f in
+    let at_j : j < length all = omega (arith, within, long) in
+    let at_i : i < length all = omega (arith, before, at_j) in
+    let one = get_or all i r in
+    let other = get_or all j r in
+    let equal : numbers.holder one.submitter ≡ numbers.holder other.submitter =
+    sym (get_or-map f all i r d at_i) ∙ (same ∙ get_or-map f all j r d at_j) in
+    both_ways (is_same other.submitter one.submitter) (distinct i j r before at_j)
+    (sym (names one.submitter (registered-at all i r at_i) other.submitter)
+    ∙ eq-eqb (numbers.holder one.submitter) (numbers.holder other.submitter) equal)
+
+-- the numbers of a legal history are its participants
+AreParticipants-places : (h : List Entry) → IsLegal h
+    → movements.AreParticipants (participants_of (numbering_of (registrations h) (announcements h)) (registrations h))
+    (movements_by (numbering_of (registrations h) (announcements h)) h)
+AreParticipants-places h legal =
+    let numbers = numbering_of (registrations h) (announcements h) in
+    let are = places-numbered h in
+    record {
+      once = numbers-once numbers (registrations h) (IsLegal-submitters h legal) are.names;
+      all = (IsLegal-told numbers (participants_of numbers (registrations h)) h legal are).reaches;
+    }
+
+-- a sum over what is made of elements
+sum_by-made : {X Y : Type 0} (f : Y → ℕ) (make : X → Y) (xs : List X)
+    → sum_by f (map make xs) ≡ sum_by (λ x. f (make x)) xs
+sum_by-made f make [] = refl
+sum_by-made f make (x ∷ xs) =
+    sum_by-cons f (make x) (map make xs) ∙ (ap (λ n. f (make x) + n) (sum_by-made f make xs)
+    ∙ sym (sum_by-cons (λ y. f (make y)) x xs))
+
+-- sums of numbers that agree on the elements
+sum_by-each : {X : Type 0} (f g : X → ℕ) (xs : List X)
+    → ((k : ℕ) (d : X) → k < length xs → f (get_or xs k d) ≡ g (get_or xs k d)) → sum_by f xs ≡ sum_by g xs
+sum_by-each f g [] same = refl
+sum_by-each f g (x ∷ xs) same =
+    sum_by-cons f x xs
+    ∙ (omega (arith, same 0 x (omega arith), sum_by-each f g xs (λ k d within. same (suc k) d (omega (arith, within))))
+    ∙ sym (sum_by-cons g x xs))
+
+-- what all participants hold is what is issued and not redeemed
+pub held-sum : (h : List Entry) (cusip : Cusip) → IsLegal h → has_bill (announcements h) cusip.bytes ≡ true
+    → sum_by (λ (r : Registration). held_of h r.submitter cusip) (registrations h)
+    ≡ (if is_redeemed (redemptions h) cusip then 0 else issued h cusip)
+held-sum h cusip legal bill =
+    let numbers = numbering_of (registrations h) (announcements h) in
+    let participants = participants_of numbers (registrations h) in
+    let are = places-numbered h in
+    let told = IsLegal-told numbers participants h legal are in
+    let bills = are.bills cusip.bytes bill in
+    let security = numbers.security cusip.bytes in
+    let conserved =
+    (IsConserved-legal participants (movements_by numbers h) told.legal
+    (AreParticipants-places h legal)).holdings security in
+    let each : sum_by (λ (r : Registration). held_of h r.submitter cusip) (registrations h)
+    ≡ sum_by (λ (r : Registration). moved.held (numbers.holder r.submitter) security (movements_by numbers h))
+    (registrations h) =
+    sum_by-each _ _ (registrations h) (λ k d within.
+    sym (held-told numbers participants h (get_or (registrations h) k d).submitter cusip told
+    (are.names (get_or (registrations h) k d).submitter (registered-at (registrations h) k d within))
+    bills)) in
+    let whole : moved.outstanding security (movements_by numbers h)
+    ≡ (if is_redeemed (redemptions h) cusip then 0 else issued h cusip) =
+    rw (told.redeemed cusip bills, told.issued_is cusip bills) refl in
+    each
+    ∙ (sym (sum_by-made (λ holder. moved.held holder security (movements_by numbers h))
+    (λ (r : Registration). numbers.holder r.submitter) (registrations h))
+    ∙ (conserved ∙ whole))
+
+-- nobody has pledged more than it holds
+pub pledged-covered : (h : List Entry) (participant : List ℕ) (cusip : Cusip) → IsLegal h
+    → has_bill (announcements h) cusip.bytes ≡ true
+    → is_registered (registrations h) participant ≡ true
+    → pledged_of h participant cusip ≤ held_of h participant cusip
+pledged-covered h participant cusip legal bill known =
+    let numbers = numbering_of (registrations h) (announcements h) in
+    let participants = participants_of numbers (registrations h) in
+    let are = places-numbered h in
+    let told = IsLegal-told numbers participants h legal are in
+    let conserved =
+    IsConserved-legal participants (movements_by numbers h) told.legal (AreParticipants-places h legal) in
+    omega (
+      arith,
+      conserved.covered (numbers.holder participant) (numbers.security cusip.bytes),
+      held-told numbers participants h participant cusip told (are.names participant known)
+          (are.bills cusip.bytes bill),
+      pledged-told numbers participants h participant cusip told,
+    )
+
+-- where the only movement redeems, none stands before it
+none_before : (security : ℕ) (next : Option Movement) → list_any (redeems security) (option_to_list next) ≡ true
+    → take_while (λ movement. not (redeems security movement)) (option_to_list next) ≡ []
+none_before security None some = absurd cc
+none_before security (Some movement) some =
+    let redeemed : redeems security movement ≡ true = sym (or_false (redeems security movement)) ∙ some in
+    take_while-cons (λ m. not (redeems security m)) movement []
+    ∙ ap (λ b. cond (not b) (movement ∷ take_while (λ m. not (redeems security m)) []) []) redeemed
+
+-- the movements before a redemption are those of the entries before it
+before-after : (numbers : Numbering) (cusip : Cusip) (before rest : List Entry) → IsBillNumbered numbers cusip.bytes
+    → take_while (λ movement. not (redeems (numbers.security cusip.bytes) movement))
+    (movements_after (meaning_by numbers) before rest)
+    ≡ movements_after (meaning_by numbers) before (take_while (λ (e : Entry). not (redeems_bill cusip e.message)) rest)
+before-after numbers cusip before [] bills = refl
+before-after numbers cusip before (e ∷ rest) bills =
+    let security = numbers.security cusip.bytes in
+    let stays : Movement → Bool = λ movement. not (redeems security movement) in
+    let passes : Entry → Bool = λ (x : Entry). not (redeems_bill cusip x.message) in
+    let next = meaning_by numbers before e in
+    let later = movements_after (meaning_by numbers) (before ++ e ∷ []) rest in
+    let message_redeems = redeems-message numbers before e.submitter e.number e.message cusip bills in
+    let front = take_while-cons passes e rest in
+    elim (cases_Bool (redeems_bill cusip e.message)) [
+      | inl redeemed ↦
+          let some : list_any (redeems security) (option_to_list next) ≡ true = message_redeems ∙ redeemed in
+          let none : take_while passes (e ∷ rest) ≡ [] =
+          front ∙ ap (λ b. cond (not b) (e ∷ take_while passes rest) []) redeemed in
+          take_while-stopped (redeems security) (option_to_list next) later some
+          ∙ (none_before security next some ∙ ap (movements_after (meaning_by numbers) before) (sym none))
+      | inr not_yet ↦
+          let none : list_any (redeems security) (option_to_list next) ≡ false = message_redeems ∙ not_yet in
+          let more : take_while passes (e ∷ rest) ≡ e ∷ take_while passes rest =
+          front ∙ ap (λ b. cond (not b) (e ∷ take_while passes rest) []) not_yet in
+          take_while-passed (redeems security) (option_to_list next) later none
+          ∙ (ap (λ ms. option_to_list next ++ ms) (before-after numbers cusip (before ++ e ∷ []) rest bills)
+          ∙ ap (movements_after (meaning_by numbers) before) (sym more))
+    ]
+
+-- numbers for a history are numbers for each of its beginnings
+AreNumbered-begin : (numbers : Numbering) (participants : List ℕ) (h more : List Entry)
+    → AreNumbered numbers participants (h ++ more) → AreNumbered numbers participants h
+unfolding registrations announcements
+AreNumbered-begin numbers participants h more are =
+    let says : Entry → List Registration = λ (x : Entry). registered_by x.message in
+    let tells : Entry → List Announcement = λ (x : Entry). announced_by x.message in
+    let names : (name : List ℕ) → is_registered (registrations h) name ≡ true
+    → is_registered (registrations (h ++ more)) name ≡ true =
+    λ name known. rw (flat_map-append says h more)
+    (registered-append (flat_map says h) (flat_map says more) name known) in
+    record {
+      names = λ name known. are.names name (names name known);
+      listed = λ name known. are.listed name (names name known);
+      bills = λ bytes known. are.bills bytes (rw (flat_map-append tells h more)
+          (has_bill-append (flat_map tells h) (flat_map tells more) bytes known));
+    }
+
+-- a beginning that is taken is one
+front-whole : (h : List Entry) (cusip : Cusip)
+    → before_redemption h cusip ++ drop (prefix_len (λ (e : Entry). not (redeems_bill cusip e.message)) h) h ≡ h
+front-whole h cusip = take-append-drop (prefix_len (λ (e : Entry). not (redeems_bill cusip e.message)) h) h
+
+-- what is paid
+pub paid-told : (numbers : Numbering) (participants : List ℕ) (h : List Entry) (participant : List ℕ) (cusip : Cusip)
+    → IsLegal h
+    → AreNumbered numbers participants h
+    → AreTold numbers participants h
+    → IsNumbered numbers participant
+    → IsBillNumbered numbers cusip.bytes
+    → moved.paid (numbers.holder participant) (numbers.security cusip.bytes) (movements_by numbers h)
+    ≡ paid_to h participant cusip
+unfolding paid_to
+paid-told numbers participants h participant cusip legal are told own bills =
+    let front = before_redemption h cusip in
+    let rest = drop (prefix_len (λ (e : Entry). not (redeems_bill cusip e.message)) h) h in
+    let whole = front-whole h cusip in
+    let legal_front : IsLegal front = IsLegal-front rest front (subst IsLegal (sym whole) legal) in
+    let are_front =
+    AreNumbered-begin numbers participants front rest (subst (AreNumbered numbers participants) (sym whole) are) in
+    let told_front = IsLegal-told numbers participants front legal_front are_front in
+    let same : moved.before_redemption (numbers.security cusip.bytes) (movements_by numbers h)
+    ≡ movements_by numbers front =
+    before-after numbers cusip [] h bills in
+    let held_then : moved.held (numbers.holder participant) (numbers.security cusip.bytes)
+    (moved.before_redemption (numbers.security cusip.bytes) (movements_by numbers h))
+    ≡ held_of front participant cusip =
+    ap (moved.held (numbers.holder participant) (numbers.security cusip.bytes)) same
+    ∙ held-told numbers participants front participant cusip told_front own bills in
+    ap (λ b. cond b (moved.held (numbers.holder participant) (numbers.security cusip.bytes)
+    (moved.before_redemption (numbers.security cusip.bytes) (movements_by numbers h))) 0)
+    (told.redeemed cusip bills)
+    ∙ ap (λ n. cond (is_redeemed (redemptions h) cusip) n 0) held_then
+
+-- after a redemption the participants were paid what was issued
+pub paid-sum : (h : List Entry) (cusip : Cusip) → IsLegal h → has_bill (announcements h) cusip.bytes ≡ true
+    → is_redeemed (redemptions h) cusip ≡ true
+    → sum_by (λ (r : Registration). paid_to h r.submitter cusip) (registrations h) ≡ issued h cusip
+paid-sum h cusip legal bill redeemed =
+    let numbers = numbering_of (registrations h) (announcements h) in
+    let participants = participants_of numbers (registrations h) in
+    let are = places-numbered h in
+    let told = IsLegal-told numbers participants h legal are in
+    let bills = are.bills cusip.bytes bill in
+    let security = numbers.security cusip.bytes in
+    let conserved =
+    (IsConserved-legal participants (movements_by numbers h) told.legal
+    (AreParticipants-places h legal)).payments security (told.redeemed cusip bills ∙ redeemed) in
+    let each : sum_by (λ (r : Registration). paid_to h r.submitter cusip) (registrations h)
+    ≡ sum_by (λ (r : Registration). moved.paid (numbers.holder r.submitter) security (movements_by numbers h))
+    (registrations h) =
+    sum_by-each _ _ (registrations h) (λ k d within.
+    sym (paid-told numbers participants h (get_or (registrations h) k d).submitter cusip legal are told
+    (are.names (get_or (registrations h) k d).submitter (registered-at (registrations h) k d within))
+    bills)) in
+    each
+    ∙ (sym (sum_by-made (λ holder. moved.paid holder security (movements_by numbers h))
+    (λ (r : Registration). numbers.holder r.submitter) (registrations h))
+    ∙ (conserved ∙ told.issued_is cusip bills))

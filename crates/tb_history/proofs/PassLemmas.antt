@@ -1,0 +1,165 @@
+-- The movements of a legal history are legal, and tell what it says of accounts.
+use Rattle.std.proofs.Common.{◌≡◌, ℕ, ◌+◌, ◌==◌, ◌&&◌, Bool, true, false, cond, Some, is_some, inl, inr, List, [], ◌∷◌, map, sum_by, All, refl, sym, ap, ◌∙◌, arith}
+use Rattle.std.specs.Option.{option_map}
+use Rattle.std.specs.List.{AllByRecursion, find, filter, list_any}
+use Rattle.std.proofs.lemmas.Bool.{cases_Bool}
+use Rattle.tb_units.proofs.SumLemmas.{sum_by-filter-cons}
+use Rattle.tb_terms.specs.declared.cusip.Cusip.{Cusip}
+use Rattle.tb_movements.specs.Movements.{brought, taken, issues}
+use Rattle.tb_movements.specs.Holdings as moved
+use Rattle.tb_movements.specs.Marks as pledges
+use Rattle.tb_movements.specs.Legal as movements
+use Rattle.tb_message.specs.declared.message.Entry.{Entry}
+use Rattle.tb_history.specs.declared.accounts.Mark.{Mark}
+use Rattle.tb_history.specs.declared.accounts.Release.{Release}
+use Rattle.tb_history.specs.Entries.{is_same}
+use Rattle.tb_history.specs.Roster.{redemptions, is_redeemed}
+use Rattle.tb_history.specs.Holdings.{marks, releases, credited_to, issued, received_by, sent_from, held_of, mark_of, left_of, pledged_of, free_of}
+use Rattle.tb_history.specs.Moves.{Numbering, movements_by, IsNumbered, IsBillNumbered, as_moved}
+use Rattle.tb_history.proofs.ClosedLemmas.{found-in}
+use Rattle.tb_history.proofs.CreditedLemmas.{flipped}
+use Rattle.tb_history.proofs.MovedLemmas.{is_release_of}
+
+-- what is found is there
+pub found_any : {X : Type 0} (test : X → Bool) (xs : List X) → is_some (find test xs) ≡ true → list_any test xs ≡ true
+found_any test [] found = cc
+found_any test (x ∷ xs) found =
+    elim (cases_Bool (test x)) [ inl is ↦ rw is refl | inr isnt ↦ rw isnt (found_any test xs (rw isnt at found)) ]
+
+-- the bill of a pledge and its holder have numbers
+abbrev pub IsKnown : Numbering → Mark → Type 0
+IsKnown numbers mark = IsNumbered numbers mark.holder × IsBillNumbered numbers mark.cusip.bytes
+
+-- the movements tell what the history says of accounts
+pub record AreTold (numbers : Numbering) (participants : List ℕ) (h : List Entry) : Type 0 where
+  pub legal : movements.IsLegal (movements_by numbers h)
+  pub reaches : All (movements.Reaches participants) (movements_by numbers h)
+  pub brings : (participant : List ℕ) (cusip : Cusip)
+      → IsNumbered numbers participant → IsBillNumbered numbers cusip.bytes
+      → sum_by (brought (numbers.holder participant) (numbers.security cusip.bytes)) (movements_by numbers h)
+      ≡ credited_to h participant cusip + received_by h participant cusip
+  pub takes : (participant : List ℕ) (cusip : Cusip)
+      → IsNumbered numbers participant → IsBillNumbered numbers cusip.bytes
+      → sum_by (taken (numbers.holder participant) (numbers.security cusip.bytes)) (movements_by numbers h)
+      ≡ sent_from h participant cusip
+  pub issued_is : (cusip : Cusip) → IsBillNumbered numbers cusip.bytes
+      → sum_by (issues (numbers.security cusip.bytes)) (movements_by numbers h) ≡ issued h cusip
+  pub redeemed : (cusip : Cusip) → IsBillNumbered numbers cusip.bytes
+      → moved.is_redeemed (numbers.security cusip.bytes) (movements_by numbers h) ≡ is_redeemed (redemptions h) cusip
+  pub marks_are : pledges.marks (movements_by numbers h) ≡ map (as_moved numbers) (marks h)
+  pub released : (holder : List ℕ) (number : ℕ) → IsNumbered numbers holder
+      → sum_by (pledges.releases (numbers.holder holder) number) (movements_by numbers h)
+      ≡ sum_by (λ (r : Release). r.amount.value) (filter (is_release_of holder number) (releases h))
+  pub known : AllByRecursion (IsKnown numbers) (marks h)
+
+-- so they tell what is held
+pub held-told : (numbers : Numbering) (participants : List ℕ) (h : List Entry) (participant : List ℕ) (cusip : Cusip)
+    → AreTold numbers participants h
+    → IsNumbered numbers participant
+    → IsBillNumbered numbers cusip.bytes
+    → moved.held (numbers.holder participant) (numbers.security cusip.bytes) (movements_by numbers h)
+    ≡ held_of h participant cusip
+unfolding held_of
+held-told numbers participants h participant cusip told own bills =
+    rw (told.redeemed cusip bills, told.brings participant cusip own bills, told.takes participant cusip own bills) refl
+
+-- what is left of a pledge
+pub left-told : (numbers : Numbering) (participants : List ℕ) (h : List Entry) (mark : Mark)
+    → AreTold numbers participants h
+    → IsKnown numbers mark
+    → pledges.left_of (movements_by numbers h) (as_moved numbers mark) ≡ left_of h mark
+unfolding left_of
+left-told numbers participants h mark told known =
+    rw (told.redeemed mark.cusip known.1, told.released mark.holder mark.number known.0) refl
+
+-- a pledge of a participant in a bill is one in the movements
+on-told : (numbers : Numbering) (participant : List ℕ) (cusip : Cusip) (mark : Mark) → IsKnown numbers mark
+    → pledges.is_on (numbers.holder participant) (numbers.security cusip.bytes) (as_moved numbers mark)
+    ≡ (is_same mark.holder participant && is_same mark.cusip.bytes cusip.bytes)
+on-told numbers participant cusip mark known =
+    rw (known.0 participant, known.1 cusip.bytes, flipped participant mark.holder, flipped cusip.bytes mark.cusip.bytes) refl
+
+-- all pledges of a participant in a bill
+pledged-list : (numbers : Numbering) (participants : List ℕ) (h : List Entry) (participant : List ℕ) (cusip : Cusip)
+    (all : List Mark)
+    → AreTold numbers participants h
+    → AllByRecursion (IsKnown numbers) all
+    → sum_by (pledges.left_of (movements_by numbers h))
+    (filter (pledges.is_on (numbers.holder participant) (numbers.security cusip.bytes))
+    (map (as_moved numbers) all))
+    ≡ sum_by (left_of h) (filter (λ (mark : Mark). is_same mark.holder participant
+    && is_same mark.cusip.bytes cusip.bytes) all)
+pledged-list numbers participants h participant cusip [] told known = refl
+pledged-list numbers participants h participant cusip (mark ∷ all) told known =
+    let test : Mark → Bool = λ (m : Mark). is_same m.holder participant && is_same m.cusip.bytes cusip.bytes in
+    let on = pledges.is_on (numbers.holder participant) (numbers.security cusip.bytes) in
+    let left = sum_by-filter-cons (pledges.left_of (movements_by numbers h)) on (as_moved numbers mark)
+    (map (as_moved numbers) all) in
+    let right = sum_by-filter-cons (left_of h) test mark all in
+    let rest = pledged-list numbers participants h participant cusip all told known.1 in
+    let same : cond (on (as_moved numbers mark)) (pledges.left_of (movements_by numbers h) (as_moved numbers mark)) 0
+    ≡ cond (test mark) (left_of h mark) 0 =
+    ap (λ b. cond b (pledges.left_of (movements_by numbers h) (as_moved numbers mark)) 0)
+    (on-told numbers participant cusip mark known.0)
+    ∙ ap (λ n. cond (test mark) n 0) (left-told numbers participants h mark told known.0) in
+    left ∙ (omega (arith, same, rest) ∙ sym right)
+
+-- what is pledged
+pub pledged-told : (numbers : Numbering) (participants : List ℕ) (h : List Entry) (participant : List ℕ) (cusip : Cusip)
+    → AreTold numbers participants h
+    → pledges.pledged (numbers.holder participant) (numbers.security cusip.bytes) (movements_by numbers h)
+    ≡ pledged_of h participant cusip
+unfolding pledged_of
+pledged-told numbers participants h participant cusip told =
+    ap (λ (all : List pledges.Mark). sum_by (pledges.left_of (movements_by numbers h))
+    (filter (pledges.is_on (numbers.holder participant) (numbers.security cusip.bytes)) all)) told.marks_are
+    ∙ pledged-list numbers participants h participant cusip (marks h) told told.known
+
+-- and what is free
+pub free-told : (numbers : Numbering) (participants : List ℕ) (h : List Entry) (participant : List ℕ) (cusip : Cusip)
+    → AreTold numbers participants h
+    → IsNumbered numbers participant
+    → IsBillNumbered numbers cusip.bytes
+    → pledges.free (numbers.holder participant) (numbers.security cusip.bytes) (movements_by numbers h)
+    ≡ free_of h participant cusip
+unfolding free_of
+free-told numbers participants h participant cusip told own bills =
+    rw (held-told numbers participants h participant cusip told own bills, pledged-told numbers participants h participant cusip told) refl
+
+-- the pledge of a holder and number
+mark-list : (numbers : Numbering) (holder : List ℕ) (number : ℕ) (all : List Mark)
+    → AllByRecursion (IsKnown numbers) all
+    → find (pledges.is_named (numbers.holder holder) number) (map (as_moved numbers) all)
+    ≡ option_map {U = pledges.Mark} (as_moved numbers)
+    (find (λ (mark : Mark). is_same mark.holder holder && (mark.number == number)) all)
+mark-list numbers holder number [] known = refl
+mark-list numbers holder number (mark ∷ all) known =
+    let test : Mark → Bool = λ (m : Mark). is_same m.holder holder && (m.number == number) in
+    let named = pledges.is_named (numbers.holder holder) number in
+    let same : named (as_moved numbers mark) ≡ test mark = rw (known.0.0 holder, flipped holder mark.holder) refl in
+    elim (cases_Bool (test mark)) [
+      | inl is ↦ let also : named (as_moved numbers mark) ≡ true = same ∙ is in rw (also, is) refl
+      | inr isnt ↦ let also : named (as_moved numbers mark) ≡ false = same ∙ isnt in
+          rw (also, isnt) (mark-list numbers holder number all known.1)
+    ]
+
+-- as the movements have it
+pub mark-told : (numbers : Numbering) (participants : List ℕ) (h : List Entry) (holder : List ℕ) (number : ℕ)
+    → AreTold numbers participants h
+    → pledges.mark_of (numbers.holder holder) number (movements_by numbers h)
+    ≡ option_map {U = pledges.Mark} (as_moved numbers) (mark_of h holder number)
+unfolding mark_of
+mark-told numbers participants h holder number told =
+    ap (find (pledges.is_named (numbers.holder holder) number)) told.marks_are
+    ∙ mark-list numbers holder number (marks h) told.known
+
+-- a pledge that is found is of a participant and a bill with numbers
+pub known-mark : (numbers : Numbering) (participants : List ℕ) (h : List Entry) (holder : List ℕ) (number : ℕ)
+    (mark : Mark)
+    → AreTold numbers participants h
+    → mark_of h holder number ≡ Some mark
+    → IsKnown numbers mark
+unfolding mark_of
+known-mark numbers participants h holder number mark told found =
+    found-in (IsKnown numbers) (λ (m : Mark). is_same m.holder holder && (m.number == number)) (marks h)
+    mark told.known found

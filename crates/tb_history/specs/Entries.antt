@@ -1,0 +1,105 @@
+-- What the entries of a history say. A history is the list of its entries, the first of them first. A message says a
+-- list of each kind, empty or of one.
+use Rattle.std.specs.Prelude.{ℕ, Bool, true, false, List, [], ◌∷◌, codes}
+use Rattle.std.specs.Str.{bytes_eq}
+use Rattle.tb_units.specs.declared.day.Day.{Day}
+use Rattle.tb_terms.specs.declared.announcement.Announcement.{Announcement}
+use Rattle.tb_terms.specs.declared.cusip.Cusip.{Cusip}
+use Rattle.tb_message.specs.declared.message.Message.{Message}
+use Rattle.tb_message.specs.declared.message.Message.TheVariants as message
+use Rattle.tb_history.specs.declared.roster.Registration.{Registration}
+use Rattle.tb_history.specs.declared.roster.Enrolment.{Enrolment}
+use Rattle.tb_history.specs.declared.bids.Bid.{Bid}
+use Rattle.tb_history.specs.declared.bids.Cancel.{Cancel}
+use Rattle.tb_history.specs.declared.bids.Report.{Report}
+use Rattle.tb_history.specs.declared.accounts.Transfer.{Transfer}
+use Rattle.tb_history.specs.declared.accounts.Mark.{Mark}
+use Rattle.tb_history.specs.declared.accounts.Release.{Release}
+
+-- two names, or two CUSIPs, are one
+abbrev pub is_same : List ℕ → List ℕ → Bool
+is_same = bytes_eq
+
+-- the name that the operator's entries have
+unfoldable pub operator : List ℕ
+operator = codes "operator"
+
+-- a submitter and its key
+abbrev pub registered_by : Message → List Registration
+registered_by (message.Register submitter key) = record { submitter = submitter; key = key } ∷ []
+registered_by other = []
+
+-- a bidder and its submitter
+abbrev pub enrolled_by : Message → List Enrolment
+enrolled_by (message.Enrol bidder submitter) = record { bidder = bidder; submitter = submitter } ∷ []
+enrolled_by other = []
+
+-- a holiday
+abbrev pub entered_by : Message → List Day
+entered_by (message.Holiday day) = day ∷ []
+entered_by other = []
+
+-- an announcement
+abbrev pub announced_by : Message → List Announcement
+announced_by (message.Announce terms) = terms ∷ []
+announced_by other = []
+
+-- the auction whose results are published
+abbrev pub published_by : Message → List (List ℕ)
+published_by (message.Publish auction) = auction ∷ []
+published_by other = []
+
+-- the auction that is settled
+abbrev pub settled_by : Message → List (List ℕ)
+settled_by (message.Settle auction) = auction ∷ []
+settled_by other = []
+
+-- the bill that is redeemed
+abbrev pub redeemed_by : Message → List Cusip
+redeemed_by (message.Redeem cusip) = cusip ∷ []
+redeemed_by other = []
+
+-- a bid of its sender under its number
+abbrev pub bid_by : List ℕ → ℕ → Message → List Bid
+bid_by submitter number (message.Bid auction bidder rate amount) =
+    record { submitter = submitter; number = number; auction = auction; bidder = bidder; rate = rate; amount = amount } ∷ []
+bid_by submitter number other = []
+
+-- a cancel of the sender's bid
+abbrev pub cancelled_by : List ℕ → Message → List Cancel
+cancelled_by submitter (message.Cancel auction bid) = record { submitter = submitter; auction = auction; bid = bid } ∷ []
+cancelled_by submitter other = []
+
+-- a report of a position
+abbrev pub reported_by : List ℕ → Message → List Report
+reported_by submitter (message.Position auction bidder position) =
+    record { submitter = submitter; auction = auction; bidder = bidder; position = position } ∷ []
+reported_by submitter other = []
+
+-- a transfer from the sender
+abbrev pub transferred_by : List ℕ → Message → List Transfer
+transferred_by submitter (message.Transfer cusip to amount) =
+    record { from = submitter; to = to; cusip = cusip; amount = amount } ∷ []
+transferred_by submitter other = []
+
+-- a pledge of the sender under its number
+abbrev pub pledged_by : List ℕ → ℕ → Message → List Mark
+pledged_by submitter number (message.Pledge cusip to amount) =
+    record { holder = submitter; number = number; pledgee = to; cusip = cusip; amount = amount } ∷ []
+pledged_by submitter number other = []
+
+-- a release of the holder's pledge
+abbrev pub released_by : Message → List Release
+released_by (message.Release holder pledge amount) = record { holder = holder; pledge = pledge; amount = amount } ∷ []
+released_by other = []
+
+-- the kinds that the operator sends; all others are sent by submitters
+abbrev pub is_operators : Message → Bool
+is_operators (message.Register submitter key) = true
+is_operators (message.Enrol bidder submitter) = true
+is_operators (message.Holiday day) = true
+is_operators (message.Announce terms) = true
+is_operators (message.Publish auction) = true
+is_operators (message.Settle auction) = true
+is_operators (message.Redeem cusip) = true
+is_operators other = false

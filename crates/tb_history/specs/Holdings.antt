@@ -1,0 +1,120 @@
+-- What participants hold of a bill, and what of it is pledged (31 CFR Part 357, Subpart B; that pledged par stays the
+-- holder's is our choice).
+use Rattle.std.specs.Prelude.{ℕ, ◌+◌, ◌-◌, ◌==◌, ◌&&◌, Bool, not, nat_lt, if◌then◌else◌, Option, List, length, sum_by, take_while}
+use Rattle.std.specs.List.{find, filter, flat_map}
+use Rattle.tb_terms.specs.declared.announcement.Announcement.{Announcement}
+use Rattle.tb_terms.specs.declared.cusip.Cusip.{Cusip}
+use Rattle.tb_message.specs.declared.message.Entry.{Entry}
+use Rattle.tb_message.specs.declared.message.Message.{Message}
+use Rattle.tb_history.specs.declared.roster.Enrolment.{Enrolment}
+use Rattle.tb_history.specs.declared.accounts.Transfer.{Transfer}
+use Rattle.tb_history.specs.declared.accounts.Mark.{Mark}
+use Rattle.tb_history.specs.declared.accounts.Release.{Release}
+use Rattle.tb_history.specs.Entries.{is_same, transferred_by, pledged_by, released_by, redeemed_by}
+use Rattle.tb_history.specs.Roster.{enrolments, announcements, redemptions, is_of_bill, is_settled, is_redeemed}
+use Rattle.tb_history.specs.LiveBids.{bids, cancels, reports}
+use Rattle.tb_history.specs.Awarded.{Bidding, bidding_of, awarded}
+
+-- all accepted transfers
+unfoldable pub transfers : List Entry → List Transfer
+transfers history = flat_map (λ (entry : Entry). transferred_by entry.submitter entry.message) history
+
+-- all accepted pledges
+unfoldable pub marks : List Entry → List Mark
+marks history = flat_map (λ (entry : Entry). pledged_by entry.submitter entry.number entry.message) history
+
+-- all accepted releases
+unfoldable pub releases : List Entry → List Release
+releases history = flat_map (λ (entry : Entry). released_by entry.message) history
+
+-- the bidding of an announced auction
+abbrev pub bidding_in : List Entry → Announcement → Bidding
+bidding_in history a = bidding_of (enrolments history) (bids history) (cancels history) (reports history) a
+
+-- the bidder's award in an auction
+abbrev pub award_in : List Entry → Announcement → List ℕ → ℕ
+award_in history a bidder = awarded (bidding_in history a) bidder
+
+-- the settled auctions of the bill
+abbrev pub settled_auctions : List Entry → Cusip → List Announcement
+settled_auctions history cusip =
+    filter (λ (a : Announcement). is_of_bill cusip a && is_settled history a.auction) (announcements history)
+
+-- the awards of some bidders in an auction
+abbrev pub awards_of : List Entry → List Enrolment → Announcement → ℕ
+awards_of history bidders a = sum_by (λ (e : Enrolment). award_in history a e.bidder) bidders
+
+-- the bidders of a participant
+abbrev pub bidders_of : List Entry → List ℕ → List Enrolment
+bidders_of history participant = filter (λ (e : Enrolment). is_same e.submitter participant) (enrolments history)
+
+-- the awards of the participant's bidders in the settled auctions of the bill
+unfoldable pub credited_to : List Entry → List ℕ → Cusip → ℕ
+credited_to history participant cusip =
+    sum_by (awards_of history (bidders_of history participant)) (settled_auctions history cusip)
+
+-- what was issued of the bill: all awards in its settled auctions
+unfoldable pub issued : List Entry → Cusip → ℕ
+issued history cusip = sum_by (awards_of history (enrolments history)) (settled_auctions history cusip)
+
+-- transfers of the bill to the participant
+abbrev pub received_by : List Entry → List ℕ → Cusip → ℕ
+received_by history participant cusip =
+    sum_by (λ (t : Transfer). t.amount.value)
+    (filter (λ (t : Transfer). is_same t.to participant && is_same t.cusip.bytes cusip.bytes) (transfers history))
+
+-- and from it
+abbrev pub sent_from : List Entry → List ℕ → Cusip → ℕ
+sent_from history participant cusip =
+    sum_by (λ (t : Transfer). t.amount.value)
+    (filter (λ (t : Transfer). is_same t.from participant && is_same t.cusip.bytes cusip.bytes) (transfers history))
+
+-- what the participant holds of the bill: nothing once it is redeemed
+unfoldable pub held_of : List Entry → List ℕ → Cusip → ℕ
+held_of history participant cusip =
+    if is_redeemed (redemptions history) cusip then 0
+    else credited_to history participant cusip + received_by history participant cusip - sent_from history participant cusip
+
+-- the message redeems the bill
+abbrev pub redeems : Cusip → Message → Bool
+redeems cusip message = is_redeemed (redeemed_by message) cusip
+
+-- the entries before the redemption of the bill
+abbrev pub before_redemption : List Entry → Cusip → List Entry
+before_redemption history cusip = take_while (λ (e : Entry). not (redeems cusip e.message)) history
+
+-- what the participant was paid: what it held just before the redemption
+unfoldable pub paid_to : List Entry → List ℕ → Cusip → ℕ
+paid_to history participant cusip =
+    if is_redeemed (redemptions history) cusip then held_of (before_redemption history cusip) participant cusip else 0
+
+-- the holder's pledge of this number
+unfoldable pub mark_of : List Entry → List ℕ → ℕ → Option Mark
+mark_of history holder number =
+    find (λ (mark : Mark). is_same mark.holder holder && (mark.number == number)) (marks history)
+
+-- what was released of a pledge
+abbrev pub released_of : List Entry → Mark → ℕ
+released_of history mark =
+    sum_by (λ (r : Release). r.amount.value)
+    (filter (λ (r : Release). is_same r.holder mark.holder && (r.pledge == mark.number)) (releases history))
+
+-- what is left of a pledge: nothing once its bill is redeemed
+unfoldable pub left_of : List Entry → Mark → ℕ
+left_of history mark =
+    if is_redeemed (redemptions history) mark.cusip then 0 else mark.amount.value - released_of history mark
+
+-- the par of the bill that the participant has pledged
+unfoldable pub pledged_of : List Entry → List ℕ → Cusip → ℕ
+pledged_of history participant cusip =
+    sum_by (left_of history)
+    (filter (λ (mark : Mark). is_same mark.holder participant && is_same mark.cusip.bytes cusip.bytes) (marks history))
+
+-- and what of its par is free
+unfoldable pub free_of : List Entry → List ℕ → Cusip → ℕ
+free_of history participant cusip = held_of history participant cusip - pledged_of history participant cusip
+
+-- how many pledges of the participant have something left
+unfoldable pub open_marks : List Entry → List ℕ → ℕ
+open_marks history participant =
+    length (filter (λ (mark : Mark). is_same mark.holder participant && nat_lt 0 (left_of history mark)) (marks history))

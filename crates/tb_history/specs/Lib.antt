@@ -1,0 +1,14 @@
+pub mod Values
+pub mod Entries
+pub mod Roster
+pub mod LiveBids
+pub mod Awarded
+pub mod Holdings
+pub mod Same
+pub mod Tables
+pub mod Verdict
+pub mod Legal
+pub mod OwnPart
+pub mod Answer
+pub mod Readings
+pub mod Moves
