@@ -1,7 +1,7 @@
 //! Fields of a record, read from the front of what is left of it.
-ghost use Rattle.std.specs.Prelude.{◌≡◌, drop, length, take};
+ghost use Rattle.std.specs.Prelude.{◌≡◌};
 ghost use Rattle.std.specs.Option.{option_map};
-ghost use Rattle.std.specs.Int.{w16, w32, w64};
+ghost use Rattle.std.specs.Int.{w32, w64};
 ghost use Rattle.tb_message.specs.Forms.{text, whole, signed};
 ghost use Rattle.tb_message.specs.Forms as form;
 ghost use Rattle.tb_message.specs.Reading.{front_at, part_at, whole_at};

@@ -1,8 +1,8 @@
 //! Members of a JSON request, each of its form.
-ghost use Rattle.std.specs.Prelude.{◌≡◌, ℕ, true, false, Some, None, IfOk, IfErr};
-ghost use Rattle.std.specs.Option.{option_map, option_and_then};
+ghost use Rattle.std.specs.Prelude.{◌≡◌, Some, None};
+ghost use Rattle.std.specs.Option.{option_map};
 ghost use Rattle.serde_json.specs.View.{view};
-ghost use Rattle.serde_json.specs.Find.{get, as_str};
+ghost use Rattle.serde_json.specs.Find.{get};
 ghost use Rattle.tb_terms.specs.Refusals.{member_of};
 ghost use Rattle.tb_message.specs.Forms.{text, whole, signed};
 ghost use Rattle.tb_message.specs.Forms as form;

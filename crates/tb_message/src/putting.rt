@@ -1,14 +1,12 @@
 //! Entries, spelled as records.
-ghost use Rattle.std.specs.Prelude.{◌≡◌, ◌+◌, ◌≤◌, ◌^◌, [], ◌++◌, length, take, drop, true};
-ghost use Rattle.std.specs.Int.{w16, w32, w64};
-ghost use Rattle.tb_units.specs.Names.{is_name};
+ghost use Rattle.std.specs.Prelude.{◌≡◌, ◌+◌, ◌≤◌, ◌^◌, ◌++◌, length};
 ghost use Rattle.tb_message.specs.Forms.{text, whole, signed};
 ghost use Rattle.tb_message.specs.Forms as form;
-ghost use Rattle.tb_message.specs.Spelling.{spelled, spelling, spelled_all, head_forms, head_of, IsInRange, AreOf};
+ghost use Rattle.tb_message.specs.Spelling.{spelled, spelling, spelled_all, IsInRange, AreOf};
 ghost use Rattle.tb_message.specs.Messages.{kind_of, parts_of};
 ghost use Rattle.tb_message.specs.declared.message.Message.TheVariants as messages;
 ghost use Rattle.tb_message.specs.declared.kind.Kind.TheVariants as kinds;
-ghost use Rattle.tb_message.specs.Kinds.{tag_of, forms_of};
+ghost use Rattle.tb_message.specs.Kinds.{forms_of};
 
 use crate::message::{Entry, Message};
 use crate::record::Record;

@@ -1,8 +1,8 @@
 //! Verdicts on messages, and the lines that tell them.
-ghost use Rattle.std.specs.Prelude.{◌≡◌, ◌+◌, ◌<◌, ◌≤◌, ◌^◌, [], ◌∷◌, ◌++◌, length, take, drop, codes};
+ghost use Rattle.std.specs.Prelude.{◌≡◌, ◌+◌, ◌<◌, ◌≤◌, ◌^◌, [], ◌∷◌, ◌++◌, length, take, codes};
 ghost use Rattle.std.specs.Fmt.{decimal};
 ghost use Rattle.tb_terms.specs.Texts.{day_text};
-ghost use Rattle.tb_terms.specs.Refusals.{number_of, name_of, member_of};
+ghost use Rattle.tb_terms.specs.Refusals.{number_of, name_of};
 ghost use Rattle.tb_message.specs.Verdicts.{spaced, values_of, verdict_text};
 
 use crate::writing::write_at;
