@@ -13,19 +13,30 @@ fields-some text = rw (length-slice_split is_blank text) (omega arith)
 
 -- a text without blanks is one field
 pub fields-whole : (text : List ℕ) → position_or_len is_blank text ≡ length text → fields text ≡ text ∷ []
-fields-whole text whole = slice_split_none is_blank text (λ k d below. fails_before_first is_blank text k d (rw whole below))
+fields-whole text whole =
+    slice_split_none is_blank text (λ k d below. fails_before_first is_blank text k d (rw whole below))
 
 -- no text is without fields
 pub fields-not_none : (text : List ℕ) → fields text ≢ []
 fields-not_none text none = absurd (omega (arith, fields-some text, ap length none))
 
 -- two fields before others are more than two
-pub fields_of-not_two : (all others more : Option (Bor (List ℕ))) (text behind rest : Bor (List ℕ)) (first second : List ℕ) → all ≡ Some text → fields text.now ≡ first ∷ fields_of others → others ≡ Some behind → fields behind.now ≡ second ∷ fields_of more → more ≡ Some rest → length (fields_of all) ≢ 2
+pub fields_of-not_two : (all others more : Option (Bor (List ℕ))) (text behind rest : Bor (List ℕ))
+    (first second : List ℕ)
+    → all ≡ Some text
+    → fields text.now ≡ first ∷ fields_of others
+    → others ≡ Some behind
+    → fields behind.now ≡ second ∷ fields_of more
+    → more ≡ Some rest
+    → length (fields_of all) ≢ 2
 fields_of-not_two all others more text behind rest first second all_is text_is others_is behind_is more_is two =
     let long : 0 < length (fields rest.now) = fields-some rest.now in
-    let one : fields_of others ≡ second ∷ fields rest.now = ap fields_of others_is ∙ behind_is ∙ ap (λ o. second ∷ fields_of o) more_is in
-    let whole : fields_of all ≡ first ∷ second ∷ fields rest.now = ap fields_of all_is ∙ text_is ∙ ap (λ texts. first ∷ texts) one in
+    let one : fields_of others ≡ second ∷ fields rest.now =
+    ap fields_of others_is ∙ behind_is ∙ ap (λ o. second ∷ fields_of o) more_is in
+    let whole : fields_of all ≡ first ∷ second ∷ fields rest.now =
+    ap fields_of all_is ∙ text_is ∙ ap (λ texts. first ∷ texts) one in
     absurd (omega (arith, ap length whole, two, long))
 
+-- a text has at least one field
 pub fields_of-not_none : (all : Option (Bor (List ℕ))) (text : Bor (List ℕ)) → all ≡ Some text → fields_of all ≢ []
 fields_of-not_none all text is none = fields-not_none text.now (sym (ap fields_of is) ∙ none)

@@ -4,13 +4,15 @@ pub mod PositionLemmas
 pub mod BookLineLemmas
 pub mod LineLemmas
 pub mod ReaderLemmas
+pub mod ReadsLemmas
 pub mod NameLemmas
 pub mod SameLemmas
 pub mod BookLemmas
 pub mod ReadLemmas
 pub mod TallyLemmas
 pub mod NumberingLemmas
-pub mod OrderLemmas
 pub mod AwardLemmas
 pub mod TextLemmas
 pub mod CompleteLemmas
+pub mod UniqueLemmas
+pub mod OneTextLemmas

@@ -24,138 +24,249 @@ any-first : {X : Type 0} (p : X → Bool) (xs : List X) → list_any p xs ≡ lt
 any-first p [] = refl
 any-first p (x ∷ xs) = grind (arith, nat_tests, any-first p xs)
 
-stands : (names : List (List ℕ)) (name : List ℕ) → list_any (name_eq name) names ≡ true → StandsFirstAt name names (position_or_len (name_eq name) names)
+-- a name that a set knows stands first where the set finds it
+stands : (names : List (List ℕ)) (name : List ℕ)
+    → list_any (name_eq name) names ≡ true
+    → StandsFirstAt name names (position_or_len (name_eq name) names)
 stands names name known =
-    let within : position_or_len (name_eq name) names < length names = (let test : ltb (position_or_len (name_eq name) names) (length names) ≡ true = sym (any-first (name_eq name) names) ∙ known in grind (arith, nat_tests)) in
+    let within : position_or_len (name_eq name) names < length names =
+    (let test : ltb (position_or_len (name_eq name) names) (length names) ≡ true =
+    sym (any-first (name_eq name) names) ∙ known in grind (arith, nat_tests)) in
     record {
       within = within;
-      is = λ d. sym (name_eq-same name (get_or names (position_or_len (name_eq name) names) d) (passes_at_first (name_eq name) names d within));
-      first = λ k d before same. name_eq-other name (get_or names k d) (fails_before_first (name_eq name) names k d before) (sym same);
+      is = λ d. sym (name_eq-same name (get_or names (position_or_len (name_eq name) names) d)
+          (passes_at_first (name_eq name) names d within));
+      first = λ k d before same. name_eq-other name (get_or names k d)
+          (fails_before_first (name_eq name) names k d before) (sym same);
     }
 
 -- a test that no element passes stops at none
-fails-at : {X : Type 0} (p : X → Bool) (xs : List X) (k : ℕ) (d : X) → list_any p xs ≡ false → k < length xs → p (get_or xs k d) ≡ false
+fails-at : {X : Type 0} (p : X → Bool) (xs : List X) (k : ℕ) (d : X)
+    → list_any p xs ≡ false
+    → k < length xs
+    → p (get_or xs k d) ≡ false
 fails-at p xs k d fails below = elim (cases_Bool (p (get_or xs k d))) [
   | inl passes ↦ absurd (let bad : false ≡ true = sym fails ∙ list_any_at p xs k d below passes in cc)
   | inr is ↦ is
 ]
 
-absent : (names : List (List ℕ)) (name : List ℕ) → list_any (name_eq name) names ≡ false → (¬ (Contains names name)) × (position_or_len (name_eq name) names ≡ length names)
+-- a name that a set doesn't know is looked for up to the end
+absent : (names : List (List ℕ)) (name : List ℕ)
+    → list_any (name_eq name) names ≡ false
+    → (¬ (Contains names name)) × (position_or_len (name_eq name) names ≡ length names)
 absent names name unknown = (
-  λ contains. absurd (let bad : true ≡ false = sym (list_any-from_Contains names_equivalence name names contains) ∙ unknown in cc),
-  position_or_len_is (name_eq name) names (length names) [] (omega arith) (λ k below. fails-at (name_eq name) names k [] unknown below) (λ below. absurd (omega arith)),
+  λ contains. absurd (let bad : true ≡ false =
+      sym (list_any-from_Contains names_equivalence name names contains) ∙ unknown in cc),
+  position_or_len_is (name_eq name) names (length names) [] (omega arith)
+      (λ k below. fails-at (name_eq name) names k [] unknown below) (λ below. absurd (omega arith)),
 )
 
-pub gets-number : (names : List (List ℕ)) (name : List ℕ) → GetsNumber name names (position_or_len (name_eq name) names) (cond (list_any (name_eq name) names) names (names ++ name ∷ []))
+-- the place that a set answers is the bidder's number
+pub gets-number : (names : List (List ℕ)) (name : List ℕ)
+    → GetsNumber name names (position_or_len (name_eq name) names)
+    (cond (list_any (name_eq name) names) names (names ++ name ∷ []))
 gets-number names name = elim (cases_Bool (list_any (name_eq name) names)) [
   | inl known ↦ inl (stands names name known, ap (λ b. cond b names (names ++ name ∷ [])) known)
-  | inr unknown ↦ inr ((absent names name unknown).0, (absent names name unknown).1, ap (λ b. cond b names (names ++ name ∷ [])) unknown)
+  | inr unknown ↦ inr (
+    (absent names name unknown).0,
+    (absent names name unknown).1,
+    ap
+        (λ b. cond b names (names ++ name ∷ [])) unknown,
+  )
 ]
 
 -- what a set's answer says of a name
-pub new-name : (names : List (List ℕ)) (name : List ℕ) (b : Bool) → b ≡ true → b ≡ not (list_any (name_eq name) names) → cond (list_any (name_eq name) names) names (names ++ name ∷ []) ≡ names ++ name ∷ []
+pub new-name : (names : List (List ℕ)) (name : List ℕ) (b : Bool)
+    → b ≡ true
+    → b ≡ not (list_any (name_eq name) names)
+    → cond (list_any (name_eq name) names) names (names ++ name ∷ []) ≡ names ++ name ∷ []
 new-name names name b is answer = elim (cases_Bool (list_any (name_eq name) names)) [
   | inl known ↦ absurd (let bad : true ≡ false = sym is ∙ answer ∙ ap not known in cc)
   | inr unknown ↦ ap (λ x. cond x names (names ++ name ∷ [])) unknown
 ]
 
-pub old-name : (names : List (List ℕ)) (name : List ℕ) (b : Bool) → b ≡ false → b ≡ not (list_any (name_eq name) names) → cond (list_any (name_eq name) names) names (names ++ name ∷ []) ≡ names
+-- a name that was known leaves the names
+pub old-name : (names : List (List ℕ)) (name : List ℕ) (b : Bool)
+    → b ≡ false
+    → b ≡ not (list_any (name_eq name) names)
+    → cond (list_any (name_eq name) names) names (names ++ name ∷ []) ≡ names
 old-name names name b is answer = elim (cases_Bool (list_any (name_eq name) names)) [
   | inl known ↦ ap (λ x. cond x names (names ++ name ∷ [])) known
   | inr unknown ↦ absurd (let bad : false ≡ true = sym is ∙ answer ∙ ap not unknown in cc)
 ]
 
 -- no entry is of a bidder who is new
-other_bidder : (es : List Numbered) (n : ℕ) → All (λ e. e.bidder < n) es → All (λ e. (e.bidder == n) ≡ false) es
-other_bidder es n known = λ k d below. ne_eqb (get_or es k d).bidder n (λ same. absurd (omega (arith, known k d below, same)))
+other_bidder : (entries : List Numbered) (n : ℕ)
+    → All (λ e. e.bidder < n) entries
+    → All (λ e. (e.bidder == n) ≡ false) entries
+other_bidder entries n known =
+    λ k d below. ne_eqb (get_or entries k d).bidder n (λ same. absurd (omega (arith, known k d below, same)))
 
-position-new : (es : List Numbered) (n : ℕ) (before : ℤ) → All (λ e. (e.bidder == n) ≡ false) es → fold (λ b e. cond (e.bidder == n) (reported b e.entry) b) before es ≡ before
+-- entries of others leave a position
+position-new : (entries : List Numbered) (n : ℕ) (before : ℤ)
+    → All (λ e. (e.bidder == n) ≡ false) entries
+    → fold (λ b e. cond (e.bidder == n) (reported b e.entry) b) before entries ≡ before
 position-new [] n before other = refl
-position-new (e ∷ es) n before other =
-    let step : cond (e.bidder == n) (reported before e.entry) before ≡ before = ap (λ x. cond x (reported before e.entry) before) (other 0 e (omega arith)) in
-    ap (λ b. fold (λ b e. cond (e.bidder == n) (reported b e.entry) b) b es) step ∙ position-new es n before (λ k d below. other (suc k) d (omega arith))
+position-new (e ∷ entries) n before other =
+    let step : cond (e.bidder == n) (reported before e.entry) before ≡ before =
+    ap (λ x. cond x (reported before e.entry) before) (other 0 e (omega arith)) in
+    ap (λ b. fold (λ b e. cond (e.bidder == n) (reported b e.entry) b) b entries) step
+    ∙ position-new entries n before (λ k d below. other (suc k) d (omega arith))
 
+-- a test that fails, and another, fail
 and_none : (b x : Bool) → b ≡ false → (b && x) ≡ false
 and_none true x is = absurd (cc)
 and_none false x is = refl
 
+-- a number under a test that fails counts nothing
 no_part : (b : Bool) (n : ℕ) → b ≡ false → cond b n 0 ≤ 0
 no_part true n is = absurd (cc)
 no_part false n is = omega arith
 
-pub way-new : (es : List Numbered) (n : ℕ) → All (λ e. e.bidder < n) es → IsWayOf es n way.Open
-way-new es n known =
-    let other = other_bidder es n known in
+-- a bidder without entries has no way yet
+pub way-new : (entries : List Numbered) (n : ℕ) → All (λ e. e.bidder < n) entries → IsWayOf entries n way.Open
+way-new entries n known =
+    let other = other_bidder entries n known in
     record {
-      competitive = list_any_none (λ (e : Numbered). (e.bidder == n) && is_competitive e.entry) es (λ k d below. and_none ((get_or es k d).bidder == n) (is_competitive (get_or es k d).entry) (other k d below));
-      noncompetitive = list_any_none (λ (e : Numbered). (e.bidder == n) && is_noncompetitive e.entry) es (λ k d below. and_none ((get_or es k d).bidder == n) (is_noncompetitive (get_or es k d).entry) (other k d below));
-      sum = (let low : noncompetitive_of es n ≤ length es * 0 = sum_by-le (λ (e : Numbered). cond (e.bidder == n) (noncompetitive_amount e.entry) 0) 0 es (λ k d below. no_part ((get_or es k d).bidder == n) (noncompetitive_amount (get_or es k d).entry) (other k d below)) in omega arith);
+      competitive = list_any_none (λ (e : Numbered). (e.bidder == n) && is_competitive e.entry) entries
+          (λ k d below. and_none ((get_or entries k d).bidder == n) (is_competitive (get_or entries k d).entry)
+          (other k d below));
+      noncompetitive = list_any_none (λ (e : Numbered). (e.bidder == n) && is_noncompetitive e.entry) entries
+          (λ k d below. and_none ((get_or entries k d).bidder == n) (is_noncompetitive (get_or entries k d).entry)
+          (other k d below));
+      sum = (let low : noncompetitive_of entries n ≤ length entries * 0 =
+          sum_by-le (λ (e : Numbered). cond (e.bidder == n) (noncompetitive_amount e.entry) 0) 0 entries
+          (λ k d below. no_part ((get_or entries k d).bidder == n) (noncompetitive_amount (get_or entries k d).entry)
+          (other k d below)) in omega arith);
     }
 
 -- the lists by number with one bidder more
-pub positions-new : (ps : List ℤ) (es : List Numbered) (n : ℕ) → length ps ≡ n → All (λ e. e.bidder < n) es → ((bidder : ℕ) → bidder < n → get_or ps bidder (pos 0) ≡ position_of es bidder) → (bidder : ℕ) → bidder < n + 1 → get_or (ps ++ pos 0 ∷ []) bidder (pos 0) ≡ position_of es bidder
-positions-new ps es n size known are bidder below = elim (cases_lt bidder n) [
-  | inl less ↦ get_or_append_left ps (pos 0 ∷ []) (pos 0) bidder (omega (arith, size)) ∙ are bidder less
-  | inr more ↦ (let same : bidder ≡ length ps = omega (arith, size) in
-      ap (λ k. get_or (ps ++ pos 0 ∷ []) k (pos 0)) same ∙ get_or-append_seam ps (pos 0) [] (pos 0) ∙ sym (ap (position_of es) (same ∙ size) ∙ position-new es n (pos 0) (other_bidder es n known)))
+pub positions-new : (positions : List ℤ) (entries : List Numbered) (n : ℕ)
+    → length positions ≡ n
+    → All (λ e. e.bidder < n) entries
+    → ((bidder : ℕ) → bidder < n → get_or positions bidder (pos 0) ≡ position_of entries bidder)
+    → (bidder : ℕ)
+    → bidder < n + 1
+    → get_or (positions ++ pos 0 ∷ []) bidder (pos 0) ≡ position_of entries bidder
+positions-new positions entries n size known are bidder below = elim (cases_lt bidder n) [
+  | inl less ↦ get_or_append_left positions (pos 0 ∷ []) (pos 0) bidder (omega (arith, size)) ∙ are bidder less
+  | inr more ↦ (let same : bidder ≡ length positions = omega (arith, size) in
+      ap (λ k. get_or (positions ++ pos 0 ∷ []) k (pos 0)) same ∙ get_or-append_seam positions (pos 0) [] (pos 0)
+      ∙ sym (ap (position_of entries) (same ∙ size) ∙ position-new entries n (pos 0) (other_bidder entries n known)))
 ]
 
-pub ways-new : (ws : List Way) (es : List Numbered) (n : ℕ) → length ws ≡ n → All (λ e. e.bidder < n) es → ((bidder : ℕ) (d : Way) → bidder < n → IsWayOf es bidder (get_or ws bidder d)) → (bidder : ℕ) (d : Way) → bidder < n + 1 → IsWayOf es bidder (get_or (ws ++ way.Open ∷ []) bidder d)
-ways-new ws es n size known are bidder d below = elim (cases_lt bidder n) [
-  | inl less ↦ subst (IsWayOf es bidder) (sym (get_or_append_left ws (way.Open ∷ []) d bidder (omega (arith, size)))) (are bidder d less)
-  | inr more ↦ (let same : bidder ≡ length ws = omega (arith, size) in
-      let open_way : get_or (ws ++ way.Open ∷ []) bidder d ≡ way.Open = ap (λ k. get_or (ws ++ way.Open ∷ []) k d) same ∙ get_or-append_seam ws way.Open [] d in
-      subst (IsWayOf es bidder) (sym open_way) (subst (λ (k : ℕ). IsWayOf es k way.Open) (sym (same ∙ size)) (way-new es n known)))
+-- the ways of all bidders with a new one
+pub ways-new : (ways : List Way) (entries : List Numbered) (n : ℕ)
+    → length ways ≡ n
+    → All (λ e. e.bidder < n) entries
+    → ((bidder : ℕ) (d : Way) → bidder < n → IsWayOf entries bidder (get_or ways bidder d))
+    → (bidder : ℕ) (d : Way)
+    → bidder < n + 1
+    → IsWayOf entries bidder (get_or (ways ++ way.Open ∷ []) bidder d)
+ways-new ways entries n size known are bidder d below = elim (cases_lt bidder n) [
+  | inl less ↦ subst (IsWayOf entries bidder)
+      (sym (get_or_append_left ways (way.Open ∷ []) d bidder (omega (arith, size))))
+      (are bidder d less)
+  | inr more ↦ (let same : bidder ≡ length ways = omega (arith, size) in
+      let open_way : get_or (ways ++ way.Open ∷ []) bidder d ≡ way.Open =
+      ap (λ k. get_or (ways ++ way.Open ∷ []) k d) same ∙ get_or-append_seam ways way.Open [] d in
+      subst (IsWayOf entries bidder) (sym open_way)
+      (subst (λ (k : ℕ). IsWayOf entries k way.Open) (sym (same ∙ size)) (way-new entries n known)))
 ]
 
-pub lines-new : (days : ℕ) (book : Book) (names : List (List ℕ)) (lines : List RateLine) → length book.names ≤ length names → AreLinesOf days book lines → AreLinesOf days (record { names = names; entries = book.entries }) lines
-lines-new days book names lines more are = record { bids = are.bids; known = λ k d below. omega (arith, are.known k d below, more); sound = are.sound; few = are.few }
+-- a name more leaves the competitive lines
+pub lines-new : (days : ℕ) (book : Book) (names : List (List ℕ)) (lines : List RateLine)
+    → length book.names ≤ length names
+    → AreLinesOf days book lines
+    → AreLinesOf days (record { names = names; entries = book.entries }) lines
+lines-new days book names lines more are = record {
+  bids = are.bids;
+  known = λ k d below. omega (arith, are.known k d below, more);
+  sound = are.sound;
+  few = are.few;
+}
 
 -- the same in the words of a set's answer
-pub gets-number-at : (keys names new : List (List ℕ)) (name : List ℕ) (number : ℕ) → keys ≡ names → number ≡ position_or_len (name_eq name) keys → new ≡ cond (list_any (name_eq name) keys) keys (keys ++ name ∷ []) → GetsNumber name names number new
+pub gets-number-at : (keys names new : List (List ℕ)) (name : List ℕ) (number : ℕ)
+    → keys ≡ names
+    → number ≡ position_or_len (name_eq name) keys
+    → new ≡ cond (list_any (name_eq name) keys) keys (keys ++ name ∷ [])
+    → GetsNumber name names number new
 gets-number-at keys names new name number keys_are number_is new_is =
     subst (λ (old : List (List ℕ)). GetsNumber name old number new) keys_are
     (subst (λ (n : ℕ). GetsNumber name keys n new) (sym number_is)
     (subst (GetsNumber name keys (position_or_len (name_eq name) keys)) (sym new_is) (gets-number keys name)))
 
 -- a bidder gets one number, and the bidders with it are one list
-not_later : (name : List ℕ) (names : List (List ℕ)) (a b : ℕ) → StandsFirstAt name names a → StandsFirstAt name names b → a ≤ b
+not_later : (name : List ℕ) (names : List (List ℕ)) (a b : ℕ)
+    → StandsFirstAt name names a
+    → StandsFirstAt name names b
+    → a ≤ b
 not_later name names a b is_a is_b = elim (cases_lt b a) [
   | inl less ↦ absurd (is_a.first b [] less (is_b.is []))
   | inr le ↦ le
 ]
 
-known_contains : (name : List ℕ) (names : List (List ℕ)) (place : ℕ) → StandsFirstAt name names place → Contains names name
+-- a name that stands at a place is among the names
+known_contains : (name : List ℕ) (names : List (List ℕ)) (place : ℕ)
+    → StandsFirstAt name names place
+    → Contains names name
 known_contains name names place stands = (place, stands.within, stands.is name)
 
 pub record SameNumber (a b : ℕ) (xs ys : List (List ℕ)) : Type 0 where
   pub number : a ≡ b
   pub names : xs ≡ ys
 
-pub gets-one : (name : List ℕ) (names : List (List ℕ)) (a b : ℕ) (xs ys : List (List ℕ)) → GetsNumber name names a xs → GetsNumber name names b ys → SameNumber a b xs ys
+-- a name gets one number, and leaves one list of names
+pub gets-one : (name : List ℕ) (names : List (List ℕ)) (a b : ℕ) (xs ys : List (List ℕ))
+    → GetsNumber name names a xs
+    → GetsNumber name names b ys
+    → SameNumber a b xs ys
 gets-one name names a b xs ys (inl is_a) (inl is_b) = record {
-  number = (let le : a ≤ b = not_later name names a b is_a.0 is_b.0 in let ge : b ≤ a = not_later name names b a is_b.0 is_a.0 in omega arith);
+  number = (let le : a ≤ b = not_later name names a b is_a.0 is_b.0 in
+      let ge : b ≤ a = not_later name names b a is_b.0 is_a.0 in omega arith);
   names = is_a.1 ∙ sym is_b.1;
 }
 gets-one name names a b xs ys (inl is_a) (inr is_b) = absurd (is_b.0 (known_contains name names a is_a.0))
 gets-one name names a b xs ys (inr is_a) (inl is_b) = absurd (is_a.0 (known_contains name names b is_b.0))
-gets-one name names a b xs ys (inr is_a) (inr is_b) = record { number = is_a.1 ∙ sym is_b.1; names = is_a.2 ∙ sym is_b.2 }
+gets-one name names a b xs ys (inr is_a) (inr is_b) = record {
+  number = is_a.1 ∙ sym is_b.1;
+  names = is_a.2 ∙ sym is_b.2;
+}
 
 -- the book with an entry of a bidder with its number
-pub adds-with : (offering : Offering) (book : Book) (names : List (List ℕ)) (number : ℕ) (e : Entry) → GetsNumber (name_of e) book.names number names → MayFollow offering book.entries number e → Adds offering book e (with_entry (record { names = names; entries = book.entries }) number e)
-adds-with offering book names number e gets follows = record { bidder = number; numbered = gets; follows = follows; entries = refl }
+pub adds-with : (offering : Offering) (book : Book) (names : List (List ℕ)) (number : ℕ) (e : Entry)
+    → GetsNumber (name_of e) book.names number names
+    → MayFollow offering book.entries number e
+    → Adds offering book e (with_entry (record { names = names; entries = book.entries }) number e)
+adds-with offering book names number e gets follows = record {
+  bidder = number;
+  numbered = gets;
+  follows = follows;
+  entries = refl;
+}
 
 -- an entry that may not stand behind a book
-pub adds-not : (offering : Offering) (book : Book) (names : List (List ℕ)) (number : ℕ) (e : Entry) → GetsNumber (name_of e) book.names number names → ¬ (MayFollow offering book.entries number e) → (new : Book) → ¬ (Adds offering book e new)
+pub adds-not : (offering : Offering) (book : Book) (names : List (List ℕ)) (number : ℕ) (e : Entry)
+    → GetsNumber (name_of e) book.names number names
+    → ¬ (MayFollow offering book.entries number e)
+    → (new : Book)
+    → ¬ (Adds offering book e new)
 adds-not offering book names number e gets not new adds =
     let one = gets-one (name_of e) book.names adds.bidder number new.names names adds.numbered gets in
     not (subst (λ (n : ℕ). MayFollow offering book.entries n e) one.number adds.follows)
 
 -- one entry brings a book to one
-pub adds-one : (offering : Offering) (book new new2 : Book) (e : Entry) → Adds offering book e new → Adds offering book e new2 → new ≡ new2
+pub adds-one : (offering : Offering) (book new new2 : Book) (e : Entry)
+    → Adds offering book e new
+    → Adds offering book e new2
+    → new ≡ new2
 adds-one offering book new new2 e is is2 =
     let one = gets-one (name_of e) book.names is.bidder is2.bidder new.names new2.names is.numbered is2.numbered in
-    same_book new new2 one.names (is.entries ∙ ap (λ (n : ℕ). book.entries ++ record { bidder = n; entry = e } ∷ []) one.number ∙ sym is2.entries)
+    same_book new new2 one.names (is.entries ∙ ap (λ (n : ℕ). book.entries ++ record {
+      bidder = n;
+      entry = e;
+    } ∷ []) one.number ∙ sym is2.entries)
   where
     same_book : (a b : Book) → a.names ≡ b.names → a.entries ≡ b.entries → a ≡ b
     same_book a b names entries = λ i. record { names = names i; entries = entries i }

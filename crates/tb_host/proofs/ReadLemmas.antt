@@ -3,13 +3,14 @@ use Rattle.std.proofs.Common.{◌≡◌, ◌≢◌, ℕ, ◌+◌, ◌^◌, ◌<�
 use Rattle.std.specs.Prelude.{Option, Some, Result, Err, OnErr}
 use Rattle.std.specs.Str.Lines.{lines}
 use Rattle.std.proofs.lemmas.List.{length-append}
-use Rattle.tb_link.specs.Counts.{NeverFalls}
-use Rattle.tb_link.specs.Sources.{before_left}
+use Rattle.tb_link.specs.Sources.{SourceState, before_left}
 use Rattle.tb_host.specs.BookLines.{Spells, Says}
 use Rattle.tb_host.specs.Fields.{fields}
 use Rattle.tb_host.specs.SoundLines.{IsLine, IsSoundOffering}
 use Rattle.tb_host.specs.Books.{Adds, AreEntries, Book, GetsNumber, GoesOn, IsBadFirst, IsBadLine, IsBadNext, BeginsWithBook, IsEntry, empty_book, most_lines, name_of}
-use Rattle.tb_host.specs.BookReading.{WhereTold, ReadsLine, HasNoLine, HasEntries, EndsEntries, StopsEntries}
+use Rattle.tb_host.specs.BookReading.{ReadsLine, HasNoLine, HasEntries, EndsEntries, StopsEntries}
+use Rattle.tb_host.specs.Told.{WhereTold}
+use Rattle.tb_host.specs.Reads.{ReadsBookAlone, ReadsNoMore}
 use Rattle.tb_host.specs.Tallies.{IsTally}
 use Rattle.tb_host.specs.declared.book_line.BookLine.{BookLine}
 use Rattle.tb_host.specs.declared.book_line.BookLine.TheVariants as kind
@@ -18,77 +19,176 @@ use Rattle.tb_host.specs.declared.book_line.Entry.TheVariants as entry
 use Rattle.tb_host.specs.declared.book_line.Offering.{Offering}
 use Rattle.tb_host.specs.declared.book_line.Bid.{Bid}
 use Rattle.tb_host.specs.declared.text_book.TextBook.{TextBook}
+use Rattle.tb_host.proofs.ReadsLemmas.{some-text}
 use Rattle.tb_host.proofs.SameLemmas.{Spells-one}
 
 -- what the loop over the lines keeps
-pub record SoFar (line : ℕ) (first : Offering) (kept : TextBook) (start ahead : Option (List ℕ)) (before now : ℕ) : Type 0 where
+pub record SoFar (line : ℕ) (first : Offering) (kept : TextBook) (start ahead : Option (List ℕ))
+    (before now : SourceState) : Type 0 where
   pub book : Book
   pub same : kept.offering ≡ first
   pub tally : IsTally book kept
   pub has : WhereTold start (HasEntries line first book ahead)
   pub size : length book.entries + 1 ≡ line
   pub few : length book.names ≤ length book.entries
-  pub count : NeverFalls before now
+  pub reads : WhereTold start (ReadsNoMore before.reads now.reads ahead)
+  pub no_fault : now.faults ≡ before.faults
 
 -- one entry more
-AreEntries-more : (offering : Offering) (old : Book) (texts : List (List ℕ)) (between : Book) (text : List ℕ) (new : Book) → AreEntries offering old texts between → IsEntry offering between text new → AreEntries offering old (texts ++ text ∷ []) new
-AreEntries-more offering old [] between text new are is = (new, subst (λ (b : Book). IsEntry offering b text new) are is, refl)
-AreEntries-more offering old (t ∷ texts) between text new are is = (are.0, are.1, AreEntries-more offering are.0 texts between text new are.2 is)
+AreEntries-more : (offering : Offering) (old : Book) (texts : List (List ℕ)) (between : Book) (text : List ℕ)
+    (new : Book)
+    → AreEntries offering old texts between
+    → IsEntry offering between text new
+    → AreEntries offering old (texts ++ text ∷ []) new
+AreEntries-more offering old [] between text new are is =
+    (new, subst (λ (b : Book). IsEntry offering b text new) are is, refl)
+AreEntries-more offering old (t ∷ texts) between text new are is =
+    (are.0, are.1, AreEntries-more offering are.0 texts between text new are.2 is)
 
 -- the line in front of what follows, in the words of the text
-front_line : (n : ℕ) (offering : Offering) (book : Book) (ahead : Option (List ℕ)) (text : List ℕ) (line : BookLine) (behind : Option (List ℕ)) (has : HasEntries n offering book ahead text) (reads : ReadsLine line behind has.rest) → lines text ≡ has.read ++ reads.first ∷ lines reads.rest
+front_line : (n : ℕ) (offering : Offering) (book : Book) (ahead : Option (List ℕ)) (text : List ℕ) (line : BookLine)
+    (behind : Option (List ℕ)) (has : HasEntries n offering book ahead text) (reads : ReadsLine line behind has.rest)
+    → lines text ≡ has.read ++ reads.first ∷ lines reads.rest
 front_line n offering book ahead text line behind has reads = has.lines_are ∙ ap (λ ls. has.read ++ ls) reads.lines_are
 
-pub HasEntries-more : (n : ℕ) (offering : Offering) (book new : Book) (entry : Entry) (ahead behind : Option (List ℕ)) (text : List ℕ) → HasEntries n offering book ahead text → WhereTold ahead (ReadsLine (kind.Entry entry) behind) → Adds offering book entry new → HasEntries (n + 1) offering new behind text
+-- where a line was read there was some text
+pub some-line : (ahead behind : Option (List ℕ)) (line : BookLine)
+    → WhereTold ahead (ReadsLine line behind)
+    → WhereTold ahead (λ text. text ≢ [])
+some-line ahead behind line told text is =
+    let reads = told text is in some-text text reads.first (lines reads.rest) reads.lines_are
+
+-- one entry more was read
+pub HasEntries-more : (n : ℕ) (offering : Offering) (book new : Book) (entry : Entry) (ahead behind : Option (List ℕ))
+    (text : List ℕ)
+    → HasEntries n offering book ahead text
+    → WhereTold ahead (ReadsLine (kind.Entry entry) behind)
+    → Adds offering book entry new
+    → HasEntries (n + 1) offering new behind text
 HasEntries-more n offering book new entry ahead behind text has told adds =
     let reads = told has.rest has.behind_is in
     record {
       read = has.read ++ reads.first ∷ [];
       rest = reads.rest;
       behind_is = reads.behind_is;
-      lines_are = front_line n offering book ahead text (kind.Entry entry) behind has reads ∙ sym (append_assoc has.read (reads.first ∷ []) (lines reads.rest));
+      lines_are = front_line n offering book ahead text (kind.Entry entry) behind has reads
+          ∙ sym (append_assoc has.read (reads.first ∷ []) (lines reads.rest));
       are = AreEntries-more offering empty_book has.read book reads.first new has.are (entry, reads.spells, adds);
       size = omega (arith, length-append has.read (reads.first ∷ []), has.size);
     }
 
-pub EndsEntries-here : (n : ℕ) (offering : Offering) (book : Book) (ahead behind : Option (List ℕ)) (text : List ℕ) → HasEntries n offering book ahead text → WhereTold ahead (ReadsLine kind.End behind) → n < most_lines → EndsEntries offering book text
+-- the end was read
+pub EndsEntries-here : (n : ℕ) (offering : Offering) (book : Book) (ahead behind : Option (List ℕ)) (text : List ℕ)
+    → HasEntries n offering book ahead text
+    → WhereTold ahead (ReadsLine kind.End behind)
+    → n < most_lines
+    → EndsEntries offering book behind text
 EndsEntries-here n offering book ahead behind text has told few =
     let reads = told has.rest has.behind_is in
-    record { read = has.read; last = reads.first; rest = lines reads.rest; lines_are = front_line n offering book ahead text kind.End behind has reads; are = has.are; end = reads.spells; few = omega (arith, has.size) }
+    record {
+      read = has.read;
+      last = reads.first;
+      rest = reads.rest;
+      behind_is = reads.behind_is;
+      lines_are = front_line n offering book ahead text kind.End behind has reads;
+      are = has.are;
+      end = reads.spells;
+      few = omega (arith, has.size);
+    }
 
-bad_next : (offering : Offering) (book : Book) (count : ℕ) (rest : List (List ℕ)) → HasNoLine rest → IsBadNext offering book count rest
+-- a line that spells none may not come next
+bad_next : (offering : Offering) (book : Book) (count : ℕ) (rest : List (List ℕ))
+    → HasNoLine rest
+    → IsBadNext offering book count rest
 bad_next offering book count [] no_line = tt
-bad_next offering book count (text ∷ texts) no_line = inr (λ goes. elim goes [ inl more ↦ no_line (kind.Entry more.1.0) more.1.1 | inr ends ↦ no_line kind.End ends ])
+bad_next offering book count (text ∷ texts) no_line =
+    inr (λ goes. elim goes [ inl more ↦ no_line (kind.Entry more.1.0) more.1.1 | inr ends ↦ no_line kind.End ends ])
 
-pub StopsEntries-unread : (n : ℕ) (offering : Offering) (book : Book) (ahead : Option (List ℕ)) (text : List ℕ) → HasEntries n offering book ahead text → WhereTold ahead (λ t. HasNoLine (lines t)) → StopsEntries (n + 1) offering text
-StopsEntries-unread n offering book ahead text has no_line =
-    record { book = book; read = has.read; rest = lines has.rest; lines_are = has.lines_are; are = has.are; bad = bad_next offering book (length has.read + 1) (lines has.rest) (no_line has.rest has.behind_is); number_is = omega (arith, has.size) }
+-- the next line spells no line of a book
+pub StopsEntries-unread : (n : ℕ) (offering : Offering) (book : Book) (ahead : Option (List ℕ)) (text : List ℕ)
+    → HasEntries n offering book ahead text
+    → WhereTold ahead (λ t. HasNoLine (lines t))
+    → n ≤ most_lines
+    → StopsEntries (n + 1) offering text
+StopsEntries-unread n offering book ahead text has no_line few =
+    record {
+      book = book;
+      read = has.read;
+      rest = lines has.rest;
+      lines_are = has.lines_are;
+      are = has.are;
+      few = omega (arith, has.size);
+      bad = bad_next offering book (length has.read + 1) (lines has.rest) (no_line has.rest has.behind_is);
+      number_is = omega (arith, has.size);
+    }
 
-pub StopsEntries-full : (n : ℕ) (offering : Offering) (book : Book) (ahead : Option (List ℕ)) (text : List ℕ) → HasEntries n offering book ahead text → most_lines ≤ n → StopsEntries (n + 1) offering text
+-- as many lines as a book may have were read
+pub StopsEntries-full : (n : ℕ) (offering : Offering) (book : Book) (ahead : Option (List ℕ)) (text : List ℕ)
+    → HasEntries n offering book ahead text
+    → n ≡ most_lines
+    → StopsEntries (n + 1) offering text
 StopsEntries-full n offering book ahead text has full =
-    record { book = book; read = has.read; rest = lines has.rest; lines_are = has.lines_are; are = has.are; bad = too_many (length has.read + 1) (lines has.rest) (omega (arith, has.size)); number_is = omega (arith, has.size) }
+    record {
+      book = book;
+      read = has.read;
+      rest = lines has.rest;
+      lines_are = has.lines_are;
+      are = has.are;
+      few = omega (arith, has.size);
+      bad = too_many (length has.read + 1) (lines has.rest) (omega (arith, has.size));
+      number_is = omega (arith, has.size);
+    }
   where
     too_many : (count : ℕ) (rest : List (List ℕ)) → most_lines ≤ count → IsBadNext offering book count rest
     too_many count [] many = tt
     too_many count (t ∷ ts) many = inl many
 
 -- a line that may not stand here
-pub StopsEntries-here : (n : ℕ) (offering : Offering) (book : Book) (line : BookLine) (ahead behind : Option (List ℕ)) (text : List ℕ) → HasEntries n offering book ahead text → WhereTold ahead (ReadsLine line behind) → ((first : List ℕ) → Spells first line → ¬ (GoesOn offering book first)) → StopsEntries (n + 1) offering text
-StopsEntries-here n offering book line ahead behind text has told wrong =
+pub StopsEntries-here : (n : ℕ) (offering : Offering) (book : Book) (line : BookLine) (ahead behind : Option (List ℕ))
+    (text : List ℕ)
+    → HasEntries n offering book ahead text
+    → WhereTold ahead (ReadsLine line behind)
+    → ((first : List ℕ) → Spells first line → ¬ (GoesOn offering book first))
+    → n ≤ most_lines
+    → StopsEntries (n + 1) offering text
+StopsEntries-here n offering book line ahead behind text has told wrong few =
     let reads = told has.rest has.behind_is in
-    record { book = book; read = has.read; rest = reads.first ∷ lines reads.rest; lines_are = front_line n offering book ahead text line behind has reads; are = has.are; bad = inr (wrong reads.first reads.spells); number_is = omega (arith, has.size) }
+    record {
+      book = book;
+      read = has.read;
+      rest = reads.first ∷ lines reads.rest;
+      lines_are = front_line n offering book ahead text line behind has reads;
+      are = has.are;
+      few = omega (arith, has.size);
+      bad = inr (wrong reads.first reads.spells);
+      number_is = omega (arith, has.size);
+    }
 
-pub wrong_entry : (offering : Offering) (book : Book) (entry : Entry) → ((new : Book) → ¬ (Adds offering book entry new)) → (first : List ℕ) → Spells first (kind.Entry entry) → ¬ (GoesOn offering book first)
+-- an entry that may not stand behind the book
+pub wrong_entry : (offering : Offering) (book : Book) (entry : Entry)
+    → ((new : Book) → ¬ (Adds offering book entry new))
+    → (first : List ℕ)
+    → Spells first (kind.Entry entry)
+    → ¬ (GoesOn offering book first)
 wrong_entry offering book entry not first spells goes = elim goes [
-  | inl other ↦ (let same : kind.Entry other.1.0 ≡ kind.Entry entry = Spells-one first (kind.Entry other.1.0) (kind.Entry entry) other.1.1 spells in
-      let one : other.1.0 ≡ entry = (cc) in not other.0 (subst (λ (e : Entry). Adds offering book e other.0) one other.1.2))
-  | inr ends ↦ absurd (let same : kind.End ≡ kind.Entry entry = Spells-one first kind.End (kind.Entry entry) ends spells in cc)
+  | inl other ↦ (let same : kind.Entry other.1.0 ≡ kind.Entry entry =
+      Spells-one first (kind.Entry other.1.0) (kind.Entry entry) other.1.1 spells in
+      let one : other.1.0 ≡ entry = (cc) in
+      not other.0 (subst (λ (e : Entry). Adds offering book e other.0) one other.1.2))
+  | inr ends ↦ absurd (let same : kind.End ≡ kind.Entry entry =
+      Spells-one first kind.End (kind.Entry entry) ends spells in cc)
 ]
 
-pub wrong_offering : (offering : Offering) (book : Book) (second : Offering) (first : List ℕ) → Spells first (kind.Offering second) → ¬ (GoesOn offering book first)
+-- a second offering may not come next
+pub wrong_offering : (offering : Offering) (book : Book) (second : Offering) (first : List ℕ)
+    → Spells first (kind.Offering second)
+    → ¬ (GoesOn offering book first)
 wrong_offering offering book second first spells goes = elim goes [
-  | inl other ↦ absurd (let same : kind.Entry other.1.0 ≡ kind.Offering second = Spells-one first (kind.Entry other.1.0) (kind.Offering second) other.1.1 spells in cc)
-  | inr ends ↦ absurd (let same : kind.End ≡ kind.Offering second = Spells-one first kind.End (kind.Offering second) ends spells in cc)
+  | inl other ↦ absurd
+      (let same : kind.Entry other.1.0 ≡ kind.Offering second =
+      Spells-one first (kind.Entry other.1.0) (kind.Offering second) other.1.1 spells in cc)
+  | inr ends ↦ absurd (let same : kind.End ≡ kind.Offering second =
+      Spells-one first kind.End (kind.Offering second) ends spells in cc)
 ]
 
 -- what a result tells where it is an error
@@ -96,19 +196,32 @@ pub OnErr-holds : {T E : Type 0} (r : Result T E) (e : E) (P : Type 0) → r ≡
 OnErr-holds {T} {E} r e P is holds = let Q : Result T E → Type 0 = λ x. OnErr x P in subst Q is holds
 
 -- a new reader has nothing before what the source has
-pub ahead-start : (front : List ℕ) (left : Option (List ℕ)) (text : List ℕ) → front ≡ [] → left ≡ Some text → before_left front left ≡ Some text
+pub ahead-start : (front : List ℕ) (left : Option (List ℕ)) (text : List ℕ)
+    → front ≡ []
+    → left ≡ Some text
+    → before_left front left ≡ Some text
 ahead-start front left text empty is = rw (empty, is) refl
 
+-- the first line spells no line of a book
 pub IsBadLine-unread : (texts : List (List ℕ)) → HasNoLine texts → IsBadLine 1 texts
 IsBadLine-unread [] no_line = inl (tt, refl)
 IsBadLine-unread (text ∷ texts) no_line = inl (λ offering. no_line (kind.Offering offering), refl)
 
-pub IsBadLine-first : (text : List ℕ) (line : BookLine) (behind : Option (List ℕ)) → ReadsLine line behind text → ((offering : Offering) → line ≢ kind.Offering offering) → IsBadLine 1 (lines text)
+-- the first line is no offering
+pub IsBadLine-first : (text : List ℕ) (line : BookLine) (behind : Option (List ℕ))
+    → ReadsLine line behind text
+    → ((offering : Offering) → line ≢ kind.Offering offering)
+    → IsBadLine 1 (lines text)
 IsBadLine-first text line behind reads other =
-    let bad : IsBadFirst (reads.first ∷ lines reads.rest) = λ offering spells. other offering (Spells-one reads.first line (kind.Offering offering) reads.spells spells) in
+    let bad : IsBadFirst (reads.first ∷ lines reads.rest) =
+    λ offering spells. other offering (Spells-one reads.first line (kind.Offering offering) reads.spells spells) in
     inl (subst IsBadFirst (sym reads.lines_are) bad, refl)
 
-pub IsBadLine-later : (number : ℕ) (text : List ℕ) (offering : Offering) (behind : Option (List ℕ)) → ReadsLine (kind.Offering offering) behind text → WhereTold behind (StopsEntries number offering) → IsBadLine number (lines text)
+-- a line behind the offering is bad
+pub IsBadLine-later : (number : ℕ) (text : List ℕ) (offering : Offering) (behind : Option (List ℕ))
+    → ReadsLine (kind.Offering offering) behind text
+    → WhereTold behind (StopsEntries number offering)
+    → IsBadLine number (lines text)
 IsBadLine-later number text offering behind reads told =
     let stops = told reads.rest reads.behind_is in
     let count : length stops.read + 1 ≡ length (reads.first ∷ stops.read) = omega arith in
@@ -119,26 +232,77 @@ IsBadLine-later number text offering behind reads told =
       book = stops.book;
       lines_are = reads.lines_are ∙ ap (λ ls. reads.first ∷ ls) stops.lines_are;
       front_is = (reads.spells, stops.are);
+      few = omega (arith, stops.few);
       bad = subst (λ (n : ℕ). IsBadNext offering stops.book n stops.rest) count stops.bad;
       number_is = omega (arith, stops.number_is);
     })
 
-pub BeginsWithBook-read : (text : List ℕ) (offering : Offering) (book : Book) (behind : Option (List ℕ)) → ReadsLine (kind.Offering offering) behind text → WhereTold behind (EndsEntries offering book) → BeginsWithBook (lines text) offering book
-BeginsWithBook-read text offering book behind reads told =
+-- the offering and the lines up to the end are a book
+pub BeginsWithBook-read : (text : List ℕ) (offering : Offering) (book : Book) (behind after : Option (List ℕ))
+    → ReadsLine (kind.Offering offering) behind text
+    → WhereTold behind (EndsEntries offering book after)
+    → BeginsWithBook (lines text) offering book
+BeginsWithBook-read text offering book behind after reads told =
     let ends = told reads.rest reads.behind_is in
     record {
       front = reads.first ∷ ends.read;
       last = ends.last;
-      rest = ends.rest;
+      rest = lines ends.rest;
       lines_are = reads.lines_are ∙ ap (λ ls. reads.first ∷ ls) ends.lines_are;
       front_is = (reads.spells, ends.are);
       end = ends.end;
       few = omega (arith, ends.few);
     }
 
+-- a text with an end isn't empty
+pub some-entries : (offering : Offering) (book : Book) (behind : Option (List ℕ)) (text : List ℕ)
+    → EndsEntries offering book behind text
+    → text ≢ []
+some-entries offering book behind text ends none =
+    no_end ends.read (sym (ap lines none) ∙ ends.lines_are)
+  where
+    no_end : (read : List (List ℕ)) → [] ≡ read ++ ends.last ∷ lines ends.rest → ⊥
+    no_end [] is = absurd (cc)
+    no_end (first ∷ read) is = absurd (cc)
+
+-- and no more was read than that
+pub ReadsBookAlone-read : (before after : ℕ) (text : List ℕ) (offering : Offering) (book : Book)
+    (behind rest : Option (List ℕ))
+    → ReadsLine (kind.Offering offering) behind text
+    → WhereTold behind (EndsEntries offering book rest)
+    → ReadsNoMore before after rest text
+    → ReadsBookAlone before after text
+ReadsBookAlone-read before after text offering book behind rest reads told few =
+    let ends = told reads.rest reads.behind_is in
+    let same : few.rest ≡ ends.rest =
+    (let told_twice : Some few.rest ≡ Some ends.rest = sym few.behind_is ∙ ends.behind_is in cc) in
+    record {
+      taken = few.taken;
+      rest = few.rest;
+      text_is = few.text_is;
+      reads = few.reads;
+      front = reads.first ∷ ends.read;
+      last = ends.last;
+      lines_are = reads.lines_are
+          ∙ ap (λ ls. reads.first ∷ ls) (ends.lines_are
+          ∙ ap (λ (after : List ℕ). ends.read ++ ends.last ∷ lines after) (sym same));
+      offering = offering;
+      book = book;
+      front_is = (reads.spells, ends.are);
+      end = ends.end;
+    }
+
 -- nothing has been read behind the offering
-pub HasEntries-start : (offering : Offering) (ahead : Option (List ℕ)) → WhereTold ahead (HasEntries 1 offering empty_book ahead)
-HasEntries-start offering ahead text is = record { read = []; rest = text; behind_is = is; lines_are = refl; are = refl; size = refl }
+pub HasEntries-start : (offering : Offering) (ahead : Option (List ℕ))
+    → WhereTold ahead (HasEntries 1 offering empty_book ahead)
+HasEntries-start offering ahead text is = record {
+  read = [];
+  rest = text;
+  behind_is = is;
+  lines_are = refl;
+  are = refl;
+  size = refl;
+}
 
 -- what every line that is spelled has
 pub IsSoundOffering-line : (offering : Offering) → IsLine (kind.Offering offering) → IsSoundOffering offering
@@ -148,6 +312,7 @@ IsSoundOffering-line offering line = offering_of (fields line.0) offering line.1
     offering_of [] o says = absurd says
     offering_of (word ∷ texts) o says = record { amount = says.1.amount; floor = says.1.floor }
 
+-- a bid that was read is of at most 10^12
 pub amount-line : (bid : Bid) → IsLine (kind.Entry (entry.Bid bid)) → bid.amount.value ≤ 10 ^ 12
 amount-line bid line = amount_of (fields line.0) line.1.says
   where
@@ -156,14 +321,29 @@ amount-line bid line = amount_of (fields line.0) line.1.says
     amount_of (word ∷ texts) says = says.amount.within
 
 -- an entry more brings at most one bidder more
-pub Adds-size : (offering : Offering) (old new : Book) (entry : Entry) → Adds offering old entry new → length new.entries ≡ length old.entries + 1
-Adds-size offering old new entry adds = omega (arith, ap length adds.entries, length-append old.entries (record { bidder = adds.bidder; entry = entry } ∷ []))
+pub Adds-size : (offering : Offering) (old new : Book) (entry : Entry)
+    → Adds offering old entry new
+    → length new.entries ≡ length old.entries + 1
+Adds-size offering old new entry adds = omega (
+  arith,
+  ap length adds.entries,
+  length-append old.entries (record {
+    bidder = adds.bidder;
+    entry = entry;
+  } ∷ []),
+)
 
-names_more : (name : List ℕ) (old : List (List ℕ)) (number : ℕ) (new : List (List ℕ)) → GetsNumber name old number new → length new ≤ length old + 1
+-- an entry brings at most one name
+names_more : (name : List ℕ) (old : List (List ℕ)) (number : ℕ) (new : List (List ℕ))
+    → GetsNumber name old number new
+    → length new ≤ length old + 1
 names_more name old number new gets = elim gets [
   | inl known ↦ omega (arith, ap length known.1)
   | inr added ↦ omega (arith, ap length added.2, length-append old (name ∷ []))
 ]
 
-pub Adds-names : (offering : Offering) (old new : Book) (entry : Entry) → Adds offering old entry new → length new.names ≤ length old.names + 1
+-- so does one that is added to a book
+pub Adds-names : (offering : Offering) (old new : Book) (entry : Entry)
+    → Adds offering old entry new
+    → length new.names ≤ length old.names + 1
 Adds-names offering old new entry adds = names_more (name_of entry) old.names adds.bidder new.names adds.numbered

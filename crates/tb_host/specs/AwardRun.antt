@@ -5,7 +5,7 @@ use Rattle.tb_link.specs.Counts.{Rose}
 use Rattle.tb_link.specs.Sources.{SourceState}
 use Rattle.tb_link.specs.Sinks.{SinkState, after_taken, TakesPrefix}
 use Rattle.tb_host.specs.Books.{IsBadLine}
-use Rattle.tb_host.specs.BookReading.{WhereTold}
+use Rattle.tb_host.specs.Told.{WhereTold}
 use Rattle.tb_host.specs.BookRun.{IsBookRun}
 use Rattle.tb_host.specs.declared.ending.Ending.{Ending}
 use Rattle.tb_host.specs.declared.ending.Ending.TheVariants as ending
@@ -26,7 +26,9 @@ pub record PrintedPrefix (full : Bool) (out out' : SinkState) (input : List ℕ)
 abbrev pub AwardEnds : Bool → Ending → SourceState → SourceState → SinkState → SinkState → Type 0
 AwardEnds full ending.Done input input' out out' = WhereTold input.left (Printed full out out')
 AwardEnds full ending.Usage input input' out out' = ⊥
-AwardEnds full (ending.BadInput number) input input' out out' = (out' ≡ out) × WhereTold input.left (λ text. IsBadLine number (lines text))
+AwardEnds full (ending.BadInput number) input input' out out' =
+    (out' ≡ out) × WhereTold input.left (λ text. IsBadLine number (lines text))
 AwardEnds full ending.ReadFault input input' out out' = (out' ≡ out) × Rose input.faults input'.faults
-AwardEnds full ending.WriteFault input input' out out' = Rose out.faults out'.faults × WhereTold input.left (PrintedPrefix full out out')
+AwardEnds full ending.WriteFault input input' out out' =
+    Rose out.faults out'.faults × WhereTold input.left (PrintedPrefix full out out')
 AwardEnds full ending.OutOfMemory input input' out out' = out' ≡ out

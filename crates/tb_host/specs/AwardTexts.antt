@@ -12,17 +12,21 @@ pub record HasAmounts (cut : Cut) (recognised : List RateLine) (ways : List Way)
   pub awards : List RateLine
   pub awarded : AreAwards cut.stop.steps cut.percent.hundredths recognised awards
   pub size : length amounts ≡ length ways
-  pub are : (bidder : ℕ) (d : Way) → bidder < length ways → slice_index amounts bidder ≡ awarded_to bidder awards + sum_of_way (slice_index_or ways bidder d)
+  pub are : (bidder : ℕ) (d : Way)
+      → bidder < length ways
+      → slice_index amounts bidder ≡ awarded_to bidder awards + sum_of_way (slice_index_or ways bidder d)
   pub fit : All (λ amount. amount ≤ 10 ^ 22) amounts
 
 -- the lines are those of all bidders for these amounts
-pub record HasAllLines (cut : Cut) (recognised : List RateLine) (names : List (List ℕ)) (ways : List Way) (text : List ℕ) : Type 0 where
+pub record HasAllLines (cut : Cut) (recognised : List RateLine) (names : List (List ℕ)) (ways : List Way)
+    (text : List ℕ) : Type 0 where
   pub amounts : List ℕ
   pub has : HasAmounts cut recognised ways amounts
   pub lines : AreAwardLines (slice_index amounts) cut.price.millionths 0 names text
 
 -- the text of a cut
-pub record HasCutText (full : Bool) (cut : Cut) (recognised : List RateLine) (names : List (List ℕ)) (ways : List Way) (text : List ℕ) : Type 0 where
+pub record HasCutText (full : Bool) (cut : Cut) (recognised : List RateLine) (names : List (List ℕ)) (ways : List Way)
+    (text : List ℕ) : Type 0 where
   pub bidders : List ℕ
   pub bidders_are : WhereFull full (HasAllLines cut recognised names ways) bidders
   pub is : text ≡ cut_text cut.stop.steps cut.percent.hundredths cut.price.millionths ++ bidders

@@ -27,11 +27,13 @@ noncompetitive_amount (entry.Report report) = 0
 
 -- what a bidder bids at a rate
 abbrev pub bid_at : List Numbered → ℕ → ℕ → ℕ
-bid_at entries bidder steps = sum_by (λ numbered. if numbered.bidder == bidder then competitive_at steps numbered.entry else 0) entries
+bid_at entries bidder steps =
+    sum_by (λ numbered. if numbered.bidder == bidder then competitive_at steps numbered.entry else 0) entries
 
 -- what a bidder bids noncompetitively
 abbrev pub noncompetitive_of : List Numbered → ℕ → ℕ
-noncompetitive_of entries bidder = sum_by (λ numbered. if numbered.bidder == bidder then noncompetitive_amount numbered.entry else 0) entries
+noncompetitive_of entries bidder =
+    sum_by (λ numbered. if numbered.bidder == bidder then noncompetitive_amount numbered.entry else 0) entries
 
 -- what all bid noncompetitively
 abbrev pub noncompetitive_in : List Numbered → ℕ
@@ -44,4 +46,6 @@ reported before (entry.Report report) = report.position
 
 -- the last position that a bidder reports, and zero where it reports none
 abbrev pub position_of : List Numbered → ℕ → ℤ
-position_of entries bidder = fold (λ before numbered. if numbered.bidder == bidder then reported before numbered.entry else before) (pos 0) entries
+position_of entries bidder =
+    fold (λ before numbered. if numbered.bidder == bidder then reported before numbered.entry else before) (pos 0)
+    entries

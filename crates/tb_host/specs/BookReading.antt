@@ -1,15 +1,11 @@
 -- What is read of a book, where the bytes of the input are told.
-use Rattle.std.specs.Prelude.{◌≡◌, ℕ, ◌+◌, ◌<◌, List, [], ◌∷◌, ◌++◌, length, Option, Some}
+use Rattle.std.specs.Prelude.{◌≡◌, ℕ, ◌+◌, ◌<◌, ◌≤◌, List, [], ◌∷◌, ◌++◌, length, Option, Some}
 use Rattle.std.specs.Str.Lines.{lines}
 use Rattle.tb_host.specs.BookLines.{Spells}
 use Rattle.tb_host.specs.Books.{AreEntries, Book, empty_book, IsBadNext, most_lines}
 use Rattle.tb_host.specs.declared.book_line.BookLine.{BookLine}
 use Rattle.tb_host.specs.declared.book_line.BookLine.TheVariants as kind
 use Rattle.tb_host.specs.declared.book_line.Offering.{Offering}
-
--- where the bytes to come are told, this is so of them
-abbrev pub WhereTold : Option (List ℕ) → (List ℕ → Type 0) → Type 0
-WhereTold told P = (text : List ℕ) → told ≡ Some text → P text
 
 -- the first line of a text is this line of a book, and so much of the text follows
 pub record ReadsLine (line : BookLine) (behind : Option (List ℕ)) (text : List ℕ) : Type 0 where
@@ -25,7 +21,8 @@ HasNoLine [] = Unit {0}
 HasNoLine (text ∷ texts) = (line : BookLine) → ¬ (Spells text line)
 
 -- of the text behind the offering, the entries of this book have been read, up to line count, and so much follows
-pub record HasEntries (count : ℕ) (offering : Offering) (book : Book) (behind : Option (List ℕ)) (text : List ℕ) : Type 0 where
+pub record HasEntries (count : ℕ) (offering : Offering) (book : Book) (behind : Option (List ℕ)) (text : List ℕ)
+    : Type 0 where
   pub read : List (List ℕ)
   pub rest : List ℕ
   pub behind_is : behind ≡ Some rest
@@ -33,12 +30,13 @@ pub record HasEntries (count : ℕ) (offering : Offering) (book : Book) (behind 
   pub are : AreEntries offering empty_book read book
   pub size : length read + 1 ≡ count
 
--- the text behind the offering is the entries of this book and its end, and then anything
-pub record EndsEntries (offering : Offering) (book : Book) (text : List ℕ) : Type 0 where
+-- the text behind the offering is the entries of this book and its end, and so much follows
+pub record EndsEntries (offering : Offering) (book : Book) (behind : Option (List ℕ)) (text : List ℕ) : Type 0 where
   pub read : List (List ℕ)
   pub last : List ℕ
-  pub rest : List (List ℕ)
-  pub lines_are : lines text ≡ read ++ last ∷ rest
+  pub rest : List ℕ
+  pub behind_is : behind ≡ Some rest
+  pub lines_are : lines text ≡ read ++ last ∷ lines rest
   pub are : AreEntries offering empty_book read book
   pub end : Spells last kind.End
   pub few : length read + 1 < most_lines
@@ -50,5 +48,6 @@ pub record StopsEntries (number : ℕ) (offering : Offering) (text : List ℕ) :
   pub rest : List (List ℕ)
   pub lines_are : lines text ≡ read ++ rest
   pub are : AreEntries offering empty_book read book
+  pub few : length read + 1 ≤ most_lines
   pub bad : IsBadNext offering book (length read + 1) rest
   pub number_is : length read + 2 ≡ number

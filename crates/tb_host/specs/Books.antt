@@ -38,7 +38,8 @@ pub record StandsFirstAt (name : List ℕ) (names : List (List ℕ)) (place : �
   pub is : (d : List ℕ) → slice_index_or names place d ≡ name
   pub first : (k : ℕ) (d : List ℕ) → k < place → slice_index_or names k d ≢ name
 
--- bidders are numbered in the order in which they are first seen: one that was seen has its number, and a new one goes last
+-- bidders are numbered in the order in which they are first seen: one that was seen has its number, and a new one goes
+-- last
 abbrev pub GetsNumber : List ℕ → List (List ℕ) → ℕ → List (List ℕ) → Type 0
 GetsNumber name old number new =
     (StandsFirstAt name old number × (new ≡ old))
@@ -74,7 +75,10 @@ MayFollow offering before bidder (entry.Report report) = Unit {0}
 
 -- the book with one entry more
 abbrev pub with_entry : Book → ℕ → Entry → Book
-with_entry book bidder entry = record { names = book.names; entries = book.entries ++ record { bidder = bidder; entry = entry } ∷ [] }
+with_entry book bidder entry = record {
+  names = book.names;
+  entries = book.entries ++ record { bidder = bidder; entry = entry } ∷ [];
+}
 
 -- the entry may stand behind a book, and brings it to the new one
 pub record Adds (offering : Offering) (old : Book) (entry : Entry) (new : Book) : Type 0 where
@@ -90,12 +94,14 @@ IsEntry offering old text new = (entry : Entry) × Spells text (kind.Entry entry
 -- the lines are entries that bring a book to the new one
 abbrev pub AreEntries : Offering → Book → List (List ℕ) → Book → Type 0
 AreEntries offering old [] new = new ≡ old
-AreEntries offering old (text ∷ texts) new = (between : Book) × IsEntry offering old text between × AreEntries offering between texts new
+AreEntries offering old (text ∷ texts) new =
+    (between : Book) × IsEntry offering old text between × AreEntries offering between texts new
 
 -- the lines are a book without its end: the offering, and then the entries
 abbrev pub IsFront : List (List ℕ) → Offering → Book → Type 0
 IsFront [] offering book = ⊥
-IsFront (first ∷ texts) offering book = Spells first (kind.Offering offering) × AreEntries offering empty_book texts book
+IsFront (first ∷ texts) offering book =
+    Spells first (kind.Offering offering) × AreEntries offering empty_book texts book
 
 -- the lines begin with the book of this offering, up to its end; nothing behind that is looked at
 pub record BeginsWithBook (lines : List (List ℕ)) (offering : Offering) (book : Book) : Type 0 where
@@ -133,10 +139,12 @@ pub record StopsBehindFront (number : ℕ) (lines : List (List ℕ)) : Type 0 wh
   pub book : Book
   pub lines_are : lines ≡ front ++ rest
   pub front_is : IsFront front offering book
+  pub few : length front ≤ most_lines
   pub bad : IsBadNext offering book (length front) rest
   pub number_is : length front + 1 ≡ number
 
--- the line of this number, counted from 1, is the first outside the grammar: the first of all, or one behind the front of a book
+-- the line of this number, counted from 1, is the first outside the grammar: the first of all, or one behind the front
+-- of a book
 abbrev pub IsBadLine : ℕ → List (List ℕ) → Type 0
 IsBadLine number lines = (IsBadFirst lines × (number ≡ 1)) ⊎ StopsBehindFront number lines
 

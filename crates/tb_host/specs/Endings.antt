@@ -2,6 +2,7 @@
 use Rattle.std.specs.Prelude.{ℕ, ◌⊎◌, List, [], ◌∷◌, ◌++◌, codes}
 use Rattle.std.specs.Fmt.{decimal}
 use Rattle.tb_link.specs.Sinks.{SinkState, Takes, FailsToTake}
+use Rattle.tb_units.specs.Bytes.{line_feed}
 use Rattle.tb_host.specs.declared.ending.Ending.{Ending}
 use Rattle.tb_host.specs.declared.ending.Ending.TheVariants as ending
 
@@ -16,16 +17,16 @@ status_of ending.OutOfMemory = 9
 
 -- the line that names the first line outside the grammar
 abbrev pub bad_input_message : ℕ → List ℕ
-bad_input_message line = codes "bad input at line " ++ decimal line ++ 10 ∷ []
+bad_input_message line = codes "bad input at line " ++ decimal line ++ line_feed ∷ []
 
 -- what is told of a status
 abbrev pub message_of : Ending → List ℕ
 message_of ending.Done = []
-message_of ending.Usage = codes "usage" ++ 10 ∷ []
+message_of ending.Usage = codes "usage" ++ line_feed ∷ []
 message_of (ending.BadInput line) = bad_input_message line
-message_of ending.ReadFault = codes "read fault" ++ 10 ∷ []
-message_of ending.WriteFault = codes "write fault" ++ 10 ∷ []
-message_of ending.OutOfMemory = codes "out of memory" ++ 10 ∷ []
+message_of ending.ReadFault = codes "read fault" ++ line_feed ∷ []
+message_of ending.WriteFault = codes "write fault" ++ line_feed ∷ []
+message_of ending.OutOfMemory = codes "out of memory" ++ line_feed ∷ []
 
 -- the sink has taken the message whole, or failed and has taken a prefix of it
 abbrev pub Tells : SinkState → SinkState → List ℕ → Type 0

@@ -1,3 +1,4 @@
+pub mod Told
 pub mod Fields
 pub mod Words
 pub mod BookLines
@@ -5,6 +6,7 @@ pub mod LineEnds
 pub mod Lines
 pub mod Books
 pub mod BookReading
+pub mod Reads
 pub mod BookFaults
 pub mod Bids
 pub mod SoundLines

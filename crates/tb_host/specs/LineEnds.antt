@@ -1,11 +1,16 @@
 -- Where lines end, and how long they may be.
 use Rattle.std.specs.Prelude.{ℕ, ◌<◌, ◌≤◌, ◌==◌, List, length, Bool}
-use Rattle.tb_host.specs.BookLines.{longest_line}
+use Rattle.tb_units.specs.Bytes.{line_feed}
 use Rattle.tb_host.specs.declared.line_end.NextLine.{NextLine}
 use Rattle.tb_host.specs.declared.line_end.NextLine.TheVariants as next
 
+-- bytes that a line may have, without its line feed and the one carriage return before that
+abbrev pub longest_line : ℕ
+longest_line = 8192
+
+-- the byte that ends a line
 abbrev pub is_line_feed : ℕ → Bool
-is_line_feed byte = byte == 10
+is_line_feed byte = byte == line_feed
 
 -- a line is short enough, or too long
 abbrev pub FitsLine : NextLine → List ℕ → Type 0

@@ -2,7 +2,7 @@
 use Rattle.std.specs.Prelude.{◌≡◌, ℕ, ◌<◌, ◌≤◌, List, [], ◌∷◌, ◌++◌, length, drop, slice_range, Option, Some}
 use Rattle.std.specs.Str.Lines.{lines}
 use Rattle.tb_link.specs.Sources.{SourceState, before_left}
-use Rattle.tb_host.specs.BookLines.{longest_line}
+use Rattle.tb_host.specs.LineEnds.{longest_line}
 use Rattle.tb_host.specs.declared.input.LineReader.{LineReader}
 use Rattle.tb_host.specs.LineEnds.{FitsLine}
 use Rattle.tb_host.specs.declared.line_end.NextLine.{NextLine}
@@ -23,9 +23,11 @@ ahead reader source = before_left (unread reader) source.left
 -- what is found in front of a text to come: a line that is short enough, and the text behind it; the end; or a line
 -- that is too long
 abbrev pub Finds : NextLine → List ℕ → List ℕ → Option (List ℕ) → Type 0
-Finds next.Line text line behind = (length line ≤ longest_line) × ((rest : List ℕ) × (behind ≡ Some rest) × (lines text ≡ line ∷ lines rest))
+Finds next.Line text line behind =
+    (length line ≤ longest_line) × ((rest : List ℕ) × (behind ≡ Some rest) × (lines text ≡ line ∷ lines rest))
 Finds next.End text line behind = text ≡ []
-Finds next.TooLong text line behind = (long : List ℕ) × (rest : List (List ℕ)) × (lines text ≡ long ∷ rest) × (longest_line < length long)
+Finds next.TooLong text line behind =
+    (long : List ℕ) × (rest : List (List ℕ)) × (lines text ≡ long ∷ rest) × (longest_line < length long)
 
 -- the same, where the source tells its bytes
 abbrev pub FindsWhereTold : Option (List ℕ) → NextLine → List ℕ → Option (List ℕ) → Type 0

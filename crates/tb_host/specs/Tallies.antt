@@ -5,7 +5,8 @@ use Rattle.tb_units.specs.declared.lines.RateLine.{RateLine}
 use Rattle.tb_award.specs.Recognition.{bid_in}
 use Rattle.tb_host.specs.Books.{Book, Numbered, BeginsWithBook, most_lines, has_entry, is_competitive, is_noncompetitive}
 use Rattle.tb_host.specs.Bids.{bid_at, noncompetitive_in, noncompetitive_of, position_of}
-use Rattle.tb_host.specs.BookReading.{EndsEntries, WhereTold}
+use Rattle.tb_host.specs.BookReading.{EndsEntries}
+use Rattle.tb_host.specs.Told.{WhereTold}
 use Rattle.tb_host.specs.SoundLines.{IsSoundLine, IsSoundOffering}
 use Rattle.tb_host.specs.declared.way.Way.{Way}
 use Rattle.tb_host.specs.declared.way.Way.TheVariants as way
@@ -45,9 +46,13 @@ pub record IsTally (book : Book) (kept : TextBook) : Type 0 where
   pub names : kept.bidders.keys ≡ book.names
   pub known : All (λ numbered. numbered.bidder < length book.names) book.entries
   pub positions_size : length kept.positions.items ≡ length book.names
-  pub positions : (bidder : ℕ) → bidder < length book.names → slice_index_or kept.positions.items bidder (pos 0) ≡ position_of book.entries bidder
+  pub positions : (bidder : ℕ)
+      → bidder < length book.names
+      → slice_index_or kept.positions.items bidder (pos 0) ≡ position_of book.entries bidder
   pub ways_size : length kept.ways.items ≡ length book.names
-  pub ways : (bidder : ℕ) (d : Way) → bidder < length book.names → IsWayOf book.entries bidder (slice_index_or kept.ways.items bidder d)
+  pub ways : (bidder : ℕ) (d : Way)
+      → bidder < length book.names
+      → IsWayOf book.entries bidder (slice_index_or kept.ways.items bidder d)
   pub lines : AreLinesOf kept.offering.days.count book kept.lines.items
   pub noncompetitive : kept.noncompetitive.value ≡ noncompetitive_in book.entries
   pub bounded : kept.noncompetitive.value ≤ 10 ^ 12 * length book.entries
@@ -58,12 +63,13 @@ pub record IsKept (book : Book) (kept : TextBook) : Type 0 where
   pub few : length book.entries < most_lines
   pub offered : IsSoundOffering kept.offering
 
--- the text book stands for the entries with which the text behind the offering begins, where that is told
-pub record HasReadEntries (told : Option (List ℕ)) (kept : TextBook) : Type 0 where
+-- the text book stands for the entries with which the text behind the offering begins, where that is told, and so much
+-- of it follows
+pub record HasReadEntries (told behind : Option (List ℕ)) (kept : TextBook) : Type 0 where
   pub book : Book
   pub tally : IsTally book kept
   pub few : length book.entries < most_lines
-  pub ends : WhereTold told (EndsEntries kept.offering book)
+  pub ends : WhereTold told (EndsEntries kept.offering book behind)
 
 -- the text book stands for the book with which the input begins, where that is told
 pub record IsReadFrom (told : Option (List ℕ)) (kept : TextBook) : Type 0 where

@@ -3,25 +3,21 @@ ghost use Rattle.std.specs.Prelude.{◌≡◌, ℕ, ℤ, pos, ◌%◌, ◌<◌, 
 ghost use Rattle.tb_units.specs.declared.lines.RateLine.{RateLine};
 ghost use Rattle.tb_award.specs.Awards.{AreAwards, awarded_to};
 ghost use Rattle.tb_award.specs.Cuts.{total_of};
-ghost use Rattle.tb_award.specs.Limits.{cap_of};
-ghost use Rattle.tb_award.specs.Recognition.{AreRecognised, bid_in, limits_by};
+ghost use Rattle.tb_award.specs.Recognition.{IsRecognitionOf};
 ghost use Rattle.tb_host.specs.Books.{Book};
 ghost use Rattle.tb_host.specs.BookRun.{AreAwardLines, IsAwardText, award_line, cut_text, labelled, no_awards_text, nothing_lines};
 ghost use Rattle.tb_host.specs.Tallies.{IsKept, sum_of_way};
 ghost use Rattle.tb_host.specs.AwardTexts.{HasCutText, HasNothingText, HasAmounts};
 
-use crate::sorted_lines::SortedLines;
 use crate::text_book::TextBook;
 use crate::way::Way;
 use std::alloc::Global;
-use std::marker::Brand;
-use std::sync::ledger::{Blank, Ledger};
-use tb_award::{Cut, Outcome, Recognised, award, cut, recognise, sought};
+use tb_award::{Cut, Outcome, Recognised, SortedLines, award, cut, recognise_uncounted, sought};
 use tb_price::payment;
-use tb_units::{Cents, Dollars, Ident, OutOfMemory, Price, RateLine, Steps};
+use tb_units::{Cents, Dollars, Ident, OutOfMemory, Price, RateLine};
 
-/// The lines `high`, `allotted` and `price` of the book's auction, or `no awards`, and where it is asked for in full a line
-/// for each bidder.
+/// The lines `high`, `allotted` and `price` of the book's auction, or `no awards`, and where it is asked for in full a
+/// line for each bidder.
 pub fn award_text(alloc: Global, book: TextBook, full: bool) -> Result<Vec<u8>, OutOfMemory>
     requires { (kept : Book) × IsKept kept book }
     ensures { IfOk result (λ text. (kept : Book) → IsKept kept book → IsAwardText full book.offering kept text.items) }
@@ -34,13 +30,7 @@ pub fn award_text(alloc: Global, book: TextBook, full: bool) -> Result<Vec<u8>, 
         lines,
         noncompetitive,
     } = book;
-    let recognised = recognise_lines::<Brand>(
-        alloc,
-        Blank::new(1),
-        lines,
-        &positions,
-        offering.amount,
-    )?;
+    let recognised = recognise_lines(alloc, lines, &positions, offering.amount)?;
     let sought = sought(offering.amount, noncompetitive, offering.floor);
     match cut(&recognised, sought, offering.days) {
         Outcome::NoAwards => nothing_text(alloc, bidders.as_slice(), full),
@@ -48,25 +38,21 @@ pub fn award_text(alloc: Global, book: TextBook, full: bool) -> Result<Vec<u8>, 
     }
 }
 
-// What is recognised of the competitive bids. The steps are counted for no one.
-fn recognise_lines<L: Ledger>(
+// What is recognised of the competitive bids.
+fn recognise_lines(
     alloc: Global,
-    blank: Blank,
     lines: Vec<RateLine>,
     positions: &[i64],
     offering: Dollars,
 ) -> Result<Recognised, OutOfMemory>
-    requires name { blank.name ≡ L.name }
-    requires parts { blank.parts ≡ L.parts }
-    requires some { 0 < L.parts }
     requires hundreds { offering.value % 100 ≡ 0 }
     requires known { All (λ line. line.bidder < length positions.now) lines.items }
-    ensures recognised { IfOk result (λ recognised. AreRecognised (bid_in lines.items) (cap_of offering.value) (limits_by offering.value positions.now) (length positions.now) recognised.lines) }
+    ensures recognised { IfOk result (λ recognised. IsRecognitionOf lines.items positions.now offering.value
+        recognised.lines) }
     ensures within { IfOk result (λ recognised. total_of recognised.lines ≤ total_of lines.items) }
 {
     let sorted = SortedLines::new(lines)?;
-    let mut steps = Steps::<L>::new(blank);
-    recognise(alloc, &sorted, positions, offering, &mut steps)
+    recognise_uncounted(alloc, &sorted, positions, offering)
 }
 
 // The text of an auction with a cut.
@@ -105,7 +91,8 @@ fn nothing_text(alloc: Global, bidders: &[Ident], full: bool) -> Result<Vec<u8>,
 }
 
 fn cut_lines(alloc: Global, cut: &Cut) -> Result<Vec<u8>, OutOfMemory>
-    ensures { IfOk result (λ text. text.items ≡ cut_text cut.now.stop.steps cut.now.percent.hundredths cut.now.price.millionths) }
+    ensures { IfOk result (λ text. text.items
+        ≡ cut_text cut.now.stop.steps cut.now.percent.hundredths cut.now.price.millionths) }
 {
     let mut text = Vec::new(alloc);
     push_line(&mut text, b"high", cut.stop.print().bytes())?;
@@ -162,7 +149,8 @@ fn push_award_lines(
 ) -> Result<(), OutOfMemory>
     requires sizes { length bidders.now ≡ length amounts.now }
     requires fits { All (λ amount. amount ≤ 10 ^ 22) amounts.now }
-    ensures { OnOk result ((lines : List ℕ) × (text.new.items ≡ text.old.items ++ lines) × AreAwardLines (slice_index amounts.now) price.millionths 0 bidders.now lines) }
+    ensures { OnOk result ((lines : List ℕ) × (text.new.items ≡ text.old.items ++ lines)
+        × AreAwardLines (slice_index amounts.now) price.millionths 0 bidders.now lines) }
 {
     for (number, bidder) in bidders.iter().enumerate() {
         let amount = Dollars {

@@ -3,8 +3,10 @@ ghost use Rattle.std.specs.Prelude.{◌≡◌, ◌≢◌, ◌<◌, ℕ, length, 
 ghost use Rattle.std.specs.Str.Lines.{lines};
 ghost use Rattle.tb_link.specs.Counts.{NeverFalls, Rose};
 ghost use Rattle.tb_host.specs.Books.{Adds, Book, IsBadLine, empty_book, most_lines};
-ghost use Rattle.tb_host.specs.BookReading.{WhereTold, ReadsLine, HasNoLine, StopsEntries};
+ghost use Rattle.tb_host.specs.BookReading.{ReadsLine, HasNoLine, StopsEntries};
+ghost use Rattle.tb_host.specs.Told.{WhereTold};
 ghost use Rattle.tb_host.specs.Lines.{ahead};
+ghost use Rattle.tb_host.specs.Reads.{ReadsBookAlone, ReadsNoMore};
 ghost use Rattle.tb_host.specs.SoundLines.{IsLine, IsSoundOffering};
 ghost use Rattle.tb_host.specs.Tallies.{HasReadEntries, IsReadFrom, IsTally};
 ghost use Rattle.tb_host.specs.BookFaults.{of_input};
@@ -49,9 +51,14 @@ fn next_book_line<I: Source>(
     alloc: Global,
     input: &mut I,
 ) -> Result<BookLine, BookFault>
-    ensures line { IfOk result (λ line. WhereTold (ahead reader.old (I.source input.old)) (ReadsLine line (ahead reader.new (I.source input.new)))) }
+    ensures line { IfOk result (λ line. WhereTold (ahead reader.old (I.source input.old))
+        (ReadsLine line (ahead reader.new (I.source input.new)))) }
     ensures spelled { IfOk result IsLine }
-    ensures bad { (line : ℕ) → IsErrOf result (fault.BadLine line) → (line ≡ number) × WhereTold (ahead reader.old (I.source input.old)) (λ text. HasNoLine (lines text)) }
+    ensures reads { OnOk result (WhereTold (ahead reader.old (I.source input.old))
+        (ReadsNoMore (I.source input.old).reads (I.source input.new).reads (ahead reader.new (I.source input.new)))) }
+    ensures no_fault { OnOk result ((I.source input.new).faults ≡ (I.source input.old).faults) }
+    ensures bad { (line : ℕ) → IsErrOf result (fault.BadLine line) → (line ≡ number)
+        × WhereTold (ahead reader.old (I.source input.old)) (λ text. HasNoLine (lines text)) }
     ensures fault { IsErrOf result BookFault.Read → Rose (I.source input.old).faults (I.source input.new).faults }
     ensures count { NeverFalls (I.source input.old).faults (I.source input.new).faults }
 {
@@ -68,7 +75,11 @@ fn next_book_line<I: Source>(
 /// Reads a book up to its line `end`. Nothing behind that is looked at.
 pub fn read_book<I: Source>(alloc: Global, input: &mut I) -> Result<TextBook, BookFault>
     ensures book { IfOk result (IsReadFrom (I.source input.old).left) }
-    ensures bad { (line : ℕ) → IsErrOf result (fault.BadLine line) → WhereTold (I.source input.old).left (λ text. IsBadLine line (lines text)) }
+    ensures reads { OnOk result (WhereTold (I.source input.old).left
+        (ReadsBookAlone (I.source input.old).reads (I.source input.new).reads)) }
+    ensures no_fault { OnOk result ((I.source input.new).faults ≡ (I.source input.old).faults) }
+    ensures bad { (line : ℕ) → IsErrOf result (fault.BadLine line)
+        → WhereTold (I.source input.old).left (λ text. IsBadLine line (lines text)) }
     ensures fault { IsErrOf result BookFault.Read → Rose (I.source input.old).faults (I.source input.new).faults }
     ensures count { NeverFalls (I.source input.old).faults (I.source input.new).faults }
 {
@@ -92,8 +103,13 @@ fn read_entries<I: Source>(
     requires empty { IsTally empty_book book.old }
     requires offered { IsSoundOffering book.old.offering }
     ensures offering { book.new.offering ≡ book.old.offering }
-    ensures book { OnOk result (HasReadEntries (ahead reader.old (I.source input.old)) book.new) }
-    ensures bad { (line : ℕ) → IsErrOf result (fault.BadLine line) → WhereTold (ahead reader.old (I.source input.old)) (StopsEntries line book.old.offering) }
+    ensures book { OnOk result (HasReadEntries (ahead reader.old (I.source input.old))
+        (ahead reader.new (I.source input.new)) book.new) }
+    ensures reads { OnOk result (WhereTold (ahead reader.old (I.source input.old))
+        (ReadsNoMore (I.source input.old).reads (I.source input.new).reads (ahead reader.new (I.source input.new)))) }
+    ensures no_fault { OnOk result ((I.source input.new).faults ≡ (I.source input.old).faults) }
+    ensures bad { (line : ℕ) → IsErrOf result (fault.BadLine line)
+        → WhereTold (ahead reader.old (I.source input.old)) (StopsEntries line book.old.offering) }
     ensures fault { IsErrOf result BookFault.Read → Rose (I.source input.old).faults (I.source input.new).faults }
     ensures count { NeverFalls (I.source input.old).faults (I.source input.new).faults }
 {
@@ -112,7 +128,8 @@ fn read_entries<I: Source>(
 fn add_entry(book: &mut TextBook, entry: Entry, number: u64) -> Result<(), BookFault>
     requires tally { (b : Book) × IsTally b book.old × (length b.names < most_lines) × (length b.entries < most_lines) }
     requires spelled { IsLine (kind.Entry entry) }
-    ensures added { OnOk result ((b : Book) → IsTally b book.old → (new : Book) × Adds book.old.offering b entry new × IsTally new book.new) }
+    ensures added { OnOk result ((b : Book) → IsTally b book.old
+        → (new : Book) × Adds book.old.offering b entry new × IsTally new book.new) }
     ensures bad { (line : ℕ) → IsErrOf result (fault.BadLine line) → (line ≡ number)
         × ((b : Book) → IsTally b book.old → (new : Book) → ¬ (Adds book.old.offering b entry new)) }
     ensures offering { book.new.offering ≡ book.old.offering }

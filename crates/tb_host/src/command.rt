@@ -21,7 +21,9 @@ impl Command {
 
 /// The command that the words are, if they are inside the command set.
 pub fn read_command(words: &[String]) -> Option<Command>
-    ensures { MatchOption result (¬ (AreCommand (map string_bytes words.now))) (λ command. AreWordsOf command (map string_bytes words.now)) }
+    ensures { MatchOption result
+        (¬ (AreCommand (map string_bytes words.now)))
+        (λ command. AreWordsOf command (map string_bytes words.now)) }
 {
     match words {
         [word] if word.as_str() == "award" => Some(Command::Award { full: false }),

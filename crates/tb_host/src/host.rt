@@ -3,10 +3,11 @@ ghost use Rattle.std.specs.Prelude.{◌≡◌, ◌≢◌, ◌⊎◌, ◌↔◌, 
 ghost use Rattle.std.specs.Str.Lines.{lines};
 ghost use Rattle.tb_link.specs.Counts.{Rose};
 ghost use Rattle.tb_host.specs.AwardRun.{Printed, PrintedPrefix};
-ghost use Rattle.tb_host.specs.BookReading.{WhereTold};
+ghost use Rattle.tb_host.specs.Told.{WhereTold};
 ghost use Rattle.tb_host.specs.Books.{HasBadLine, HasBook};
 ghost use Rattle.tb_host.specs.Commands.{AreAward, AreCommand};
 ghost use Rattle.tb_host.specs.Endings.{status_of};
+ghost use Rattle.tb_host.specs.Reads.{ReadsBookAlone};
 ghost use Rattle.tb_host.specs.HostRun.{CommandEnds, Reports, TellsBadLine};
 ghost use Rattle.tb_host.specs.declared.ending.Ending.{Ending};
 
@@ -18,8 +19,8 @@ use tb_link::{Sink, Source};
 
 /// Does the command that the words are, tells `err` how it ended, and answers the status.
 ///
-/// 0: done. 2: the words are outside the command set. 3: the first line outside the grammar was reached, and is told. 4: the input
-/// failed. 5: the output failed. 9: out of memory.
+/// 0: done. 2: the words are outside the command set. 3: the first line outside the grammar was reached, and is told.
+/// 4: the input failed. 5: the output failed. 9: out of memory.
 pub fn host_main<I: Source, O: Sink, E: Sink>(
     alloc: Global,
     words: &[String],
@@ -31,6 +32,11 @@ pub fn host_main<I: Source, O: Sink, E: Sink>(
     ensures usage { (result ≡ 2) ↔ (¬ (AreCommand (map string_bytes words.now))) }
     ensures done { result ≡ 0 → (full : Bool) × AreAward full (map string_bytes words.now)
         × WhereTold (I.source input.old).left (Printed full (O.sink out.old) (O.sink out.new)) }
+    // At 0 no fault was passed over, and nothing behind the line that ends the book was read.
+    ensures no_fault { result ≡ 0 → ((I.source input.new).faults ≡ (I.source input.old).faults)
+        × ((O.sink out.new).faults ≡ (O.sink out.old).faults) }
+    ensures reads { result ≡ 0 → WhereTold (I.source input.old).left
+        (ReadsBookAlone (I.source input.old).reads (I.source input.new).reads) }
     ensures bad_input { result ≡ 3 → TellsBadLine (I.source input.old).left (E.sink err.old) (E.sink err.new) }
     ensures read_fault { result ≡ 4 → Rose (I.source input.old).faults (I.source input.new).faults }
     ensures write_fault { result ≡ 5 → Rose (O.sink out.old).faults (O.sink out.new).faults }
@@ -45,14 +51,18 @@ pub fn host_main<I: Source, O: Sink, E: Sink>(
     ensures untouched { result ≡ 2 → (input.new ≡ input.old) × (out.new ≡ out.old) }
 
     // What is told of every other status.
-    ensures told { (ending : Ending) → status_of ending ≡ result → result ≢ 3 → Reports ending (E.sink err.old) (E.sink err.new) }
+    ensures told { (ending : Ending) → status_of ending ≡ result → result ≢ 3
+        → Reports ending (E.sink err.old) (E.sink err.new) }
 
     // A book is answered, unless an object failed or memory ran out.
-    ensures complete { AreCommand (map string_bytes words.now) → WhereTold (I.source input.old).left (λ text. HasBook (lines text)
-        → (¬ (Rose (I.source input.old).faults (I.source input.new).faults)) → (¬ (Rose (O.sink out.old).faults (O.sink out.new).faults))
+    ensures complete { AreCommand (map string_bytes words.now)
+        → WhereTold (I.source input.old).left (λ text. HasBook (lines text)
+        → (¬ (Rose (I.source input.old).faults (I.source input.new).faults))
+        → (¬ (Rose (O.sink out.old).faults (O.sink out.new).faults))
         → (result ≡ 0) ⊎ (result ≡ 9)) }
     // An input that leaves the grammar is told so, unless it failed or memory ran out.
-    ensures refused { AreCommand (map string_bytes words.now) → WhereTold (I.source input.old).left (λ text. HasBadLine (lines text)
+    ensures refused { AreCommand (map string_bytes words.now)
+        → WhereTold (I.source input.old).left (λ text. HasBadLine (lines text)
         → (¬ (Rose (I.source input.old).faults (I.source input.new).faults))
         → (result ≡ 3) ⊎ (result ≡ 9)) }
 {
@@ -67,7 +77,12 @@ fn run_command<I: Source, O: Sink>(
     input: &mut I,
     out: &mut O,
 ) -> Ending
-    ensures ends { CommandEnds (map string_bytes words.now) result (I.source input.old) (I.source input.new) (O.sink out.old) (O.sink out.new) }
+    ensures ends { CommandEnds (map string_bytes words.now) result (I.source input.old) (I.source input.new)
+        (O.sink out.old) (O.sink out.new) }
+    ensures no_fault { result ≡ Ending.Done → ((I.source input.new).faults ≡ (I.source input.old).faults)
+        × ((O.sink out.new).faults ≡ (O.sink out.old).faults) }
+    ensures reads { result ≡ Ending.Done → WhereTold (I.source input.old).left
+        (ReadsBookAlone (I.source input.old).reads (I.source input.new).reads) }
     ensures untouched { result ≡ Ending.Usage → (input.new ≡ input.old) × (out.new ≡ out.old) }
 {
     match read_command(words) {

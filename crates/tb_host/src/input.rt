@@ -1,10 +1,11 @@
 //! The lines of a source, in whatever pieces it gives its bytes.
-ghost use Rattle.std.specs.Prelude.{◌≡◌, ◌+◌, ◌<◌, ◌≤◌, ◌++◌, [], true, false, length, take, drop, slice_index, vec_len, position, ◌==◌, Some, Ok, IfOk, IfSome, OnOk, IsErrOf};
+ghost use Rattle.std.specs.Prelude.{◌≡◌, ◌+◌, ◌<◌, ◌≤◌, ◌++◌, [], true, false, length, take, drop, slice_index, vec_len, position, ◌==◌, ℕ, List, Some, Ok, IfOk, IfSome, OnOk, IsErrOf};
 ghost use Rattle.tb_link.specs.Counts.{NeverFalls, Rose};
 ghost use Rattle.tb_host.specs.declared.input.InputFault.TheVariants.{OutOfMemory};
 
-use crate::line_end::{NextLine, fits, line_end, without_carriage_return};
-use crate::read_line::LONGEST_LINE;
+use crate::line_end::{
+    LONGEST_LINE, NextLine, line_end, line_or_too_long, without_carriage_return,
+};
 use std::alloc::Global;
 use tb_link::{Failed, Source};
 use tb_units::OutOfMemory;
@@ -26,11 +27,14 @@ impl From<OutOfMemory> for InputFault {
     }
 }
 
-/// Reads lines from a source. Contracts see the bytes that it has and has not given yet, and the line that it gave last.
+/// Reads lines from a source. Contracts see the bytes that it has and has not given yet, and the line that it gave
+/// last.
 #[derive(Drop)]
 pub struct LineReader {
     text: Vec<u8>,
+    // The first byte that was not given yet.
     at: usize,
+    // The line that was given last.
     from: usize,
     to: usize,
     ghost given: { at ≤ vec_len text },
@@ -40,6 +44,8 @@ pub struct LineReader {
 
 impl LineReader {
     ghost use Rattle.tb_host.specs.Lines.{unread, current, ahead, FindsWhereTold, GaveLine, GaveLast};
+    ghost use Rattle.tb_host.specs.Reads.{ReadsNoMore};
+    ghost use Rattle.tb_host.specs.Told.{WhereTold};
     ghost use Rattle.tb_host.specs.LineEnds.{FitsLine, is_line_feed};
 
     pub fn new(alloc: Global) -> LineReader
@@ -61,6 +67,9 @@ impl LineReader {
     ) -> Result<NextLine, InputFault>
         ensures finds { IfOk result (λ found. FindsWhereTold (ahead self.old (I.source input.old)) found
             (current self.new) (ahead self.new (I.source input.new))) }
+        ensures reads { result ≡ Ok NextLine.Line → WhereTold (ahead self.old (I.source input.old))
+            (ReadsNoMore (I.source input.old).reads (I.source input.new).reads (ahead self.new (I.source input.new))) }
+        ensures no_fault { OnOk result ((I.source input.new).faults ≡ (I.source input.old).faults) }
         ensures fault { IsErrOf result InputFault.Read → Rose (I.source input.old).faults (I.source input.new).faults }
         ensures count { NeverFalls (I.source input.old).faults (I.source input.new).faults }
     {
@@ -94,7 +103,11 @@ impl LineReader {
     fn fill<I: Source>(&mut self, alloc: Global, input: &mut I) -> Result<bool, InputFault>
         ensures same { OnOk result (ahead self.new (I.source input.new) ≡ ahead self.old (I.source input.old)) }
         ensures more { result ≡ Ok true → length (unread self.old) < length (unread self.new) }
-        ensures end { result ≡ Ok false → (unread self.new ≡ unread self.old) × IfSome (I.source input.old).left (λ left. left ≡ []) }
+        ensures kept { OnOk result ((piece : List ℕ) × (unread self.new ≡ unread self.old ++ piece)) }
+        ensures end { result ≡ Ok false → (unread self.new ≡ unread self.old)
+            × IfSome (I.source input.old).left (λ left. left ≡ []) }
+        ensures one_read { OnOk result ((I.source input.new).reads ≤ (I.source input.old).reads + 1) }
+        ensures no_fault { OnOk result ((I.source input.new).faults ≡ (I.source input.old).faults) }
         ensures fault { IsErrOf result InputFault.Read → Rose (I.source input.old).faults (I.source input.new).faults }
         ensures count { NeverFalls (I.source input.old).faults (I.source input.new).faults }
     {
@@ -107,7 +120,7 @@ impl LineReader {
         Ok(count > 0)
     }
 
-    // Lets go of what was given, and puts the piece behind the rest.
+    // Drops what was given, and appends the piece.
     fn keep(&mut self, alloc: Global, piece: &[u8]) -> Result<(), OutOfMemory>
         ensures { OnOk result (unread self.new ≡ unread self.old ++ piece.now) }
     {
@@ -126,6 +139,7 @@ impl LineReader {
     fn give(&mut self, end: usize) -> NextLine
         requires { position is_line_feed (unread self.old) ≡ Some end }
         ensures line { GaveLine self.old self.new }
+        ensures rest { unread self.new ≡ drop (end + 1) (unread self.old) }
         ensures fits { FitsLine result (current self.new) }
     {
         let line = &self.unread()[..end];
@@ -133,7 +147,7 @@ impl LineReader {
         self.from = self.at;
         self.to = self.at + count;
         self.at += end + 1;
-        fits(count)
+        line_or_too_long(count)
     }
 
     // Gives what the source's end cuts off, where there is anything.
@@ -148,6 +162,6 @@ impl LineReader {
         self.from = self.at;
         self.to = self.at + count;
         self.at += count;
-        fits(count)
+        line_or_too_long(count)
     }
 }

@@ -10,9 +10,9 @@ mod ending;
 mod fields;
 mod host;
 mod input;
+mod laws;
 mod line_end;
 mod read_line;
-mod sorted_lines;
 #[cfg(test)]
 mod tests;
 mod text_book;
@@ -20,3 +20,4 @@ mod way;
 mod word;
 
 pub use host::host_main;
+pub use laws::{one_book_or_bad_line, one_text};

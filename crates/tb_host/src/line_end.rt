@@ -3,7 +3,8 @@ ghost use Rattle.std.specs.Prelude.{◌≡◌, ◌≤◌, ℕ, List, length, tak
 ghost use Rattle.std.specs.Str.Lines.{strip_carriage_return};
 ghost use Rattle.tb_host.specs.LineEnds.{is_line_feed, FitsLine};
 
-use crate::read_line::LONGEST_LINE;
+/// The longest line, without its line feed and the one carriage return before that.
+pub const LONGEST_LINE: usize = 8192;
 
 /// What stands next in the input.
 #[derive(Clone, Copy, Debug, PartialEq, Eq)]
@@ -34,8 +35,8 @@ pub fn without_carriage_return(line: &[u8]) -> usize
     }
 }
 
-/// Whether a line of this length is short enough.
-pub fn fits(count: usize) -> NextLine
+/// A line of this length, or one that is too long.
+pub fn line_or_too_long(count: usize) -> NextLine
     ensures { (line : List ℕ) → length line ≡ count → FitsLine result line }
 {
     if count > LONGEST_LINE {

@@ -1,9 +1,11 @@
 //! Reading the lines of a text book of bids.
-ghost use Rattle.std.specs.Prelude.{◌≡◌, ◌≢◌, ◌*◌, ◌^◌, ◌<◌, ◌≤◌, ◌↔◌, ℕ, ℤ, [], ◌∷◌, codes, true, false, IfSome, IfNone};
+ghost use Rattle.std.specs.Prelude.{◌≡◌, ◌≢◌, ◌*◌, ◌^◌, ◌<◌, ◌≤◌, ◌↔◌, ℕ, ℤ, [], ◌∷◌, true, false, IfSome, IfNone};
 ghost use Rattle.std.specs.Fmt.{decimal, signed_decimal};
 ghost use Rattle.std.specs.Option.{SomeIff};
+ghost use Rattle.tb_units.specs.Bytes.{hyphen};
 ghost use Rattle.tb_host.specs.Fields.{fields, fields_of};
 ghost use Rattle.tb_host.specs.BookLines.{IsMultiple, AreOfferingFields, IsBidLine, IsReportLine, IsPosition, Says, Spells};
+ghost use Rattle.tb_host.specs.Words.{spelling_of};
 ghost use Rattle.tb_host.specs.declared.book_line.BookLine.{BookLine};
 ghost use Rattle.tb_host.specs.declared.book_line.Offering.{Offering};
 ghost use Rattle.tb_host.specs.declared.book_line.Bid.{Bid};
@@ -11,12 +13,10 @@ ghost use Rattle.tb_host.specs.declared.book_line.Report.{Report};
 
 use crate::book_line::{Bid, BookLine, Entry, Offering, Report};
 use crate::fields::{first_field, three_fields, two_fields};
+use crate::line_end::LONGEST_LINE;
 use crate::word::{Word, word_of};
 use std::str;
 use tb_units::{Days, Dollars, Ident, Rate};
-
-/// The longest line, without its line feed and the one carriage return before that.
-pub const LONGEST_LINE: usize = 8192;
 
 /// Bids and floors are multiples of this, in whole dollars.
 const BID_UNIT: u128 = 100;
@@ -78,8 +78,9 @@ fn read_offering(others: Option<&str>) -> Option<Offering>
 }
 
 fn read_noncompetitive(others: Option<&str>) -> Option<Bid>
-    ensures read { IfSome result (IsBidLine (codes "n") (fields_of others.entry)) }
-    ensures none { IfNone result ((bid : Bid) → ¬ (IsBidLine (codes "n") (fields_of others.entry) bid)) }
+    ensures read { IfSome result (IsBidLine (spelling_of Word.Noncompetitive) (fields_of others.entry)) }
+    ensures none { IfNone result ((bid : Bid)
+        → ¬ (IsBidLine (spelling_of Word.Noncompetitive) (fields_of others.entry) bid)) }
 {
     let (bidder, amount) = two_fields(others)?;
     let bidder = Ident::read(bidder)?;
@@ -92,8 +93,9 @@ fn read_noncompetitive(others: Option<&str>) -> Option<Bid>
 }
 
 fn read_competitive(others: Option<&str>) -> Option<Bid>
-    ensures read { IfSome result (IsBidLine (codes "c") (fields_of others.entry)) }
-    ensures none { IfNone result ((bid : Bid) → ¬ (IsBidLine (codes "c") (fields_of others.entry) bid)) }
+    ensures read { IfSome result (IsBidLine (spelling_of Word.Competitive) (fields_of others.entry)) }
+    ensures none { IfNone result ((bid : Bid)
+        → ¬ (IsBidLine (spelling_of Word.Competitive) (fields_of others.entry) bid)) }
 {
     let (bidder, rate, amount) = three_fields(others)?;
     let bidder = Ident::read(bidder)?;
@@ -107,8 +109,9 @@ fn read_competitive(others: Option<&str>) -> Option<Bid>
 }
 
 fn read_report(others: Option<&str>) -> Option<Report>
-    ensures read { IfSome result (IsReportLine (codes "p") (fields_of others.entry)) }
-    ensures none { IfNone result ((report : Report) → ¬ (IsReportLine (codes "p") (fields_of others.entry) report)) }
+    ensures read { IfSome result (IsReportLine (spelling_of Word.Position) (fields_of others.entry)) }
+    ensures none { IfNone result ((report : Report)
+        → ¬ (IsReportLine (spelling_of Word.Position) (fields_of others.entry) report)) }
 {
     let (bidder, position) = two_fields(others)?;
     let bidder = Ident::read(bidder)?;
@@ -129,8 +132,8 @@ fn read_position(text: &str) -> Option<i64>
 
 // The number below zero whose digits these are.
 fn read_below_zero(digits: &str) -> Option<i64>
-    ensures read { IfSome result (λ position. (45 ∷ digits.now ≡ signed_decimal position) × IsPosition position) }
-    ensures none { IfNone result ((position : ℤ) → IsPosition position → 45 ∷ digits.now ≢ signed_decimal position) }
+    ensures read { IfSome result (λ position. (hyphen ∷ digits.now ≡ signed_decimal position) × IsPosition position) }
+    ensures none { IfNone result ((position : ℤ) → IsPosition position → hyphen ∷ digits.now ≢ signed_decimal position) }
 {
     let below = Dollars::read(digits)?.value;
     if below == 0 {
@@ -147,16 +150,8 @@ fn read_multiple(text: &str, unit: u128, most: u128) -> Option<Dollars>
     ensures none { IfNone result ((n : ℕ) → IsMultiple unit most n → text.now ≢ decimal n) }
 {
     let amount = Dollars::read(text)?;
-    if !is_multiple(amount, unit, most) {
+    if !amount.is_multiple(unit, most) {
         return None;
     }
     Some(amount)
-}
-
-fn is_multiple(amount: Dollars, unit: u128, most: u128) -> bool
-    requires { 0 < unit }
-    ensures yes { result ≡ true → IsMultiple unit most amount.value }
-    ensures no { result ≡ false → ¬ (IsMultiple unit most amount.value) }
-{
-    amount.value % unit == 0 && unit <= amount.value && amount.value <= most
 }

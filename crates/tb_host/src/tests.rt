@@ -1,3 +1,4 @@
+//! Whole runs of `award`: texts, statuses, and reads and writes that fail.
 use super::*;
 use std::alloc::Global;
 use std::test::Fail;
@@ -25,6 +26,92 @@ const POSITION_ALONE: &str = "offering 1000000000 1000000 91\n\
     p z 400000000\n\
     c z 5.100 100000000\n\
     end\n";
+
+/// Books worked out by hand, and what `award full` prints for them. The same books are in `examples/award/`.
+const WORKED: [(&str, &str); 5] = [
+    // A bid above 35 percent of the offering is cut to it.
+    (
+        "offering 1000000000 1000000 91\n\
+         n n1 100000000\n\
+         c a 5.320 300000000\n\
+         c b 5.325 350000000\n\
+         c c 5.330 400000000\n\
+         c d 5.330 100000000\n\
+         end\n",
+        "high 5.330\n\
+         allotted 55.56\n\
+         price 98.652694\n\
+         award n1 100000000 98652694.00\n\
+         award a 300000000 295958082.00\n\
+         award b 350000000 345284429.00\n\
+         award c 194460000 191840028.75\n\
+         award d 55560000 54811436.79\n",
+    ),
+    // A position lowers the limit.
+    (
+        "offering 10000000000 1000000 91\n\
+         p x 1000000000\n\
+         c x 4.000 1000000000\n\
+         c x 4.005 1000000000\n\
+         c x 4.010 1000000000\n\
+         c y 4.010 3500000000\n\
+         c z 4.015 3500000000\n\
+         c w 4.020 3500000000\n\
+         end\n",
+        "high 4.020\n\
+         allotted 14.29\n\
+         price 98.983833\n\
+         award x 2500000000 2474595825.00\n\
+         award y 3500000000 3464434155.00\n\
+         award z 3500000000 3464434155.00\n\
+         award w 500150000 495067640.75\n",
+    ),
+    // A position above the cap leaves nothing, and the bids fall short.
+    (
+        "offering 1000000000 1000000 91\n\
+         p z 400000000\n\
+         c y 5.000 100000000\n\
+         c z 5.100 100000000\n\
+         end\n",
+        "high 5.000\n\
+         allotted 100.00\n\
+         price 98.736111\n\
+         award z 0 0.00\n\
+         award y 100000000 98736111.00\n",
+    ),
+    // Nothing is left of the offering, so the floor is sought.
+    (
+        "offering 1000000000 100000000 91\n\
+         n m 1200000000\n\
+         c a 5.000 60000000\n\
+         c b 5.010 80000000\n\
+         end\n",
+        "high 5.010\n\
+         allotted 50.00\n\
+         price 98.733583\n\
+         award m 1200000000 1184802996.00\n\
+         award a 60000000 59240149.80\n\
+         award b 40000000 39493433.20\n",
+    ),
+    // A third is missing at the stop: 33.34 percent.
+    (
+        "offering 300000000 1000000 91\n\
+         c a 5.000 105000000\n\
+         c b 5.000 105000000\n\
+         c c 5.010 90000000\n\
+         c d 5.010 90000000\n\
+         c e 5.010 90000000\n\
+         end\n",
+        "high 5.010\n\
+         allotted 33.34\n\
+         price 98.733583\n\
+         award a 105000000 103670262.15\n\
+         award b 105000000 103670262.15\n\
+         award c 30006000 29625998.91\n\
+         award d 30006000 29625998.91\n\
+         award e 30006000 29625998.91\n",
+    ),
+];
 
 const ROOM: usize = 300;
 
@@ -72,6 +159,16 @@ fn the_text_is_printed_however_the_book_is_cut_into_pieces(rt: HostRuntime) -> R
             assert_eq!(rt; run.out.bytes(), text.as_bytes());
             assert_eq!(rt; run.err.bytes(), b"".as_slice());
         }
+    }
+    Ok(())
+}
+
+#[test]
+fn worked_books_have_their_texts(rt: HostRuntime) -> Result<(), Fail> {
+    for (book, text) in &WORKED {
+        let run = run(rt.alloc(), &["award", "full"], book, 64, &[], &[])?;
+        assert_eq!(rt; run.status, 0);
+        assert_eq!(rt; run.out.bytes(), text.as_bytes());
     }
     Ok(())
 }

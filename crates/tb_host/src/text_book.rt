@@ -64,10 +64,13 @@ impl TextBook {
 
     /// Adds an entry, where it may stand behind those before it. After an error the book is of no further use.
     pub fn add(&mut self, entry: Entry) -> Result<(), AddFault>
-        requires tally { (book : Book) × IsTally book self.old × (length book.names < most_lines) × (length book.entries < most_lines) }
+        requires tally { (book : Book) × IsTally book self.old × (length book.names < most_lines)
+            × (length book.entries < most_lines) }
         requires spelled { IsLine (kind.Entry entry) }
-        ensures added { OnOk result ((book : Book) → IsTally book self.old → (new : Book) × Adds self.old.offering book entry new × IsTally new self.new) }
-        ensures bad { IsErrOf result AddFault.BadLine → (book : Book) → IsTally book self.old → (new : Book) → ¬ (Adds self.old.offering book entry new) }
+        ensures added { OnOk result ((book : Book) → IsTally book self.old
+            → (new : Book) × Adds self.old.offering book entry new × IsTally new self.new) }
+        ensures bad { IsErrOf result AddFault.BadLine → (book : Book) → IsTally book self.old
+            → (new : Book) → ¬ (Adds self.old.offering book entry new) }
         ensures offering { self.new.offering ≡ self.old.offering }
     {
         match entry {
@@ -88,7 +91,8 @@ impl TextBook {
         requires tally { (book : Book) × IsTally book self.old × (length book.names < most_lines) }
         ensures small { IfOk result (λ number. number < most_lines) }
         ensures numbered { IfOk result (λ number. (book : Book) → IsTally book self.old
-            → GetsNumber bidder book.names number self.new.bidders.keys × IsTally (record { names = self.new.bidders.keys; entries = book.entries }) self.new) }
+            → GetsNumber bidder book.names number self.new.bidders.keys
+            × IsTally (record { names = self.new.bidders.keys; entries = book.entries }) self.new) }
         ensures offering { self.new.offering ≡ self.old.offering }
     {
         let (number, is_new) = self.bidders.insert_full(bidder)?;
@@ -101,18 +105,21 @@ impl TextBook {
 
     fn add_report(&mut self, number: usize, report: &Report)
         requires tally { (book : Book) × IsTally book self.old × (number < length book.names) }
-        ensures added { (book : Book) → IsTally book self.old → IsTally (with_entry book number (entry.Report report.now)) self.new }
+        ensures added { (book : Book) → IsTally book self.old
+            → IsTally (with_entry book number (entry.Report report.now)) self.new }
         ensures offering { self.new.offering ≡ self.old.offering }
     {
         self.positions[number] = report.position;
     }
 
     fn add_bid(&mut self, number: usize, bid: &Bid) -> Result<(), AddFault>
-        requires tally { (book : Book) × IsTally book self.old × (number < length book.names) × (length book.entries < most_lines) }
+        requires tally { (book : Book) × IsTally book self.old × (number < length book.names)
+            × (length book.entries < most_lines) }
         requires small { number < most_lines }
         requires amount { bid.now.amount.value ≤ 10 ^ 12 }
         ensures added { OnOk result ((book : Book) → IsTally book self.old
-            → IsOneWay book.entries number bid.now.rate × IsPriced self.old.offering bid.now.rate × IsTally (with_entry book number (entry.Bid bid.now)) self.new) }
+            → IsOneWay book.entries number bid.now.rate × IsPriced self.old.offering bid.now.rate
+            × IsTally (with_entry book number (entry.Bid bid.now)) self.new) }
         ensures bad { IsErrOf result AddFault.BadLine → (book : Book) → IsTally book self.old
             → ¬ (IsOneWay book.entries number bid.now.rate × IsPriced self.old.offering bid.now.rate) }
         ensures offering { self.new.offering ≡ self.old.offering }

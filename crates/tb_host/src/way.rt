@@ -21,7 +21,8 @@ impl Way {
         requires { sum_of_way self + bid.now.amount.value ≤ 10 ^ 27 }
         ensures { (entries : List Numbered) (bidder : ℕ) → IsWayOf entries bidder self → MatchOption result
             (¬ (IsOneWay entries bidder bid.now.rate))
-            (λ way. IsOneWay entries bidder bid.now.rate × IsWayOf (entries ++ record { bidder = bidder; entry = entry.Bid bid.now } ∷ []) bidder way) }
+            (λ way. IsOneWay entries bidder bid.now.rate
+            × IsWayOf (entries ++ record { bidder = bidder; entry = entry.Bid bid.now } ∷ []) bidder way) }
     {
         match (self, bid.rate) {
             (Way::Open | Way::Competitive, Some(_)) => Some(Way::Competitive),

@@ -29,11 +29,15 @@ sum-word word more sum is small = omega arith
 pub counts-told : (history : History) (before after : ℕ) (told : List (List ℕ × ℕ))
     → All (λ (c : Call). (c.faults_before ≡ before) × (c.faults_after ≡ after)) (calls_on history before after told)
 counts-told history before after [] = All-nil (λ (c : Call). (c.faults_before ≡ before) × (c.faults_after ≡ after))
-counts-told history before after (t ∷ ts) = All-cons (λ (c : Call). (c.faults_before ≡ before) × (c.faults_after ≡ after)) _ (calls_on history before after ts) (refl, refl) (counts-told history before after ts)
+counts-told history before after (t ∷ ts) =
+    All-cons (λ (c : Call). (c.faults_before ≡ before) × (c.faults_after ≡ after)) _
+    (calls_on history before after ts) (refl, refl) (counts-told history before after ts)
 
 module _ {T : Type 0} (m : Meanings T) where
   -- the value goes back into the slot
-  homes-back : (homes : Homes T) (carried : List (ℕ × Option T)) (x : T) → length homes ≡ 1 → carried ≡ (0, Some x) ∷ []
+  homes-back : (homes : Homes T) (carried : List (ℕ × Option T)) (x : T)
+      → length homes ≡ 1
+      → carried ≡ (0, Some x) ∷ []
       → put_back homes carried ≡ some (Some x) ∷ []
   homes-back [] carried x one is = absurd (omega arith)
   homes-back (h ∷ []) carried x one is = ap (put_back (h ∷ [])) is
@@ -44,21 +48,39 @@ module _ {T : Type 0} (m : Meanings T) where
   value-in d [] = d
   value-in d (p ∷ ps) = unwrap_or p.1 d
 
-  carried-value : (carried : List (ℕ × Option T)) (x y : T) → carried ≡ (0, Some x) ∷ [] → carried ≡ (0, Some y) ∷ [] → x ≡ y
+  -- a pass carries one value
+  carried-value : (carried : List (ℕ × Option T)) (x y : T)
+      → carried ≡ (0, Some x) ∷ []
+      → carried ≡ (0, Some y) ∷ []
+      → x ≡ y
   unfolding value-in
   carried-value carried x y is also = ap (value-in x) (sym is ∙ also)
 
   -- no other view has taken the value than the one whose turn it is
-  others-free : (s : State (Option T) View) (r : Rule m s) (id n : ℕ) (v : View) → IsView s.views id v → HasTurn n v.stage
-      → (j k : ℕ) (u : View) → j ≢ id → IsView s.views j u → HasTaken k u.stage → ⊥
+  others-free : (s : State (Option T) View) (r : Rule m s) (id n : ℕ) (v : View)
+      → IsView s.views id v
+      → HasTurn n v.stage
+      → (j k : ℕ) (u : View)
+      → j ≢ id
+      → IsView s.views j u
+      → HasTaken k u.stage
+      → ⊥
   others-free s r id n v at turn j k u ne there has =
       let theirs = turn-of_taken k u.stage has in
-      ne (turn-once m r.served r.fixed s.homes r.drawn s.views id j v u r.queue at (subst (λ (i : ℕ). HasTurn i v.stage) (r.kept.turn id n v at turn) turn) there (subst (λ (i : ℕ). HasTurn i u.stage) (r.kept.turn j k u there theirs) theirs))
+      ne (turn-once m r.served r.fixed s.homes r.drawn s.views id j v u r.queue at
+      (subst (λ (i : ℕ). HasTurn i v.stage) (r.kept.turn id n v at turn) turn) there
+      (subst (λ (i : ℕ). HasTurn i u.stage) (r.kept.turn j k u there theirs) theirs))
 
   -- the faults are raised
-  more-faults : (s : State (Option T) View) (r : Rule m s) (id n more : ℕ) (v : View) → IsView s.views id v → v.stage ≡ Holding n
+  more-faults : (s : State (Option T) View) (r : Rule m s) (id n more : ℕ) (v : View)
+      → IsView s.views id v
+      → v.stage ≡ Holding n
       → v.faults + more < 2 ^ 64
-      → Rule m record { words = slice_set s.words 3 ((slice_index s.words 3 + more) % 2 ^ 64); homes = s.homes; views = set s.views id (raised n more v) }
+      → Rule m record {
+        words = slice_set s.words 3 ((slice_index s.words 3 + more) % 2 ^ 64);
+        homes = s.homes;
+        views = set s.views id (raised n more v);
+      }
   more-faults s r id n more v at holds fits =
       let w : View = raised n more v in
       let took = holding-taken n v.stage holds in
@@ -76,18 +98,26 @@ module _ {T : Type 0} (m : Meanings T) where
         counted = r.counted;
         faults = r.faults + more;
         words = ap (λ (ws : List ℕ). slice_set ws 3 ((slice_index ws 3 + more) % 2 ^ 64)) r.words
-            ∙ ap (λ (k : ℕ). (r.drawn % 2 ^ 64) ∷ (r.served % 2 ^ 64) ∷ length r.counted ∷ k ∷ []) (sum-word r.faults more (r.faults + more) (omega arith) (omega arith));
-        queue = queue-same r.drawn r.served s.views id v w r.queue at (sym (tickets-of_ticket n v.stage has)) (λ k mine. subst (λ (i : ℕ). HasTicket i v.stage) mine has);
+            ∙ ap (λ (k : ℕ). (r.drawn % 2 ^ 64) ∷ (r.served % 2 ^ 64) ∷ length r.counted ∷ k ∷ [])
+            (sum-word r.faults more (r.faults + more) (omega arith) (omega arith));
+        queue = queue-same r.drawn r.served s.views id v w r.queue at (sym (tickets-of_ticket n v.stage has))
+            (λ k mine. subst (λ (i : ℕ). HasTicket i v.stage) mine has);
         shares = shares-same s.views id v w r.shares at refl live;
-        kept = kept-same m r.served r.fixed s.homes s.views id v w r.kept at refl live (λ k (mine : n ≡ k). sym mine ∙ now) (λ _. now) (λ _ _. away);
+        kept = kept-same m r.served r.fixed s.homes s.views id v w r.kept at refl live
+            (λ k (mine : n ≡ k). sym mine ∙ now) (λ _. now) (λ _ _. away);
         count = count-same m r.counted s.homes s.views id v w r.count at (λ _ _. r.count.taken id n v at took);
         seen = seen-same r.opening r.counted s.views id v w r.seen at live live refl refl;
         answered = answered-set m r.fixed r.counted s.views id w r.answered (r.answered id v at);
-        made = entries-set m r.fixed r.opening r.counted s.homes s.views id v w r.made at live refl (λ _ _. r.made.taken id n v at took);
-        failed = faults-raised m r.opening_faults r.faults s.homes s.views id n more v w r.failed at live away holds (others-free s r id n v at turn) refl (ap (λ (k : ℕ). k + more) known) refl refl refl;
+        made = entries-set m r.fixed r.opening r.counted s.homes s.views id v w r.made at live refl
+            (λ _ _. r.made.taken id n v at took);
+        failed = faults-raised m r.opening_faults r.faults s.homes s.views id n more v w r.failed at live away holds
+            (others-free s r id n v at turn) refl (ap (λ (k : ℕ). k + more) known) refl refl refl;
       }
 
-  pub raises_faults : (slots id n more : ℕ) (me : Me (Option T) View) → me.0.stage ≡ Holding n → me.0.faults + more < 2 ^ 64
+  -- the step that raises the faults keeps the rule
+  pub raises_faults : (slots id n more : ℕ) (me : Me (Option T) View)
+      → me.0.stage ≡ Holding n
+      → me.0.faults + more < 2 ^ 64
       → Allows (Rule m) slots id me 3 (λ k. (k + more) % 2 ^ 64) (RaisesFaults (step slots 3 more 0 none) me)
   raises_faults slots id n more me holds fits s r many at small = (
     raised n more me.0,
@@ -99,8 +129,13 @@ module _ {T : Type 0} (m : Meanings T) where
 
   -- the count is raised: the calls are made, and the value is at home
   counts : (s : State (Option T) View) (r : Rule m s) (id : ℕ) (me : Me (Option T) View) (calls : List Call) (new : ℕ)
-      → IsView s.views id me.0 → (may : MayCount m calls new me)
-      → Rule m record { words = slice_set s.words 2 ((slice_index s.words 2 + new) % 2 ^ 64); homes = some (Some may.value) ∷ []; views = set s.views id (counted m may.number me.0 calls may.value) }
+      → IsView s.views id me.0
+      → (may : MayCount m calls new me)
+      → Rule m record {
+        words = slice_set s.words 2 ((slice_index s.words 2 + new) % 2 ^ 64);
+        homes = some (Some may.value) ∷ [];
+        views = set s.views id (counted m may.number me.0 calls may.value);
+      }
   counts s r id me calls new at asked =
       let n : ℕ = asked.number in
       let x : T = asked.value in
@@ -115,9 +150,12 @@ module _ {T : Type 0} (m : Meanings T) where
       let seen = r.count.taken id n me.0 at took in
       let group : History = may.adds.group in
       let acc : History = accepted_of m me.0.fixed calls in
-      let history : m.history x ≡ r.counted ++ (group ++ acc) = may.adds.grown ∙ ap (λ (l : History). l ++ (group ++ acc)) seen in
+      let history : m.history x ≡ r.counted ++ (group ++ acc) =
+      may.adds.grown ∙ ap (λ (l : History). l ++ (group ++ acc)) seen in
       let grows : IsPrefix r.counted (m.history x) = (group ++ acc, history) in
-      let free : (j k : ℕ) (u : View) → IsView (set s.views id w) j u → HasTaken k u.stage → ⊥ = λ j k. each-set (λ _ u. HasTaken k u.stage → ⊥) s.views id w (λ i u ne there. others-free s r id n me.0 at turn i k u ne there) (λ none_left. none_left) j in
+      let free : (j k : ℕ) (u : View) → IsView (set s.views id w) j u → HasTaken k u.stage → ⊥ =
+      λ j k. each-set (λ _ u. HasTaken k u.stage → ⊥) s.views id w
+      (λ i u ne there. others-free s r id n me.0 at turn i k u ne there) (λ none_left. none_left) j in
       let known = r.failed.known id n me.0 at took in
       record {
         drawn = r.drawn;
@@ -128,25 +166,43 @@ module _ {T : Type 0} (m : Meanings T) where
         counted = m.history x;
         faults = r.faults;
         words = ap (λ (ws : List ℕ). slice_set ws 2 ((slice_index ws 2 + new) % 2 ^ 64)) r.words
-            ∙ ap (λ (k : ℕ). (r.drawn % 2 ^ 64) ∷ (r.served % 2 ^ 64) ∷ k ∷ r.faults ∷ []) (sum-word (length r.counted) new (length (m.history x)) (ap (λ (l : History). new + length l) (sym seen) ∙ asked.new) asked.fits);
-        queue = queue-same r.drawn r.served s.views id me.0 w r.queue at (sym (tickets-of_ticket n me.0.stage has)) (λ k mine. subst (λ (i : ℕ). HasTicket i me.0.stage) mine has);
+            ∙ ap (λ (k : ℕ). (r.drawn % 2 ^ 64) ∷ (r.served % 2 ^ 64) ∷ k ∷ r.faults ∷ [])
+            (sum-word (length r.counted) new (length (m.history x))
+            (ap (λ (l : History). new + length l) (sym seen) ∙ asked.new) asked.fits);
+        queue = queue-same r.drawn r.served s.views id me.0 w r.queue at (sym (tickets-of_ticket n me.0.stage has))
+            (λ k mine. subst (λ (i : ℕ). HasTicket i me.0.stage) mine has);
         shares = shares-same s.views id me.0 w r.shares at refl live;
-        kept = kept-back m r.served r.fixed s.homes s.views id me.0 w x r.kept at refl live (λ k (mine : n ≡ k). sym mine ∙ now) (may.fixed ∙ same) free;
+        kept = kept-back m r.served r.fixed s.homes s.views id me.0 w x r.kept at refl live
+            (λ k (mine : n ≡ k). sym mine ∙ now) (may.fixed ∙ same) free;
         count = count-back m (set s.views id w) x free;
         seen = seen-longer r.opening r.counted (m.history x) s.views id me.0 w grows r.seen at live live refl refl;
-        answered = answered-set m r.fixed (m.history x) s.views id w (answered-longer m r.fixed r.counted (m.history x) s.views grows r.answered)
-            (All-append (Stands m r.fixed (m.history x)) me.0.mine calls (all-longer m r.fixed r.counted (m.history x) grows me.0.mine (r.answered id me.0 at))
+        answered = answered-set m r.fixed (m.history x) s.views id w
+            (answered-longer m r.fixed r.counted (m.history x) s.views grows r.answered)
+            (All-append (Stands m r.fixed (m.history x)) me.0.mine calls
+            (all-longer m r.fixed r.counted (m.history x) grows me.0.mine (r.answered id me.0 at))
             (subst (λ (l : List ℕ). All (Stands m l (m.history x)) calls) same may.stand));
-        made = entries-back m r.fixed r.opening r.counted s.homes s.views id me.0 w x calls group r.made at live refl (r.made.taken id n me.0 at took) free may.adds.resolved
+        made = entries-back m r.fixed r.opening r.counted s.homes s.views id me.0 w x calls group r.made at live refl
+            (r.made.taken id n me.0 at took) free may.adds.resolved
             (subst (λ (l : List ℕ). m.history x ≡ r.counted ++ (group ++ accepted_of m l calls)) same history)
-            (subst (λ (l : List ℕ). (m.doubt x ≡ []) ⊎ ((m.doubt x ≡ me.0.doubt) ⊎ All (λ e. Any (Leaves m l e) calls) (m.doubt x))) same
-            (⊎_elim (λ is. inl is) (λ (d : ((m.doubt x ≡ me.0.doubt) × (m.history x ≡ me.0.seen)) ⊎ All (λ e. Any (Leaves m me.0.fixed e) calls) (m.doubt x)). ⊎_elim (λ (kept : (m.doubt x ≡ me.0.doubt) × (m.history x ≡ me.0.seen)). inr (inl kept.0)) (λ all. inr (inr all)) d) may.doubts));
-        failed = faults-back m r.opening_faults r.faults s.homes s.views id me.0 w x calls r.failed at live (sym asked.faults ∙ known.word) free refl refl
-            (All-weaker (λ c. (c.faults_before ≡ me.0.faults_taken) × (c.faults_after ≡ m.faults x)) (IsBetween r.opening_faults r.faults)
-            (λ c count. let low = known.least in let before = count.0 in let after = count.1 in let rose = may.faults in let is = known.word in record { least = omega arith; rising = omega arith; most = omega arith }) calls asked.counts);
+            (subst (λ (l : List ℕ). (m.doubt x ≡ [])
+            ⊎ ((m.doubt x ≡ me.0.doubt) ⊎ All (λ e. Any (Leaves m l e) calls) (m.doubt x))) same
+            (⊎_elim (λ is. inl is)
+            (λ (d : ((m.doubt x ≡ me.0.doubt) × (m.history x ≡ me.0.seen))
+            ⊎ All (λ e. Any (Leaves m me.0.fixed e) calls) (m.doubt x)). ⊎_elim
+            (λ (kept : (m.doubt x ≡ me.0.doubt) × (m.history x ≡ me.0.seen)). inr (inl kept.0)) (λ all. inr (inr all))
+            d) may.doubts));
+        failed = faults-back m r.opening_faults r.faults s.homes s.views id me.0 w x calls r.failed at live
+            (sym asked.faults ∙ known.word) free refl refl
+            (All-weaker (λ c. (c.faults_before ≡ me.0.faults_taken) × (c.faults_after ≡ m.faults x))
+            (IsBetween r.opening_faults r.faults)
+            (λ c count. let low = known.least in let before = count.0 in let after = count.1 in
+            let rose = may.faults in let is = known.word in
+            record { least = omega arith; rising = omega arith; most = omega arith }) calls asked.counts);
       }
 
-  pub raises_count : (slots id : ℕ) (me : Me (Option T) View) (calls : List Call) (new : ℕ) → MayCount m calls new me
+  -- the step that raises the count keeps the rule
+  pub raises_count : (slots id : ℕ) (me : Me (Option T) View) (calls : List Call) (new : ℕ)
+      → MayCount m calls new me
       → Allows (Rule m) slots id me 2 (λ k. (k + new) % 2 ^ 64) (RaisesCount m calls (step slots 2 new 0 none) me)
   raises_count slots id me calls new may s r many at small =
       let n : ℕ = may.number in
@@ -156,23 +212,50 @@ module _ {T : Type 0} (m : Meanings T) where
         w,
         gives,
         tt,
-        subst (λ (hs : Homes T). Rule m record { words = slice_set s.words 2 ((slice_index s.words 2 + new) % 2 ^ 64); homes = hs; views = set s.views id w }) (sym (homes-back s.homes me.1 x (ap (λ (hs : Homes T). length hs) away) may.carried))
+        subst (λ (hs : Homes T). Rule m record {
+          words = slice_set s.words 2 ((slice_index s.words 2 + new) % 2 ^ 64);
+          homes = hs;
+          views = set s.views id w;
+        })
+            (sym (homes-back s.homes me.1 x (ap (λ (hs : Homes T). length hs) away) may.carried))
             (counts s r id me calls new at may),
-        λ k y stage carried i. (counted m (raised-same n k me.0.stage may.stage stage i) me.0 calls (carried-value me.1 x y may.carried carried i), rest (may.carried i)),
+        λ k y stage carried i. (
+          counted m (raised-same n k me.0.stage may.stage stage i) me.0 calls
+              (carried-value me.1 x y may.carried carried i),
+          rest (may.carried i),
+        ),
       )
 
   -- to raise the faults changes nothing that a turn has to show
-  pub may-raised : (n more : ℕ) (v : View) (calls : List Call) (x : T) → MayGive m v calls x → MayGive m (raised n more v) calls x
-  may-raised n more v calls x may = record { stand = may.stand; begin = may.begin; timed = may.timed; fixed = may.fixed; faults = may.faults; adds = record { group = may.adds.group; resolved = may.adds.resolved; grown = may.adds.grown }; doubts = may.doubts }
+  pub may-raised : (n more : ℕ) (v : View) (calls : List Call) (x : T)
+      → MayGive m v calls x
+      → MayGive m (raised n more v) calls x
+  may-raised n more v calls x may =
+      record {
+        stand = may.stand;
+        begin = may.begin;
+        timed = may.timed;
+        fixed = may.fixed;
+        faults = may.faults;
+        adds = record { group = may.adds.group; resolved = may.adds.resolved; grown = may.adds.grown };
+        doubts = may.doubts;
+      }
 
   -- the value is put back and the faults are raised: the count may be raised
   pub ready : (v : View) (x : T) (n faults entries : ℕ) (calls : List Call) (before after : Me (Option T) View)
-      → before ≡ (v, (0, Some x) ∷ []) → v.stage ≡ Holding n
-      → ((k : ℕ) → before.0.stage ≡ Holding k → after ≡ (raised k faults before.0, before.1)) → faults + v.faults ≡ m.faults x
-      → MayGive m v calls x → HaveCounts m v x calls
-      → entries + length v.seen ≡ length (m.history x) → length (m.history x) < 2 ^ 64 → MayCount m calls entries after
+      → before ≡ (v, (0, Some x) ∷ [])
+      → v.stage ≡ Holding n
+      → ((k : ℕ) → before.0.stage ≡ Holding k → after ≡ (raised k faults before.0, before.1))
+      → faults + v.faults ≡ m.faults x
+      → MayGive m v calls x
+      → HaveCounts m v x calls
+      → entries + length v.seen ≡ length (m.history x)
+      → length (m.history x) < 2 ^ 64
+      → MayCount m calls entries after
   ready v x n faults entries calls before after back holds rose sum may counts' new fits =
-      let now : after ≡ (raised n faults v, (0, Some x) ∷ []) = rose n (ap (λ (k : Me (Option T) View). k.0.stage) back ∙ holds) ∙ ap (λ (k : Me (Option T) View). (raised n faults k.0, k.1)) back in
+      let now : after ≡ (raised n faults v, (0, Some x) ∷ []) =
+      rose n (ap (λ (k : Me (Option T) View). k.0.stage) back ∙ holds)
+      ∙ ap (λ (k : Me (Option T) View). (raised n faults k.0, k.1)) back in
       subst (MayCount m calls entries) (sym now) record {
         number = n;
         value = x;

@@ -17,7 +17,8 @@ added_if repeated entry others = others
 added_if faulted entry others = others
 added_if entryless entry others = others
 
--- the calls that are told, each with as many first entries of the history as are told for it, between these counts of faults
+-- the calls that are told, each with as many first entries of the history as are told for it, between these counts of
+-- faults
 abbrev pub calls_on : History → ℕ → ℕ → List (List ℕ × ℕ) → List Call
 calls_on history before after [] = []
 calls_on history before after (c ∷ cs) =

@@ -1,4 +1,5 @@
 pub mod Calls
+pub mod Closing
 pub mod Meanings
 pub mod Passes
 pub mod Rule

@@ -8,7 +8,8 @@ History = List (List ℕ)
 abbrev pub IsPrefix : History → History → Type 0
 IsPrefix first whole = (rest : History) × (whole ≡ first ++ rest)
 
--- how a call was answered: its entry was added, or stood there already, or met a fault and may come to stand, or the call has none
+-- how a call was answered: its entry was added, or stood there already, or met a fault and may come to stand, or the
+-- call has none
 pub data Answer : Type 0 where
   accepted : Answer
   repeated : Answer

@@ -8,11 +8,17 @@ use Rattle.tb_lock.specs.Meanings.{History, IsPrefix, Meanings}
 use Rattle.tb_lock.specs.Calls.{IsBetween, Stands, Makes}
 use Rattle.tb_lock.specs.Views.{IsLive, spent, IsView, EachView, SomeView, total, share_of, tickets_of, HasTicket, HasTurn, HasTaken}
 
--- Tickets. As many views have one as were drawn and not yet served. Their numbers are the one served now and those after it, each once.
+-- Tickets. As many views have one as were drawn and not yet served. Their numbers are the one served now and those
+-- after it, each once.
 pub record IsQueue (drawn served : ℕ) (views : List View) : Type 0 where
   pub number : drawn ≡ served + total tickets_of views
   pub range : (j n : ℕ) (v : View) → IsView views j v → HasTicket n v.stage → (served ≤ n) × (n < drawn)
-  pub once : (j k n : ℕ) (v w : View) → IsView views j v → IsView views k w → HasTicket n v.stage → HasTicket n w.stage → j ≡ k
+  pub once : (j k n : ℕ) (v w : View)
+      → IsView views j v
+      → IsView views k w
+      → HasTicket n v.stage
+      → HasTicket n w.stage
+      → j ≡ k
 
 -- Shares. Together they are the whole. Each view is live, or spent, and then has no share, no call and no ticket.
 pub record AreShares (views : List View) : Type 0 where
@@ -28,7 +34,8 @@ abbrev pub IsHome : {T : Type 0} → Homes T → T → Type 0
 IsHome homes value = homes ≡ some (Some value) ∷ []
 
 -- The value. It is at home, unless the view whose turn it is has taken it. Every live view has its fixed part.
-pub record IsKept {T : Type 0} (m : Meanings T) (served : ℕ) (fixed : List ℕ) (homes : Homes T) (views : List View) : Type 0 where
+pub record IsKept {T : Type 0} (m : Meanings T) (served : ℕ) (fixed : List ℕ) (homes : Homes T) (views : List View)
+    : Type 0 where
   pub turn : (j n : ℕ) (v : View) → IsView views j v → HasTurn n v.stage → n ≡ served
   pub place : ((value : T) × IsHome homes value) ⊎ SomeView views (λ v. HasTaken served v.stage)
   pub away : (j n : ℕ) (v : View) → IsView views j v → HasTaken n v.stage → homes ≡ none ∷ []
@@ -36,7 +43,8 @@ pub record IsKept {T : Type 0} (m : Meanings T) (served : ℕ) (fixed : List ℕ
   pub same : EachView views (λ v. IsLive v → v.fixed ≡ fixed)
 
 -- The count. The value's history is the counted one, also when it was taken.
-pub record IsCounted {T : Type 0} (m : Meanings T) (counted : History) (homes : Homes T) (views : List View) : Type 0 where
+pub record IsCounted {T : Type 0} (m : Meanings T) (counted : History) (homes : Homes T) (views : List View)
+    : Type 0 where
   pub value : (value : T) → IsHome homes value → m.history value ≡ counted
   pub taken : (j n : ℕ) (v : View) → IsView views j v → HasTaken n v.stage → v.seen ≡ counted
 
@@ -59,8 +67,10 @@ AreAnswered m fixed counted views = EachView views (λ v. All (Stands m fixed co
 abbrev pub IsMade : {T : Type 0} → Meanings T → List ℕ → List View → List ℕ → Type 0
 IsMade m fixed views entry = SomeView views (λ v. IsLive v × Any (Makes m fixed entry) v.mine)
 
--- Entries. Each past the opening is made by a call, and so is each of the group in doubt, outside the turn that makes it.
-pub record AreMade {T : Type 0} (m : Meanings T) (fixed : List ℕ) (opening counted : History) (homes : Homes T) (views : List View) : Type 0 where
+-- Entries. Each past the opening is made by a call, and so is each of the group in doubt, outside the turn that makes
+-- it.
+pub record AreMade {T : Type 0} (m : Meanings T) (fixed : List ℕ) (opening counted : History) (homes : Homes T)
+    (views : List View) : Type 0 where
   pub later : History
   pub history : counted ≡ opening ++ later
   pub entries : All (IsMade m fixed views) later
@@ -73,9 +83,11 @@ pub record KnowsFaults (opening_faults faults : ℕ) (v : View) : Type 0 where
   pub least : opening_faults ≤ v.faults_taken
   pub most : v.faults_taken ≤ faults
 
--- Faults. The word is the count of the value at home, and of the value as it was taken until the view that took it raises the faults.
--- It is at least the opening's, which every live view has, and the counts of each call lie between the two.
-pub record AreFaults {T : Type 0} (m : Meanings T) (opening_faults faults : ℕ) (homes : Homes T) (views : List View) : Type 0 where
+-- Faults. The word is the count of the value at home, and of the value as it was taken until the view that took it
+-- raises the faults. It is at least the opening's, which every live view has, and the counts of each call lie between
+-- the two.
+pub record AreFaults {T : Type 0} (m : Meanings T) (opening_faults faults : ℕ) (homes : Homes T) (views : List View)
+    : Type 0 where
   pub value : (value : T) → IsHome homes value → m.faults value ≡ faults
   pub taken : (j n : ℕ) (v : View) → IsView views j v → v.stage ≡ Holding n → v.faults_taken ≡ faults
   pub known : (j n : ℕ) (v : View) → IsView views j v → HasTaken n v.stage → KnowsFaults opening_faults faults v
@@ -87,7 +99,8 @@ pub record AreFaults {T : Type 0} (m : Meanings T) (opening_faults faults : ℕ)
 abbrev pub words_of : ℕ → ℕ → ℕ → ℕ → List ℕ
 words_of drawn served count faults = (drawn % 2 ^ 64) ∷ (served % 2 ^ 64) ∷ count ∷ faults ∷ []
 
--- the rule: of the tickets drawn and served since the lock was made, the fixed part, the opening, the counted history and the faults
+-- the rule: of the tickets drawn and served since the lock was made, the fixed part, the opening, the counted history
+-- and the faults
 pub record Rule {T : Type 0} (m : Meanings T) (s : State (Option T) View) : Type 0 where
   pub drawn : ℕ
   pub served : ℕ

@@ -42,7 +42,8 @@ module _ {T : Type 0} (m : Meanings T) where
   abbrev pub LooksAtFaults : Step (Option T) → Me (Option T) View → ℕ → Me (Option T) View → Type 0
   LooksAtFaults st me found after = (n : ℕ) → me.0.stage ≡ Come n → Takes n found me after
 
-  -- what is asked of a pass that raises the count by so many: it has raised the faults, and carries the value, with which the turn may end so
+  -- what is asked of a pass that raises the count by so many: it has raised the faults, and carries the value, with
+  -- which the turn may end so
   pub record MayCount (calls : List Call) (entries : ℕ) (me : Me (Option T) View) : Type 0 where
     pub number : ℕ
     pub value : T

@@ -7,7 +7,8 @@ use Rattle.tb_lock.specs.Meanings.{History, IsPrefix, repeated, Meanings}
 use Rattle.tb_lock.specs.Views.{at_stage}
 use Rattle.tb_lock.specs.Calls.{IsBetween, calls_on, entry_of, Stands, Makes, Leaves, accepted_of}
 
--- a clock whose readings were counted before and after was read in between: the number rose, or stands at its last value
+-- a clock whose readings were counted before and after was read in between: the number rose, or stands at its last
+-- value
 abbrev pub IsReadBetween : ℕ → ℕ → Type 0
 IsReadBetween before after = (before < after) ⊎ (after ≡ 2 ^ 64 - 1)
 
@@ -24,7 +25,8 @@ module _ {T : Type 0} (m : Meanings T) where
     faults = m.faults value;
   }
 
-  -- what a turn begins with: the pass shows the value as it was taken, and keeps its share, its calls, the fixed part and the opening
+  -- what a turn begins with: the pass shows the value as it was taken, and keeps its share, its calls, the fixed part
+  -- and the opening
   pub record IsTaken (before after : View) (value : T) : Type 0 where
     pub seen : after.seen ≡ m.history value
     pub doubt : after.doubt ≡ m.doubt value
@@ -72,8 +74,8 @@ module _ {T : Type 0} (m : Meanings T) where
   HaveCounts v value calls = All (λ c. (c.faults_before ≡ v.faults_taken) × (c.faults_after ≡ m.faults value)) calls
 
   -- What a turn with these calls has to show at its end. Each was answered on a beginning of the value's history, which
-  -- itself begins with the history taken, and its entry follows there where it was accepted. The fixed part is as it was
-  -- taken, and the count of faults is not less.
+  -- itself begins with the history taken, and its entry follows there where it was accepted. The fixed part is as it
+  -- was taken, and the count of faults is not less.
   pub record MayGive (v : View) (calls : List Call) (value : T) : Type 0 where
     pub stand : All (Stands m v.fixed (m.history value)) calls
     pub begin : All (λ c. IsPrefix v.seen c.prefix) calls
@@ -107,7 +109,8 @@ module _ {T : Type 0} (m : Meanings T) where
     pub entries : All (λ e. Any (Makes m last.fixed e) last.mine) later
     pub doubt : All (λ e. Any (Makes m last.fixed e) last.mine) (m.doubt value)
 
-  -- what a closed lock gives: a value with the fixed part of the last pass, whose history begins with what that pass has seen
+  -- what a closed lock gives: a value with the fixed part of the last pass, whose history begins with what that pass
+  -- has seen
   pub record Closes (last : View) (value : T) : Type 0 where
     pub fixed : m.fixed value ≡ last.fixed
     pub seen : IsPrefix last.seen (m.history value)
@@ -118,10 +121,11 @@ module _ {T : Type 0} (m : Meanings T) where
     pub repeats : All (λ c. m.answer c.code ≡ repeated → Contains c.prefix (entry_of m last.fixed c)) last.mine
     -- the counts of faults of these calls are at least the opening's and at most the value's
     pub counts : All (IsBetween last.opening_faults (m.faults value)) last.mine
+    -- which itself is at least the opening's, also where the pass made no call
+    pub least : last.opening_faults ≤ m.faults value
     pub whole : last.share ≡ 2 ^ 64 - 1 → HasOnlyOwn last value
 
--- As many tickets are out as the first word is ahead of the second: at least one, and at most one for each share that
--- the last pass lacks, and its own.
+-- The first word is ahead of the second by at least one, and by at most 2^64 less the share of the last pass.
 pub record AreOut (last : View) (ticket serving : ℕ) : Type 0 where
   pub out : ℕ
   pub least : 0 < out

@@ -66,7 +66,8 @@ longer xs ys = if nat_lt (length xs) (length ys) then ys else xs
 
 -- a view that has taken in another: its share, what it has seen, and its calls
 abbrev pub joined : View → View → View
-joined v other = record v { share = v.share + other.share; seen = longer v.seen other.seen; mine = v.mine ++ other.mine }
+joined v other = record v
+    { share = v.share + other.share; seen = longer v.seen other.seen; mine = v.mine ++ other.mine }
 
 -- the view number j is v
 abbrev pub IsView : List View → ℕ → View → Type 0

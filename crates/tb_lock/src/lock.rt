@@ -1,15 +1,16 @@
 //! The lock and its calls.
-ghost use Rattle.std.specs.Prelude.{◌≡◌, ◌≢◌, ◌-◌, ◌^◌, ◌≤◌, [], IfOk, IfErr, IsOk, IsErr};
+ghost use Rattle.std.specs.Prelude.{◌≡◌, ◌≢◌, ◌-◌, ◌^◌, ◌≤◌, [], Some, IfOk, IfErr, IsOk, IsErr, IsSome};
 
 use crate::annals::{Annals, Told};
 use crate::pass::Pass;
 use crate::rule::{Both, Halves, Order};
 use crate::view::View;
-use atomic_table::{Refused, Table};
-use std::alloc::{AllocError, Global};
+use atomic_table::{Refused, Seat, Table};
+use std::alloc::Global;
 use std::marker::Brand;
 use std::snapshot::Snapshot;
 use std::sync::Wait;
+use tb_units::OutOfMemory;
 
 /// A value that is taken in turns.
 pub struct TurnLock<T: Annals> {
@@ -27,10 +28,11 @@ pub struct Unserved {
 impl<T: Annals> TurnLock<T> {
     ghost use Rattle.tb_lock.specs.Views.{newcomer, kept_half, given_half, joined};
     ghost use Rattle.tb_lock.specs.Turns.{IsTaken, MayGive, calls_of, given, Closes, AreOut};
-    ghost use Rattle.tb_lock.specs.Passes.{IsPassOf, IsIdle, HoldsTurn, view};
+    ghost use Rattle.tb_lock.specs.Passes.{IsPassOf, IsSeatOf, IsIdle, HoldsTurn, view};
+    ghost use Rattle.tb_lock.specs.Closing.{IsLeft};
 
     /// A lock round the value, and its first pass, which has the whole share.
-    pub fn new(alloc: Global, value: T) -> Result<(TurnLock<T>, Pass<T>), (T, AllocError)>
+    pub fn new(alloc: Global, value: T) -> Result<(TurnLock<T>, Pass<T>), (T, OutOfMemory)>
         requires no_doubt { T.means.doubt value ≡ [] }
         ensures own { IfOk result (λ made. IsPassOf made.0 made.1) }
         ensures idle { IfOk result (λ made. IsIdle made.1) }
@@ -40,7 +42,7 @@ impl<T: Annals> TurnLock<T> {
         let mut slots = Vec::new(alloc);
         if let Err(_) = slots.reserve(1) {
             slots.destroy_empty();
-            return Err((value, AllocError));
+            return Err((value, OutOfMemory));
         }
         let given = Snapshot::of(&value);
         let entries = value.entries();
@@ -61,7 +63,7 @@ impl<T: Annals> TurnLock<T> {
                     unreachable!()
                 };
                 slots.destroy_empty();
-                Err((value, AllocError))
+                Err((value, OutOfMemory))
             }
         }
     }
@@ -147,24 +149,42 @@ impl<T: Annals> TurnLock<T> {
         ensures unserved { IfErr result (λ words. words.ticket ≢ words.serving) }
         ensures tickets { IfErr result (λ words. AreOut (view last) words.ticket words.serving) }
     {
-        let TurnLock { table } = self;
         let Pass {
             seat,
             holds: _,
             entries: _,
             faults: _,
         } = last;
+        let left = self.shut(seat);
+        served_value(left.0, left.1)
+    }
+
+    // Ends the table: its two words of tickets, and what stands in its slot.
+    fn shut(self, seat: Seat<Option<T>, View>) -> (Unserved, Option<T>)
+        requires own { IsSeatOf self seat }
+        ensures left { IsLeft T.means seat.id seat.me.0 result.0.ticket result.0.serving result.1 }
+    {
+        let TurnLock { table } = self;
         let mut closed = table.close_with(seat);
         let ticket = closed.word(0);
         let serving = closed.word(1);
         let slot = closed.take(0);
         closed.free();
-        if ticket != serving {
-            return Err(Unserved { ticket, serving });
-        }
-        match slot {
-            Some(value) => Ok(value),
-            None => unreachable!(),
-        }
+        (Unserved { ticket, serving }, slot)
+    }
+}
+
+// The value in the slot, exactly where the two words are equal.
+fn served_value<T: Drop>(words: Unserved, slot: Option<T>) -> Result<T, Unserved>
+    requires home { words.ticket ≡ words.serving → IsSome slot }
+    ensures served { IfOk result (λ value. (words.ticket ≡ words.serving) × (slot ≡ Some value)) }
+    ensures unserved { IfErr result (λ told. (words.ticket ≢ words.serving) × (told ≡ words)) }
+{
+    if words.ticket != words.serving {
+        return Err(words);
+    }
+    match slot {
+        Some(value) => Ok(value),
+        None => unreachable!(),
     }
 }

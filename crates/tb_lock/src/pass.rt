@@ -22,9 +22,11 @@ pub struct Pass<T> {
 }
 
 impl<T> Pass<T> {
+    ghost use Rattle.tb_lock.specs.Passes.{IsIdle};
+
     /// Whether the pass is between turns.
     pub fn idle(&self) -> bool
-        ensures { IsTrue result ↔ (self.now.holds ≡ false) }
+        ensures { IsTrue result ↔ IsIdle self.now }
     {
         !self.holds
     }

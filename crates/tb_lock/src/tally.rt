@@ -1,6 +1,9 @@
-//! A small value for this crate's tests and edits: numbers in the order in which they came.
-ghost use Rattle.std.specs.Prelude.{◌≡◌, ◌≤◌, ◌++◌, ◌∷◌, [], true, false};
+//! A small value for this crate's tests and edits: numbers in the order in which they came, each once.
+//!
+//! It stands in the library and not among the tests, since the wrong bodies of `must-fail/` are tried without tests.
+ghost use Rattle.std.specs.Prelude.{◌≡◌, [], None};
 ghost use Rattle.tb_lock.specs.Turns.{IsReadBetween};
+ghost use Rattle.tb_lock.specs.Tally.{Adds, Settles};
 
 use crate::annals::{Annals, Told};
 use crate::lock::TurnLock;
@@ -8,11 +11,16 @@ use crate::pass::Pass;
 use std::alloc::Global;
 use std::sync::Wait;
 
-/// Its clock gives how often it was read. A number that finds no room counts as a fault.
+/// Its clock gives how often it was read.
+///
+/// A number that finds no room, or that comes at the reading named by `fails` (0: at none), meets a fault and is in
+/// doubt: the next turn that adds a number lets it stand where there is room, and drops it where there is none.
 #[derive(Drop)]
 pub struct Tally {
     pub numbers: Vec<u64>,
+    pub doubt: Option<u64>,
     pub room: usize,
+    pub fails: u64,
     pub faults: u64,
     pub clock: u64,
 }
@@ -33,81 +41,133 @@ impl Annals for Tally {
     }
 }
 
-/// One call: a number was appended at a moment, behind so many entries, or met a fault.
+/// How a number was answered: added, there already, or met a fault.
+#[derive(Clone, Copy, Debug, PartialEq, Eq)]
+pub enum Outcome {
+    Accepted,
+    Repeated,
+    Faulted,
+}
+
+/// A call that adds a number, at a moment, behind so many entries.
 #[derive(Drop)]
-pub struct Appended {
+pub struct Addition {
     pub number: u64,
     pub moment: u64,
     pub before: u64,
-    pub kept: bool,
+    pub outcome: Outcome,
 }
 
-impl Told for Appended {
-    ghost use Rattle.tb_lock.specs.Tally.{told_of};
+impl Told for Addition {
+    ghost use Rattle.tb_lock.specs.Tally.{addition_of};
 
-    ghost calls = { told_of };
+    ghost calls = { addition_of };
+}
+
+/// A call that asks how many entries there are, and adds none.
+#[derive(Drop)]
+pub struct Reading {
+    pub entries: u64,
+}
+
+impl Told for Reading {
+    ghost use Rattle.tb_lock.specs.Tally.{reading_of};
+
+    ghost calls = { reading_of };
 }
 
 // One more, or the last value.
 fn counted_on(count: u64) -> u64
-    ensures rose { IsReadBetween count result }
-    ensures least { count ≤ result }
+    ensures { IsReadBetween count result }
 {
     count.saturating_add(1)
 }
 
 impl Tally {
-    pub fn new(alloc: Global, room: usize) -> Tally
-        ensures empty { result.numbers.items ≡ [] }
-        ensures room { result.room ≡ room }
+    pub fn new(alloc: Global, room: usize, fails: u64) -> Tally
+        ensures empty { (result.numbers.items ≡ []) × (result.doubt ≡ None) }
+        ensures given { (result.room ≡ room) × (result.fails ≡ fails) }
         ensures counts { (result.faults ≡ 0) × (result.clock ≡ 0) }
     {
         Tally {
             numbers: Vec::new(alloc),
+            doubt: None,
             room,
+            fails,
             faults: 0,
             clock: 0,
         }
     }
 
-    fn add(&mut self, number: u64) -> bool
-        ensures kept { result ≡ true → (self.new.numbers.items ≡ self.old.numbers.items ++ number ∷ [])
-            × (self.new.faults ≡ self.old.faults) }
-        ensures fault { result ≡ false → (self.new.numbers.items ≡ self.old.numbers.items)
-            × IsReadBetween self.old.faults self.new.faults × (self.old.faults ≤ self.new.faults) }
-        ensures same { (self.new.room ≡ self.old.room) × (self.new.clock ≡ self.old.clock) }
+    // Lets the number in doubt stand, or drops it.
+    fn settle(&mut self)
+        ensures { Settles self.old self.new }
     {
-        if self.numbers.len() < self.room && self.numbers.push(number).is_ok() {
-            return true;
+        if let Some(number) = self.doubt {
+            if self.numbers.len() < self.room {
+                let _kept = self.numbers.push(number).is_ok();
+            }
+        }
+        self.doubt = None;
+    }
+
+    fn add(&mut self, number: u64) -> Outcome
+        requires { self.old.doubt ≡ None }
+        ensures { Adds result self.old self.new number }
+    {
+        if self.numbers.as_slice().contains(&number) {
+            return Outcome::Repeated;
+        }
+        if self.numbers.len() < self.room
+            && self.clock != self.fails
+            && self.numbers.push(number).is_ok()
+        {
+            return Outcome::Accepted;
         }
         self.faults = counted_on(self.faults);
-        false
+        self.doubt = Some(number);
+        Outcome::Faulted
     }
 }
 
 impl TurnLock<Tally> {
     ghost use Rattle.tb_lock.specs.Passes.{IsPassOf, IsIdle, view};
-    ghost use Rattle.tb_lock.specs.Tally.{HasAppended};
+    ghost use Rattle.tb_lock.specs.Tally.{HasAdded, HasRead};
 
-    /// Appends a number in a turn of its own, and says whether it was kept.
-    pub fn append<R: Wait>(&self, rt: &R, pass: &mut Pass<Tally>, number: u64) -> bool
+    /// Adds a number in a turn of its own.
+    pub fn append<R: Wait>(&self, rt: &R, pass: &mut Pass<Tally>, number: u64) -> Outcome
         requires own { IsPassOf self.now pass.old }
         requires idle { IsIdle pass.old }
         ensures own { IsPassOf self.now pass.new }
         ensures idle { IsIdle pass.new }
-        ensures made { HasAppended (view pass.old) (view pass.new) number result }
+        ensures made { HasAdded (view pass.old) (view pass.new) number result }
     {
         let mut tally = self.take(rt, pass);
+        tally.settle();
         tally.clock = counted_on(tally.clock);
         let before = tally.numbers.len() as u64;
-        let kept = tally.add(number);
-        let told = Appended {
+        let outcome = tally.add(number);
+        let told = Addition {
             number,
             moment: tally.clock,
             before,
-            kept,
+            outcome,
         };
         self.give(pass, tally, &told);
-        kept
+        outcome
+    }
+
+    /// How many numbers there are.
+    pub fn count<R: Wait>(&self, rt: &R, pass: &mut Pass<Tally>) -> u64
+        requires own { IsPassOf self.now pass.old }
+        requires idle { IsIdle pass.old }
+        ensures own { IsPassOf self.now pass.new }
+        ensures idle { IsIdle pass.new }
+        ensures made { HasRead (view pass.old) (view pass.new) result }
+    {
+        let tally = self.take(rt, pass);
+        let entries = tally.numbers.len() as u64;
+        self.give(pass, tally, &Reading { entries });
+        entries
     }
 }

@@ -4,7 +4,7 @@ ghost use Rattle.tb_lock.specs.Passes.{IsPassOf, IsIdle};
 
 use crate::lock::{TurnLock, Unserved};
 use crate::pass::Pass;
-use crate::tally::Tally;
+use crate::tally::{Outcome, Tally};
 use std::sync::Wait;
 use std::test::Fail;
 use std::thread::join_mut;
@@ -30,12 +30,12 @@ fn append_all<R: Wait>(
 
 #[test]
 fn two_passes_append_in_turn(rt: HostRuntime) -> Result<(), Fail> {
-    let Ok((lock, mut pass)) = TurnLock::new(rt.alloc(), Tally::new(rt.alloc(), 10)) else {
+    let Ok((lock, mut pass)) = TurnLock::new(rt.alloc(), Tally::new(rt.alloc(), 10, 0)) else {
         panic!(rt; "no memory")
     };
     let mut other = lock.split(&mut pass);
-    assert!(rt; lock.append(&rt, &mut pass, 7));
-    assert!(rt; lock.append(&rt, &mut other, 8));
+    assert_eq!(rt; lock.append(&rt, &mut pass, 7), Outcome::Accepted);
+    assert_eq!(rt; lock.append(&rt, &mut other, 8), Outcome::Accepted);
     lock.join(&mut pass, other);
     let Ok(tally) = lock.close(pass) else {
         panic!(rt; "a turn is out")
@@ -47,7 +47,7 @@ fn two_passes_append_in_turn(rt: HostRuntime) -> Result<(), Fail> {
 
 #[test]
 fn a_turn_without_an_end_is_unserved(rt: HostRuntime) -> Result<(), Fail> {
-    let Ok((lock, mut pass)) = TurnLock::new(rt.alloc(), Tally::new(rt.alloc(), 10)) else {
+    let Ok((lock, mut pass)) = TurnLock::new(rt.alloc(), Tally::new(rt.alloc(), 10, 0)) else {
         panic!(rt; "no memory")
     };
     assert!(rt; pass.idle());
@@ -62,7 +62,7 @@ fn a_turn_without_an_end_is_unserved(rt: HostRuntime) -> Result<(), Fail> {
 
 #[test]
 fn two_threads_append_in_their_own_order(rt: HostRuntime) -> Result<(), Fail> {
-    let Ok((lock, mut pass)) = TurnLock::new(rt.alloc(), Tally::new(rt.alloc(), 4000)) else {
+    let Ok((lock, mut pass)) = TurnLock::new(rt.alloc(), Tally::new(rt.alloc(), 4000, 0)) else {
         panic!(rt; "no memory")
     };
     let mut other = lock.split(&mut pass);
@@ -93,16 +93,29 @@ fn two_threads_append_in_their_own_order(rt: HostRuntime) -> Result<(), Fail> {
 }
 
 #[test]
-fn a_number_without_room_is_a_fault(rt: HostRuntime) -> Result<(), Fail> {
-    let Ok((lock, mut pass)) = TurnLock::new(rt.alloc(), Tally::new(rt.alloc(), 1)) else {
+fn a_number_that_meets_a_fault_is_in_doubt(rt: HostRuntime) -> Result<(), Fail> {
+    // The second reading of the clock fails, and there is room for three numbers.
+    let Ok((lock, mut pass)) = TurnLock::new(rt.alloc(), Tally::new(rt.alloc(), 3, 2)) else {
         panic!(rt; "no memory")
     };
-    assert!(rt; lock.append(&rt, &mut pass, 7));
-    assert!(rt; !lock.append(&rt, &mut pass, 8));
+    for (number, outcome, entries) in [
+        (7, Outcome::Accepted, 1),
+        (8, Outcome::Faulted, 1),
+        // The 8 stands from this turn on.
+        (7, Outcome::Repeated, 2),
+        (9, Outcome::Accepted, 3),
+        // There is no room for the 5, nor for it as the group in doubt.
+        (5, Outcome::Faulted, 3),
+        (8, Outcome::Repeated, 3),
+    ] {
+        assert_eq!(rt; lock.append(&rt, &mut pass, number), outcome, "{number}");
+        assert_eq!(rt; lock.count(&rt, &mut pass), entries, "{number}");
+    }
     let Ok(tally) = lock.close(pass) else {
         panic!(rt; "a turn is out")
     };
-    assert_eq!(rt; tally.numbers.as_slice(), [7].as_slice());
-    assert_eq!(rt; (tally.faults, tally.clock), (1, 2));
+    assert_eq!(rt; tally.numbers.as_slice(), [7, 8, 9].as_slice());
+    assert_eq!(rt; tally.doubt, None);
+    assert_eq!(rt; (tally.faults, tally.clock), (2, 6));
     Ok(())
 }

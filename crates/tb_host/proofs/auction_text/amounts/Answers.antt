@@ -14,12 +14,18 @@ overflow_add-index_mut c =
     let lines = c.args.recognised.now.lines in
     let k = c.loop-place.place in
     let line = c.line-line.result in
-    let known : line.bidder < length c.args.ways.now = subst (λ (l : RateLine). l.bidder < length c.args.ways.now) c.line-line.ensures (c.requires.known k line (omega arith)) in
-    let here : c.index_mut.result.now ≡ slice_index c.loop-place.amounts.items line.bidder = c.index_mut.ensures.value ∙ get_or_default_zero c.loop-place.amounts.items line.bidder c.index_mut.result.now (omega (arith, known, c.loop-place.invariant.size)) in
+    let known : line.bidder < length c.args.ways.now =
+    subst (λ (l : RateLine). l.bidder < length c.args.ways.now) c.line-line.ensures
+    (c.requires.known k line (omega arith)) in
+    let here : c.index_mut.result.now ≡ slice_index c.loop-place.amounts.items line.bidder =
+    c.index_mut.ensures.value
+    ∙ get_or_default_zero c.loop-place.amounts.items line.bidder c.index_mut.result.now
+    (omega (arith, known, c.loop-place.invariant.size)) in
     omega (
       arith,
       here,
-      amounts-within c.args.cut.now.stop.steps c.args.cut.now.percent.hundredths (take k lines) c.args.ways.now c.loop-place.amounts.items line.bidder way.Open c.loop-place.invariant known,
+      amounts-within c.args.cut.now.stop.steps c.args.cut.now.percent.hundredths (take k lines) c.args.ways.now
+          c.loop-place.amounts.items line.bidder way.Open c.loop-place.invariant known,
       sum_by-take-le amount_of lines k,
       c.requires.fits,
       length-take-le k lines (omega arith),
@@ -32,13 +38,29 @@ loop-place-preserved c =
     let lines = c.args.recognised.now.lines in
     let k = c.loop-place.place in
     let line = c.line-line.result in
-    let known : line.bidder < length c.args.ways.now = subst (λ (l : RateLine). l.bidder < length c.args.ways.now) c.line-line.ensures (c.requires.known k line (omega arith)) in
-    let here : c.index_mut.result.now ≡ slice_index c.loop-place.amounts.items line.bidder = c.index_mut.ensures.value ∙ get_or_default_zero c.loop-place.amounts.items line.bidder c.index_mut.result.now (omega (arith, known, c.loop-place.invariant.size)) in
-    let step : take (k + 1) lines ≡ take k lines ++ line ∷ [] = take_more lines k line (omega arith) ∙ ap (λ x. take k lines ++ x ∷ []) c.line-line.ensures in
+    let known : line.bidder < length c.args.ways.now =
+    subst (λ (l : RateLine). l.bidder < length c.args.ways.now) c.line-line.ensures
+    (c.requires.known k line (omega arith)) in
+    let here : c.index_mut.result.now ≡ slice_index c.loop-place.amounts.items line.bidder =
+    c.index_mut.ensures.value
+    ∙ get_or_default_zero c.loop-place.amounts.items line.bidder c.index_mut.result.now
+    (omega (arith, known, c.loop-place.invariant.size)) in
+    let step : take (k + 1) lines ≡ take k lines ++ line ∷ [] =
+    take_more lines k line (omega arith) ∙ ap (λ x. take k lines ++ x ∷ []) c.line-line.ensures in
     let award : RateLine = record { rate = line.rate; bidder = line.bidder; amount = c.award.result } in
-    subst (λ (ls : List RateLine). AmountsSoFar c.args.cut.now.stop.steps c.args.cut.now.percent.hundredths ls c.args.ways.now (set c.loop-place.amounts.items line.bidder (c.index_mut.result.now + c.award.result.value))) (sym step)
-    (amounts-more c.args.cut.now.stop.steps c.args.cut.now.percent.hundredths (take k lines) line award c.args.ways.now c.loop-place.amounts.items (c.index_mut.result.now + c.award.result.value) c.loop-place.invariant
-    c.args.cut.now.percent.in_range known refl refl c.award.ensures (ap (λ n. n + c.award.result.value) here))
+    subst (λ (ls : List RateLine). AmountsSoFar c.args.cut.now.stop.steps c.args.cut.now.percent.hundredths ls
+    c.args.ways.now (set c.loop-place.amounts.items line.bidder (c.index_mut.result.now + c.award.result.value)))
+    (sym step)
+    (amounts-more c.args.cut.now.stop.steps c.args.cut.now.percent.hundredths (take k lines) line award
+    c.args.ways.now c.loop-place.amounts.items (c.index_mut.result.now + c.award.result.value) c.loop-place.invariant
+    record {
+      small = c.args.cut.now.percent.in_range;
+      known = known;
+      rate = refl;
+      bidder = refl;
+      is = c.award.ensures;
+      amount_is = ap (λ n. n + c.award.result.value) here;
+    })
 
 pub returns : goal.returns
 returns c =
@@ -48,14 +70,16 @@ returns c =
     let all : take k lines ≡ lines = take_all k lines (omega arith) in
     record {
       awards = so_far.awards;
-      awarded = subst (λ (ls : List RateLine). AreAwards c.args.cut.now.stop.steps c.args.cut.now.percent.hundredths ls so_far.awards) all so_far.awarded;
+      awarded = subst (λ (ls : List RateLine). AreAwards c.args.cut.now.stop.steps c.args.cut.now.percent.hundredths
+          ls so_far.awards) all so_far.awarded;
       size = so_far.size;
       are = so_far.are;
       fit = λ b d below.
           omega (
             arith,
             get_or_default_zero c.loop-place.amounts.items b d below,
-            amounts-within c.args.cut.now.stop.steps c.args.cut.now.percent.hundredths (take k lines) c.args.ways.now c.loop-place.amounts.items b way.Open so_far (omega (arith, below, so_far.size)),
+            amounts-within c.args.cut.now.stop.steps c.args.cut.now.percent.hundredths (take k lines) c.args.ways.now
+                c.loop-place.amounts.items b way.Open so_far (omega (arith, below, so_far.size)),
             sum_by-take-le amount_of lines k,
             c.requires.fits,
             length-take-le k lines (omega arith),

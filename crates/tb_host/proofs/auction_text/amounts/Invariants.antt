@@ -3,4 +3,5 @@ use Rattle.tb_host.proofs.AwardLemmas.{AmountsSoFar}
 use Rattle.tb_host.proofs.auction_text.amounts.Given as goal
 
 abbrev pub invariant-loop-place : goal.invariant-loop-place
-invariant-loop-place l = AmountsSoFar l.cut.stop.steps l.cut.percent.hundredths (take l.place l.recognised.lines) l.ways l.amounts.items
+invariant-loop-place l =
+    AmountsSoFar l.cut.stop.steps l.cut.percent.hundredths (take l.place l.recognised.lines) l.ways l.amounts.items

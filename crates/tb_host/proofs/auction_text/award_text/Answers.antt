@@ -7,23 +7,50 @@ use Rattle.tb_host.proofs.TextLemmas.{cut-text, lines-fit, lines-priced, nothing
 use Rattle.tb_host.proofs.auction_text.award_text.Goals as goal
 
 pub cut-requires-clause-priced : goal.cut-requires-clause-priced
-cut-requires-clause-priced c = lines-priced c.requires.0 c.args.book c.deref.result.now c.in_ok-recognised.recognised.lines c.requires.1.tally c.in_ok-recognised.ensures.recognised
+cut-requires-clause-priced c =
+    lines-priced c.requires.0 c.args.book c.deref.result.now c.in_ok-recognised.recognised.lines c.requires.1.tally
+    c.in_ok-recognised.ensures.recognised
 
 pub cut-requires-clause-fits : goal.cut-requires-clause-fits
-cut-requires-clause-fits c = omega (arith, c.in_ok-recognised.ensures.within, lines-fit c.requires.0 c.args.book c.requires.1)
+cut-requires-clause-fits c =
+    omega (arith, c.in_ok-recognised.ensures.within, lines-fit c.requires.0 c.args.book c.requires.1)
 
 pub returns-in-NoAwards : goal.returns-in-NoAwards
 returns-in-NoAwards c = IfOk-weaker c.nothing_text.result _ _ (λ text has kept is.
-    nothing-text c.args.full kept c.args.book c.as_slice.result.now c.deref.result.now c.in_ok-recognised.recognised.lines text.items is.tally c.as_slice.ensures.keys c.deref.ensures.value
-    c.in_ok-recognised.ensures.recognised (c.in-NoAwards.ensures.none.0 refl) has) c.nothing_text.ensures
+    nothing-text c.args.full kept c.args.book c.as_slice.result.now c.in_ok-recognised.recognised.lines text.items
+    record {
+      tally = is.tally;
+      names_are = c.as_slice.ensures.keys;
+      positions = c.deref.result.now;
+      positions_are = c.deref.ensures.value;
+      recognised_are = c.in_ok-recognised.ensures.recognised;
+    } (c.in-NoAwards.ensures.none.0 refl) has) c.nothing_text.ensures
 
 pub cut_text-requires-clause-fits : goal.cut_text-requires-clause-fits
-cut_text-requires-clause-fits c = omega (arith, c.in_ok-recognised.ensures.within, lines-fit c.requires.0 c.args.book c.requires.1)
+cut_text-requires-clause-fits c =
+    omega (arith, c.in_ok-recognised.ensures.within, lines-fit c.requires.0 c.args.book c.requires.1)
 
 pub cut_text-requires-clause-amounts : goal.cut_text-requires-clause-amounts
-cut_text-requires-clause-amounts c = subst (λ (ws : List Way). All (λ way. sum_of_way way ≤ 10 ^ 19) ws) (sym c.deref-in-Cut.ensures.value) (ways-fit c.requires.0 c.args.book c.requires.1)
+cut_text-requires-clause-amounts c =
+    subst (λ (ws : List Way). All (λ way. sum_of_way way ≤ 10 ^ 19) ws) (sym c.deref-in-Cut.ensures.value)
+    (ways-fit c.requires.0 c.args.book c.requires.1)
 
 pub returns : goal.returns
 returns c = IfOk-weaker c.cut_text.result _ _ (λ text has kept is.
-    cut-text c.args.full kept c.args.book c.as_slice-in-Cut.result.now c.deref-in-Cut.result.now c.deref.result.now c.in_ok-recognised.recognised.lines c.in-Cut.cut c.sought-sought.result.value text.items is.tally
-    c.as_slice-in-Cut.ensures.keys c.deref-in-Cut.ensures.value c.deref.ensures.value c.in_ok-recognised.ensures.recognised c.sought-sought.ensures (c.in-Cut.ensures.cut c.in-Cut.cut refl) has) c.cut_text.ensures
+    cut-text c.args.full kept c.args.book c.as_slice-in-Cut.result.now c.in_ok-recognised.recognised.lines
+    c.in-Cut.cut text.items
+    record {
+      tally = is.tally;
+      names_are = c.as_slice-in-Cut.ensures.keys;
+      positions = c.deref.result.now;
+      positions_are = c.deref.ensures.value;
+      recognised_are = c.in_ok-recognised.ensures.recognised;
+    }
+    record {
+      ways = c.deref-in-Cut.result.now;
+      ways_are = c.deref-in-Cut.ensures.value;
+      sought = c.sought-sought.result.value;
+      sought_is = c.sought-sought.ensures;
+      is = c.in-Cut.ensures.cut c.in-Cut.cut refl;
+      text_is = has;
+    }) c.cut_text.ensures

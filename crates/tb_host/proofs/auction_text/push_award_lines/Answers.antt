@@ -15,12 +15,17 @@ loop-number-preserved c =
     let cents = c.payment.result.value in
     let so_far = c.loop-number.invariant in
     let size : 0 + length (take k names) ≡ k = omega (arith, length-take-le k names (omega arith)) in
-    let step : take (k + 1) names ≡ take k names ++ name ∷ [] = take_more names k name (omega arith) ∙ ap (λ x. take k names ++ x ∷ []) (sym c.index-bidders-number.is) in
-    let paid : IsPayment (amounts (0 + length (take k names))) price cents = subst (λ (n : ℕ). IsPayment (amounts n) price cents) (sym size) c.payment.ensures in
-    let line : award_line name (amounts (0 + length (take k names))) cents ≡ award_line name (amounts k) cents = ap (λ n. award_line name (amounts n) cents) size in (
+    let step : take (k + 1) names ≡ take k names ++ name ∷ [] =
+    take_more names k name (omega arith) ∙ ap (λ x. take k names ++ x ∷ []) (sym c.index-bidders-number.is) in
+    let paid : IsPayment (amounts (0 + length (take k names))) price cents =
+    subst (λ (n : ℕ). IsPayment (amounts n) price cents) (sym size) c.payment.ensures in
+    let line : award_line name (amounts (0 + length (take k names))) cents ≡ award_line name (amounts k) cents =
+    ap (λ n. award_line name (amounts n) cents) size in (
       so_far.0 ++ award_line name (amounts (0 + length (take k names))) cents,
-      c.in_ok-push_award_line.ensures ∙ ap (λ t. t ++ award_line name (amounts k) cents) so_far.1 ∙ append_assoc c.args.text.now.items so_far.0 (award_line name (amounts k) cents)
+      c.in_ok-push_award_line.ensures ∙ ap (λ t. t ++ award_line name (amounts k) cents) so_far.1
+          ∙ append_assoc c.args.text.now.items so_far.0 (award_line name (amounts k) cents)
           ∙ ap (λ t. c.args.text.now.items ++ (so_far.0 ++ t)) (sym line),
-      subst (λ (ns : List (List ℕ)). AreAwardLines amounts price 0 ns (so_far.0 ++ award_line name (amounts (0 + length (take k names))) cents)) (sym step)
+      subst (λ (ns : List (List ℕ)). AreAwardLines amounts price 0 ns
+          (so_far.0 ++ award_line name (amounts (0 + length (take k names))) cents)) (sym step)
           (award-lines-more amounts price 0 (take k names) so_far.0 name cents so_far.2 paid),
     )

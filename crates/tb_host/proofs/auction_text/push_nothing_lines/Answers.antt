@@ -10,6 +10,8 @@ loop-bidder-preserved c =
     let k = c.loop-bidder.bidder-index in
     let name = c.bidder-item.result in
     let old = c.args.text.now.items in
-    let step : take (k + 1) names ≡ take k names ++ name ∷ [] = take_more names k name (omega arith) ∙ ap (λ x. take k names ++ x ∷ []) (sym c.bidder-item.is) in
-    c.in_ok-push_award_line.ensures ∙ ap (λ t. t ++ award_line name 0 0) c.loop-bidder.invariant ∙ append_assoc old (nothing_lines (take k names)) (award_line name 0 0)
+    let step : take (k + 1) names ≡ take k names ++ name ∷ [] =
+    take_more names k name (omega arith) ∙ ap (λ x. take k names ++ x ∷ []) (sym c.bidder-item.is) in
+    c.in_ok-push_award_line.ensures ∙ ap (λ t. t ++ award_line name 0 0) c.loop-bidder.invariant
+    ∙ append_assoc old (nothing_lines (take k names)) (award_line name 0 0)
     ∙ ap (λ t. old ++ t) (sym (ap nothing_lines step ∙ nothing-lines-more (take k names) name))

@@ -8,13 +8,16 @@ use Rattle.tb_host.proofs.BookLemmas.{ReadsLine-found, HasNoLine-unread, HasNoLi
 use Rattle.tb_host.proofs.book.next_book_line.Goals as goal
 
 -- the fault has the line's number
-line_is : (line number : ℕ) → ◌≡◌ {A = Result BookLine BookFault} (Err (fault.BadLine number)) (Err (fault.BadLine line)) → line ≡ number
+line_is : (line number : ℕ)
+    → ◌≡◌ {A = Result BookLine BookFault} (Err (fault.BadLine number)) (Err (fault.BadLine line))
+    → line ≡ number
 line_is line number same = (cc)
 
 pub returns-in-Some-clause-line : goal.returns-in-Some-clause-line
 returns-in-Some-clause-line g c = λ text is.
     let found = (rw c.in-Line.is at c.in_ok-next_line.ensures.finds) text is in
-    ReadsLine-found text (current c.next_line.new.self) _ c.in-Some.line found (rw c.line.ensures at c.in-Some.ensures.read)
+    ReadsLine-found text (current c.next_line.new.self) _ c.in-Some.line found
+    (rw c.line.ensures at c.in-Some.ensures.read)
 
 pub returns-in-None-clause-bad : goal.returns-in-None-clause-bad
 returns-in-None-clause-bad g c = λ line bad. (
@@ -25,7 +28,19 @@ returns-in-None-clause-bad g c = λ line bad. (
 )
 
 pub returns-in-End-clause-bad : goal.returns-in-End-clause-bad
-returns-in-End-clause-bad g c = λ line bad. (line_is line _ bad, λ text is. HasNoLine-end text (current c.next_line.new.self) (ahead c.next_line.new.self (g.I.Source.source c.next_line.new.input)) ((rw c.in-End.is at c.in_ok-next_line.ensures.finds) text is))
+returns-in-End-clause-bad g c =
+    λ line bad. (
+      line_is line _ bad,
+      λ text is. HasNoLine-end text (current c.next_line.new.self)
+          (ahead c.next_line.new.self (g.I.Source.source c.next_line.new.input))
+          ((rw c.in-End.is at c.in_ok-next_line.ensures.finds) text is),
+    )
 
 pub returns-in-TooLong-clause-bad : goal.returns-in-TooLong-clause-bad
-returns-in-TooLong-clause-bad g c = λ line bad. (line_is line _ bad, λ text is. HasNoLine-long text (current c.next_line.new.self) (ahead c.next_line.new.self (g.I.Source.source c.next_line.new.input)) ((rw c.in-TooLong.is at c.in_ok-next_line.ensures.finds) text is))
+returns-in-TooLong-clause-bad g c =
+    λ line bad. (
+      line_is line _ bad,
+      λ text is. HasNoLine-long text (current c.next_line.new.self)
+          (ahead c.next_line.new.self (g.I.Source.source c.next_line.new.input))
+          ((rw c.in-TooLong.is at c.in_ok-next_line.ensures.finds) text is),
+    )

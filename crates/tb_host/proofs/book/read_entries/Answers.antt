@@ -6,7 +6,8 @@ use Rattle.tb_host.specs.BookReading.{EndsEntries, StopsEntries}
 use Rattle.tb_host.specs.Lines.{ahead}
 use Rattle.tb_host.specs.declared.book.BookFault.TheVariants as fault
 use Rattle.tb_host.specs.declared.book_line.Offering.{Offering}
-use Rattle.tb_host.proofs.ReadLemmas.{Adds-names, Adds-size, EndsEntries-here, HasEntries-more, HasEntries-start, StopsEntries-full, StopsEntries-here, StopsEntries-unread, wrong_entry, wrong_offering}
+use Rattle.tb_host.proofs.ReadLemmas.{Adds-names, Adds-size, EndsEntries-here, HasEntries-more, HasEntries-start, StopsEntries-full, StopsEntries-here, StopsEntries-unread, some-line, wrong_entry, wrong_offering}
+use Rattle.tb_host.proofs.ReadsLemmas.{ReadsNoMore-start, ReadsNoMore-then}
 use Rattle.tb_host.proofs.book.read_entries.Goals as goal
 
 pub loop-read-init : goal.loop-read-init
@@ -17,23 +18,39 @@ loop-read-init g c = record {
   has = HasEntries-start c.args.book.now.offering (ahead c.args.reader.now (g.I.Source.source c.args.input.now));
   size = refl;
   few = omega arith;
-  count = record { never_falls = omega arith; bounded = λ low. low };
+  reads = λ text is. ReadsNoMore-start (g.I.Source.source c.args.input.now).reads
+      (ahead c.args.reader.now (g.I.Source.source c.args.input.now)) text is;
+  no_fault = refl;
 }
 
 pub loop-read-preserved : goal.loop-read-preserved
 loop-read-preserved g c =
     let so_far = c.loop-read.invariant in
     let more = c.in_ok-add_entry-in-Entry.ensures.added so_far.book so_far.tally in
-    let adds : Adds c.args.book.now.offering so_far.book c.in-Entry.entry more.0 = subst (λ (o : Offering). Adds o so_far.book c.in-Entry.entry more.0) so_far.same more.1 in
+    let adds : Adds c.args.book.now.offering so_far.book c.in-Entry.entry more.0 =
+    subst (λ (o : Offering). Adds o so_far.book c.in-Entry.entry more.0) so_far.same more.1 in
     record {
       book = more.0;
       same = c.add_entry.ensures.offering ∙ so_far.same;
       tally = more.2;
-      has = λ text is. HasEntries-more c.loop-read.read c.args.book.now.offering so_far.book more.0 c.in-Entry.entry (ahead c.loop-read.reader (g.I.Source.source c.loop-read.input)) (ahead c.next_book_line.new.reader (g.I.Source.source c.next_book_line.new.input)) text (so_far.has text is)
+      has = λ text is. HasEntries-more c.loop-read.read c.args.book.now.offering so_far.book more.0 c.in-Entry.entry
+          (ahead c.loop-read.reader (g.I.Source.source c.loop-read.input))
+          (ahead c.next_book_line.new.reader (g.I.Source.source c.next_book_line.new.input)) text (so_far.has text is)
           (rw c.in-Entry.is at c.in_ok-entry.ensures.line) adds;
       size = omega (arith, Adds-size c.args.book.now.offering so_far.book more.0 c.in-Entry.entry adds, so_far.size);
-      few = omega (arith, Adds-size c.args.book.now.offering so_far.book more.0 c.in-Entry.entry adds, Adds-names c.args.book.now.offering so_far.book more.0 c.in-Entry.entry adds, so_far.few);
-      count = record { never_falls = omega (arith, so_far.count.never_falls, c.next_book_line.ensures.count.never_falls); bounded = λ low. c.next_book_line.ensures.count.bounded (so_far.count.bounded low) };
+      few = omega (
+        arith,
+        Adds-size c.args.book.now.offering so_far.book more.0 c.in-Entry.entry adds,
+        Adds-names
+            c.args.book.now.offering so_far.book more.0 c.in-Entry.entry adds,
+        so_far.few,
+      );
+      reads = λ text is. ReadsNoMore-then (g.I.Source.source c.args.input.now).reads
+          (g.I.Source.source c.loop-read.input).reads (g.I.Source.source c.next_book_line.new.input).reads
+          (ahead c.loop-read.reader (g.I.Source.source c.loop-read.input))
+          (ahead c.next_book_line.new.reader (g.I.Source.source c.next_book_line.new.input)) text (so_far.reads text is)
+          c.in_ok-entry.ensures.reads (some-line _ _ c.in_ok-entry.field-0 c.in_ok-entry.ensures.line);
+      no_fault = c.in_ok-entry.ensures.no_fault ∙ so_far.no_fault;
     }
 
 pub returns-in_err-entry-clause-bad : goal.returns-in_err-entry-clause-bad
@@ -41,20 +58,28 @@ returns-in_err-entry-clause-bad g c =
     let p = err_from_is_err_and c.from_residual.result c.from_residual.ensures.1 in
     rw (p.1, p.2) (λ line bad text is.
     let so_far = c.loop-read.invariant in
-    let none = c.in_err-entry.ensures.bad line (let same : c.in_err-entry.field-0.0 ≡ fault.BadLine line = (cc) in ap Err same) in
+    let none = c.in_err-entry.ensures.bad line
+    (let same : c.in_err-entry.field-0.0 ≡ fault.BadLine line = (cc) in ap Err same) in
     subst (λ (n : ℕ). StopsEntries n c.args.book.now.offering text) (sym none.0)
-    (StopsEntries-unread c.loop-read.read c.args.book.now.offering so_far.book (ahead c.loop-read.reader (g.I.Source.source c.loop-read.input)) text (so_far.has text is) none.1))
+    (StopsEntries-unread c.loop-read.read c.args.book.now.offering so_far.book
+    (ahead c.loop-read.reader (g.I.Source.source c.loop-read.input)) text (so_far.has text is) none.1 (omega arith)))
 
 pub returns-in_err-add_entry-in-Entry-clause-bad : goal.returns-in_err-add_entry-in-Entry-clause-bad
 returns-in_err-add_entry-in-Entry-clause-bad g c =
-    let p = err_from_is_err_and c.from_residual-in_err-add_entry-in-Entry.result c.from_residual-in_err-add_entry-in-Entry.ensures.1 in
+    let p = err_from_is_err_and c.from_residual-in_err-add_entry-in-Entry.result
+    c.from_residual-in_err-add_entry-in-Entry.ensures.1 in
     rw (p.1, p.2) (λ line bad text is.
     let so_far = c.loop-read.invariant in
-    let none = c.in_err-add_entry-in-Entry.ensures.bad line (let same : c.in_err-add_entry-in-Entry.field-0.0 ≡ fault.BadLine line = (cc) in ap Err same) in
+    let none = c.in_err-add_entry-in-Entry.ensures.bad line
+    (let same : c.in_err-add_entry-in-Entry.field-0.0 ≡ fault.BadLine line = (cc) in ap Err same) in
     subst (λ (n : ℕ). StopsEntries n c.args.book.now.offering text) (sym none.0)
-    (StopsEntries-here c.loop-read.read c.args.book.now.offering so_far.book _ (ahead c.loop-read.reader (g.I.Source.source c.loop-read.input)) (ahead c.next_book_line.new.reader (g.I.Source.source c.next_book_line.new.input)) text (so_far.has text is)
+    (StopsEntries-here c.loop-read.read c.args.book.now.offering so_far.book _
+    (ahead c.loop-read.reader (g.I.Source.source c.loop-read.input))
+    (ahead c.next_book_line.new.reader (g.I.Source.source c.next_book_line.new.input)) text (so_far.has text is)
     (rw c.in-Entry.is at c.in_ok-entry.ensures.line)
-    (wrong_entry c.args.book.now.offering so_far.book c.in-Entry.entry (λ new adds. none.1 so_far.book so_far.tally new (subst (λ (o : Offering). Adds o so_far.book c.in-Entry.entry new) (sym so_far.same) adds)))))
+    (wrong_entry c.args.book.now.offering so_far.book c.in-Entry.entry
+    (λ new adds. none.1 so_far.book so_far.tally new
+    (subst (λ (o : Offering). Adds o so_far.book c.in-Entry.entry new) (sym so_far.same) adds))) (omega arith)))
 
 pub returns-in-End-clause-book : goal.returns-in-End-clause-book
 returns-in-End-clause-book g c =
@@ -63,22 +88,40 @@ returns-in-End-clause-book g c =
       book = so_far.book;
       tally = so_far.tally;
       few = omega (arith, so_far.size);
-      ends = λ text is. subst (λ (o : Offering). EndsEntries o so_far.book text) (sym so_far.same)
-          (EndsEntries-here c.loop-read.read c.args.book.now.offering so_far.book (ahead c.loop-read.reader (g.I.Source.source c.loop-read.input)) (ahead c.next_book_line.new.reader (g.I.Source.source c.next_book_line.new.input)) text (so_far.has text is)
+      ends = λ text is. subst (λ (o : Offering). EndsEntries o so_far.book
+          (ahead c.next_book_line.new.reader (g.I.Source.source c.next_book_line.new.input)) text) (sym so_far.same)
+          (EndsEntries-here c.loop-read.read c.args.book.now.offering so_far.book
+          (ahead c.loop-read.reader (g.I.Source.source c.loop-read.input))
+          (ahead c.next_book_line.new.reader (g.I.Source.source c.next_book_line.new.input)) text (so_far.has text is)
           (rw c.in-End.is at c.in_ok-entry.ensures.line) (omega arith));
     }
+
+pub returns-in-End-clause-reads : goal.returns-in-End-clause-reads
+returns-in-End-clause-reads g c = λ text is.
+    let so_far = c.loop-read.invariant in
+    ReadsNoMore-then (g.I.Source.source c.args.input.now).reads (g.I.Source.source c.loop-read.input).reads
+    (g.I.Source.source c.next_book_line.new.input).reads
+    (ahead c.loop-read.reader (g.I.Source.source c.loop-read.input))
+    (ahead c.next_book_line.new.reader (g.I.Source.source c.next_book_line.new.input)) text (so_far.reads text is)
+    c.in_ok-entry.ensures.reads (some-line _ _ c.in_ok-entry.field-0 c.in_ok-entry.ensures.line)
 
 pub returns-in-Offering-clause-bad : goal.returns-in-Offering-clause-bad
 returns-in-Offering-clause-bad g c = λ line bad text is.
     let so_far = c.loop-read.invariant in
-    let number : line ≡ c.loop-read.read + 1 = (let same : fault.BadLine (c.loop-read.read + 1) ≡ fault.BadLine line = (cc) in cc) in
+    let number : line ≡ c.loop-read.read + 1 =
+    (let same : fault.BadLine (c.loop-read.read + 1) ≡ fault.BadLine line = (cc) in cc) in
     subst (λ (n : ℕ). StopsEntries n c.args.book.now.offering text) (sym number)
-    (StopsEntries-here c.loop-read.read c.args.book.now.offering so_far.book _ (ahead c.loop-read.reader (g.I.Source.source c.loop-read.input)) (ahead c.next_book_line.new.reader (g.I.Source.source c.next_book_line.new.input)) text (so_far.has text is)
-    (rw c.in-Offering.is at c.in_ok-entry.ensures.line) (wrong_offering c.args.book.now.offering so_far.book _))
+    (StopsEntries-here c.loop-read.read c.args.book.now.offering so_far.book _
+    (ahead c.loop-read.reader (g.I.Source.source c.loop-read.input))
+    (ahead c.next_book_line.new.reader (g.I.Source.source c.next_book_line.new.input)) text (so_far.has text is)
+    (rw c.in-Offering.is at c.in_ok-entry.ensures.line) (wrong_offering c.args.book.now.offering so_far.book _)
+    (omega arith))
 
 pub returns-clause-bad : goal.returns-clause-bad
 returns-clause-bad g c = λ line bad text is.
     let so_far = c.loop-read.invariant in
     let number : line ≡ 1000001 = (let same : fault.BadLine 1000001 ≡ fault.BadLine line = (cc) in cc) in
-    subst (λ (n : ℕ). StopsEntries n c.args.book.now.offering text) (let whole : c.loop-read.read + 1 ≡ line = omega (arith, number) in whole)
-    (StopsEntries-full c.loop-read.read c.args.book.now.offering so_far.book (ahead c.loop-read.reader (g.I.Source.source c.loop-read.input)) text (so_far.has text is) (omega arith))
+    subst (λ (n : ℕ). StopsEntries n c.args.book.now.offering text)
+    (let whole : c.loop-read.read + 1 ≡ line = omega (arith, number) in whole)
+    (StopsEntries-full c.loop-read.read c.args.book.now.offering so_far.book
+    (ahead c.loop-read.reader (g.I.Source.source c.loop-read.input)) text (so_far.has text is) (omega arith))

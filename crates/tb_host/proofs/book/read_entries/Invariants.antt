@@ -2,7 +2,9 @@ use Rattle.tb_host.specs.Lines.{ahead}
 use Rattle.tb_host.proofs.ReadLemmas.{SoFar}
 use Rattle.tb_host.proofs.book.read_entries.Given as goal
 
+-- the entries of the lines so far are kept
 abbrev pub invariant-loop-read : goal.invariant-loop-read
 invariant-loop-read g l =
     let source = g.I.Source.source in
-    SoFar l.read l.fn.book.offering l.book (ahead l.fn.reader (source l.fn.input)) (ahead l.reader (source l.input)) (source l.fn.input).faults (source l.input).faults
+    SoFar l.read l.fn.book.offering l.book (ahead l.fn.reader (source l.fn.input)) (ahead l.reader (source l.input))
+    (source l.fn.input) (source l.input)

@@ -8,8 +8,10 @@ use Rattle.tb_host.proofs.fields.first_field.Goals as goal
 
 pub returns-in-Some : goal.returns-in-Some
 returns-in-Some c =
-    let cut = split_once_first 32 c.args.text.now (Some (c.in-Some.first, c.in-Some.others)) c.in-Some.ensures.cases (lit< tt) in
+    let cut = split_once_first 32 c.args.text.now (Some (c.in-Some.first, c.in-Some.others)) c.in-Some.ensures.cases
+    (lit< tt) in
     rw (cut.1, cut.2) (slice_split_first is_blank c.args.text.now 0 cut.0)
 
 pub returns-in-None : goal.returns-in-None
-returns-in-None c = fields-whole c.args.text.now (split_once_first 32 c.args.text.now None c.in-None.ensures.cases (lit< tt))
+returns-in-None c = fields-whole c.args.text.now
+    (split_once_first 32 c.args.text.now None c.in-None.ensures.cases (lit< tt))

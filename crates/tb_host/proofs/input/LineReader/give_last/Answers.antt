@@ -6,7 +6,7 @@ use Rattle.tb_host.proofs.input.LineReader.give_last.Goals as goal
 pub returns : goal.returns
 returns c =
     let size = ap length c.unread-count.ensures in
-    GaveLast-line c.fits.result c.args.self.now _
+    GaveLast-line c.line_or_too_long.result c.args.self.now _
     (gave_last-line c.args.self.now.text.items c.args.self.now.at _ size c.requires c.if-count-eq0.false)
     (gave_last-rest c.args.self.now.text.items c.args.self.now.at _ size)
-    (c.fits.ensures _ (gave_last-size c.args.self.now.text.items c.args.self.now.at _ size))
+    (c.line_or_too_long.ensures _ (gave_last-size c.args.self.now.text.items c.args.self.now.at _ size))

@@ -1,13 +1,15 @@
 use Rattle.std.proofs.Common.{◌≡◌, ◌-◌, length}
-use Rattle.tb_link.specs.Counts.{NeverFalls}
 use Rattle.tb_host.specs.Lines.{unread, ahead}
+use Rattle.tb_host.proofs.ReadsLemmas.{ReadsForLine}
 use Rattle.tb_host.proofs.input.LineReader.next_line.Given as goal
 
--- nothing was given so far
+-- nothing was given so far, and each read gave some bytes
 abbrev pub invariant-loop-end : goal.invariant-loop-end
 invariant-loop-end g l =
     let source = g.I.Source.source in
-    (ahead l.self (source l.input) ≡ ahead l.fn.self (source l.fn.input)) × NeverFalls (source l.fn.input).faults (source l.input).faults
+    (ahead l.self (source l.input) ≡ ahead l.fn.self (source l.fn.input))
+    × ReadsForLine (source l.fn.input) (source l.input) (unread l.self)
 
+-- bytes that a line may still have
 abbrev pub decreases-loop-end : goal.decreases-loop-end
 decreases-loop-end g l = 8194 - length (unread l.self)

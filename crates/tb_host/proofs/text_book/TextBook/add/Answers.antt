@@ -14,15 +14,20 @@ returns-in_ok-number-in-Bid-clause-added c =
     let number = c.in_ok-number-in-Bid.number in
     let names = c.number_of.new.self.bidders.keys in
     IfOk-weaker c.add_bid.result
-    (λ _. (book : Book) → IsTally book c.number_of.new.self → IsOneWay book.entries number bid.rate × IsPriced c.number_of.new.self.offering bid.rate × IsTally (with_entry book number (entry.Bid bid)) c.add_bid.new.self)
-    (λ _. (book : Book) → IsTally book c.args.self.now → (new : Book) × Adds c.args.self.now.offering book c.args.entry new × IsTally new c.add_bid.new.self)
+    (λ _. (book : Book) → IsTally book c.number_of.new.self → IsOneWay book.entries number bid.rate
+    × IsPriced c.number_of.new.self.offering bid.rate
+    × IsTally (with_entry book number (entry.Bid bid)) c.add_bid.new.self)
+    (λ _. (book : Book) → IsTally book c.args.self.now → (new : Book)
+    × Adds c.args.self.now.offering book c.args.entry new × IsTally new c.add_bid.new.self)
     (λ _ added book tally.
     let numbered = c.in_ok-number-in-Bid.ensures.numbered book tally in
     let between : Book = record { names = c.number_of.new.self.bidders.keys; entries = book.entries } in
     let more = added between numbered.1 in
-    let priced : IsPriced c.args.self.now.offering bid.rate = subst (λ (o : Offering). IsPriced o bid.rate) c.in_ok-number-in-Bid.ensures.offering more.1 in (
+    let priced : IsPriced c.args.self.now.offering bid.rate =
+    subst (λ (o : Offering). IsPriced o bid.rate) c.in_ok-number-in-Bid.ensures.offering more.1 in (
       with_entry between number (entry.Bid bid),
-      subst (λ (e : Entry). Adds c.args.self.now.offering book e (with_entry between number (entry.Bid bid))) (sym c.in-Bid.is)
+      subst (λ (e : Entry). Adds c.args.self.now.offering book e (with_entry between number (entry.Bid bid)))
+          (sym c.in-Bid.is)
           (adds-with c.args.self.now.offering book names number (entry.Bid bid) numbered.0 (more.0, priced)),
       more.2,
     ))
@@ -36,7 +41,11 @@ returns-in_ok-number-in-Bid-clause-bad c = λ bad book tally new adds.
     let between : Book = record { names = c.number_of.new.self.bidders.keys; entries = book.entries } in
     let not = c.add_bid.ensures.bad bad between numbered.1 in
     adds-not c.args.self.now.offering book c.number_of.new.self.bidders.keys number (entry.Bid bid) numbered.0
-    (λ follows. not (follows.0, subst (λ (o : Offering). IsPriced o bid.rate) (sym c.in_ok-number-in-Bid.ensures.offering) follows.1)) new
+    (λ follows. not (
+      follows.0,
+      subst (λ (o : Offering). IsPriced o bid.rate)
+          (sym c.in_ok-number-in-Bid.ensures.offering) follows.1,
+    )) new
     (subst (λ (e : Entry). Adds c.args.self.now.offering book e new) c.in-Bid.is adds)
 
 pub returns-in_ok-number-in-Report-clause-added : goal.returns-in_ok-number-in-Report-clause-added
@@ -46,7 +55,9 @@ returns-in_ok-number-in-Report-clause-added c = λ book tally.
     let numbered = c.in_ok-number-in-Report.ensures.numbered book tally in
     let between : Book = record { names = c.number_of-in-Report.new.self.bidders.keys; entries = book.entries } in (
       with_entry between number (entry.Report report),
-      subst (λ (e : Entry). Adds c.args.self.now.offering book e (with_entry between number (entry.Report report))) (sym c.in-Report.is)
-          (adds-with c.args.self.now.offering book c.number_of-in-Report.new.self.bidders.keys number (entry.Report report) numbered.0 tt),
+      subst (λ (e : Entry). Adds c.args.self.now.offering book e (with_entry between number (entry.Report report)))
+          (sym c.in-Report.is)
+          (adds-with c.args.self.now.offering book c.number_of-in-Report.new.self.bidders.keys number
+          (entry.Report report) numbered.0 tt),
       c.add_report.ensures.added between numbered.1,
     )

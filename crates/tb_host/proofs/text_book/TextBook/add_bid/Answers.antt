@@ -12,14 +12,27 @@ use Rattle.tb_host.proofs.text_book.TextBook.add_bid.Goals as goal
 pub with_bid-requires : goal.with_bid-requires
 with_bid-requires c =
     let kept = c.requires.tally in
-    let is_way : IsWayOf kept.0.entries c.args.number c.index.result.now = subst (IsWayOf kept.0.entries c.args.number) (sym c.index.ensures) (kept.1.ways c.args.number c.index.result.now kept.2) in
-    omega (arith, is_way.sum, noncompetitive_of-le kept.0.entries c.args.number, kept.1.noncompetitive, kept.1.bounded, kept.3, c.requires.amount)
+    let is_way : IsWayOf kept.0.entries c.args.number c.index.result.now =
+    subst (IsWayOf kept.0.entries c.args.number) (sym c.index.ensures)
+    (kept.1.ways c.args.number c.index.result.now kept.2) in
+    omega (
+      arith,
+      is_way.sum,
+      noncompetitive_of-le kept.0.entries c.args.number,
+      kept.1.noncompetitive,
+      kept.1.bounded,
+      kept.3,
+      c.requires.amount,
+    )
 
 pub returns-in_ok-push_line-in-Some-rate-clause-added : goal.returns-in_ok-push_line-in-Some-rate-clause-added
 returns-in_ok-push_line-in-Some-rate-clause-added c = λ book tally.
     let kept = c.requires.tally in
-    let below : c.args.number < length book.names = omega (arith, kept.2, ap length kept.1.names, ap length tally.names) in
-    let is_way : IsWayOf book.entries c.args.number c.index.result.now = subst (IsWayOf book.entries c.args.number) (sym c.index.ensures) (tally.ways c.args.number c.index.result.now below) in
+    let below : c.args.number < length book.names =
+    omega (arith, kept.2, ap length kept.1.names, ap length tally.names) in
+    let is_way : IsWayOf book.entries c.args.number c.index.result.now =
+    subst (IsWayOf book.entries c.args.number) (sym c.index.ensures)
+    (tally.ways c.args.number c.index.result.now below) in
     let follows = c.in-Some.ensures book.entries c.args.number is_way in
     let priced = c.if-has_price.ensures.0 refl in
     let days = c.args.self.now.offering.days.count in (
@@ -29,13 +42,23 @@ returns-in_ok-push_line-in-Some-rate-clause-added c = λ book tally.
         names = tally.names;
         known = known-more (length book.names) book.entries c.args.number (entry.Bid c.args.bid.now) tally.known below;
         positions_size = tally.positions_size;
-        positions = positions-bid c.args.self.now.positions.items book.entries c.args.number c.args.bid.now (length book.names) tally.positions;
+        positions = positions-bid c.args.self.now.positions.items book.entries c.args.number c.args.bid.now
+            (length book.names) tally.positions;
         ways_size = omega (arith, tally.ways_size, length-set c.args.self.now.ways.items c.args.number c.in-Some.way);
-        ways = ways-set c.args.self.now.ways.items book.entries c.args.number (entry.Bid c.args.bid.now) c.in-Some.way (length book.names) (omega (arith, below, tally.ways_size)) tally.ways follows.1;
-        lines = subst (AreLinesOf days (with_entry book c.args.number (entry.Bid c.args.bid.now))) (sym c.in_ok-push_line-in-Some-rate.ensures)
-            (lines-more days book c.args.number c.args.bid.now c.in-Some-rate.rate c.args.self.now.lines.items c.in-Some-rate.is below
-            (record { most = c.requires.amount; priced = subst (λ (r : Option Rate). IsPriced c.args.self.now.offering r) c.in-Some-rate.is priced }) tally.lines);
-        noncompetitive = tally.noncompetitive ∙ sym (noncompetitive_in-more book.entries c.args.number (entry.Bid c.args.bid.now) ∙ ap (λ (r : Option Rate). noncompetitive_in book.entries + without_rate r c.args.bid.now.amount.value) c.in-Some-rate.is ∙ omega arith);
+        ways = ways-set c.args.self.now.ways.items book.entries c.args.number (entry.Bid c.args.bid.now) c.in-Some.way
+            (length book.names) (omega (arith, below, tally.ways_size)) tally.ways follows.1;
+        lines = subst (AreLinesOf days (with_entry book c.args.number (entry.Bid c.args.bid.now)))
+            (sym c.in_ok-push_line-in-Some-rate.ensures)
+            (lines-more days book c.args.number c.args.bid.now c.in-Some-rate.rate c.args.self.now.lines.items
+            c.in-Some-rate.is below
+            (record {
+              most = c.requires.amount;
+              priced = subst (λ (r : Option Rate). IsPriced c.args.self.now.offering r) c.in-Some-rate.is priced;
+            }) tally.lines);
+        noncompetitive = tally.noncompetitive
+            ∙ sym (noncompetitive_in-more book.entries c.args.number (entry.Bid c.args.bid.now)
+            ∙ ap (λ (r : Option Rate). noncompetitive_in book.entries + without_rate r
+            c.args.bid.now.amount.value) c.in-Some-rate.is ∙ omega arith);
         bounded = omega (arith, tally.bounded, length-more book.entries c.args.number (entry.Bid c.args.bid.now));
       },
     )
@@ -43,8 +66,11 @@ returns-in_ok-push_line-in-Some-rate-clause-added c = λ book tally.
 pub returns-in-None-clause-added : goal.returns-in-None-clause-added
 returns-in-None-clause-added c = λ book tally.
     let kept = c.requires.tally in
-    let below : c.args.number < length book.names = omega (arith, kept.2, ap length kept.1.names, ap length tally.names) in
-    let is_way : IsWayOf book.entries c.args.number c.index.result.now = subst (IsWayOf book.entries c.args.number) (sym c.index.ensures) (tally.ways c.args.number c.index.result.now below) in
+    let below : c.args.number < length book.names =
+    omega (arith, kept.2, ap length kept.1.names, ap length tally.names) in
+    let is_way : IsWayOf book.entries c.args.number c.index.result.now =
+    subst (IsWayOf book.entries c.args.number) (sym c.index.ensures)
+    (tally.ways c.args.number c.index.result.now below) in
     let follows = c.in-Some.ensures book.entries c.args.number is_way in
     let days = c.args.self.now.offering.days.count in (
       follows.0,
@@ -53,11 +79,23 @@ returns-in-None-clause-added c = λ book tally.
         names = tally.names;
         known = known-more (length book.names) book.entries c.args.number (entry.Bid c.args.bid.now) tally.known below;
         positions_size = tally.positions_size;
-        positions = positions-bid c.args.self.now.positions.items book.entries c.args.number c.args.bid.now (length book.names) tally.positions;
+        positions = positions-bid c.args.self.now.positions.items book.entries c.args.number c.args.bid.now
+            (length book.names) tally.positions;
         ways_size = omega (arith, tally.ways_size, length-set c.args.self.now.ways.items c.args.number c.in-Some.way);
-        ways = ways-set c.args.self.now.ways.items book.entries c.args.number (entry.Bid c.args.bid.now) c.in-Some.way (length book.names) (omega (arith, below, tally.ways_size)) tally.ways follows.1;
-        lines = lines-same days book c.args.number (entry.Bid c.args.bid.now) c.args.self.now.lines.items (λ steps. ap (λ (r : Option Rate). at_rate steps r c.args.bid.now.amount.value) c.in-None.is) tally.lines;
-        noncompetitive = ap (λ n. n + c.args.bid.now.amount.value) tally.noncompetitive ∙ sym (noncompetitive_in-more book.entries c.args.number (entry.Bid c.args.bid.now) ∙ ap (λ (r : Option Rate). noncompetitive_in book.entries + without_rate r c.args.bid.now.amount.value) c.in-None.is);
-        bounded = omega (arith, tally.bounded, c.requires.amount, length-more book.entries c.args.number (entry.Bid c.args.bid.now));
+        ways = ways-set c.args.self.now.ways.items book.entries c.args.number (entry.Bid c.args.bid.now) c.in-Some.way
+            (length book.names) (omega (arith, below, tally.ways_size)) tally.ways follows.1;
+        lines = lines-same days book c.args.number (entry.Bid c.args.bid.now) c.args.self.now.lines.items
+            (λ steps. ap (λ (r : Option Rate). at_rate steps r c.args.bid.now.amount.value) c.in-None.is) tally.lines;
+        noncompetitive = ap (λ n. n + c.args.bid.now.amount.value) tally.noncompetitive
+            ∙ sym (noncompetitive_in-more book.entries c.args.number (entry.Bid c.args.bid.now)
+            ∙ ap (λ (r : Option Rate). noncompetitive_in book.entries + without_rate r
+            c.args.bid.now.amount.value) c.in-None.is);
+        bounded = omega (
+          arith,
+          tally.bounded,
+          c.requires.amount,
+          length-more book.entries c.args.number
+              (entry.Bid c.args.bid.now),
+        );
       },
     )

@@ -11,17 +11,42 @@ use Rattle.tb_host.proofs.text_book.TextBook.number_of.Goals as goal
 pub returns-in_ok-push-2-clause-numbered : goal.returns-in_ok-push-2-clause-numbered
 returns-in_ok-push-2-clause-numbered c = λ book tally.
     let keys = c.args.self.now.bidders.keys in
-    let new = c.in_ok-number.ensures.keys ∙ new-name keys c.args.bidder c.in_ok-number.is_new c.if-is_new.true c.in_ok-number.ensures.added in
-    let size : length c.insert_full.new.self.keys ≡ length book.names + 1 = omega (arith, ap length new, length-append keys (c.args.bidder ∷ []), ap length tally.names) in (
-      gets-number-at keys book.names c.insert_full.new.self.keys c.args.bidder c.in_ok-number.number tally.names c.in_ok-number.ensures.index c.in_ok-number.ensures.keys,
+    let new = c.in_ok-number.ensures.keys
+    ∙ new-name keys c.args.bidder c.in_ok-number.is_new c.if-is_new.true c.in_ok-number.ensures.added in
+    let size : length c.insert_full.new.self.keys ≡ length book.names + 1 =
+    omega (arith, ap length new, length-append keys (c.args.bidder ∷ []), ap length tally.names) in (
+      gets-number-at keys book.names c.insert_full.new.self.keys c.args.bidder c.in_ok-number.number tally.names
+          c.in_ok-number.ensures.index c.in_ok-number.ensures.keys,
       record {
         names = refl;
-        known = known-wider (length book.names) (length c.insert_full.new.self.keys) book.entries (omega (arith, size)) tally.known;
-        positions_size = omega (arith, ap length c.in_ok-push.ensures.items, length-append c.args.self.now.positions.items (pos 0 ∷ []), tally.positions_size, size);
-        positions = λ bidder below. subst (λ (ps : List ℤ). get_or ps bidder (pos 0) ≡ position_of book.entries bidder) (sym c.in_ok-push.ensures.items) (positions-new c.args.self.now.positions.items book.entries (length book.names) tally.positions_size tally.known tally.positions bidder (omega (arith, below, size)));
-        ways_size = omega (arith, ap length c.in_ok-push-2.ensures.items, length-append c.args.self.now.ways.items (way.Open ∷ []), tally.ways_size, size);
-        ways = λ bidder d below. subst (λ (ws : List Way). IsWayOf book.entries bidder (get_or ws bidder d)) (sym c.in_ok-push-2.ensures.items) (ways-new c.args.self.now.ways.items book.entries (length book.names) tally.ways_size tally.known tally.ways bidder d (omega (arith, below, size)));
-        lines = lines-new c.args.self.now.offering.days.count book c.insert_full.new.self.keys c.args.self.now.lines.items (omega (arith, size)) tally.lines;
+        known = known-wider (length book.names) (length c.insert_full.new.self.keys) book.entries
+            (omega (arith, size)) tally.known;
+        positions_size = omega (
+          arith,
+          ap length c.in_ok-push.ensures.items,
+          length-append c.args.self.now.positions.items (pos 0 ∷ []),
+          tally.positions_size,
+          size,
+        );
+        positions = λ bidder below. subst
+            (λ (ps : List ℤ). get_or ps bidder (pos 0) ≡ position_of book.entries bidder)
+            (sym c.in_ok-push.ensures.items)
+            (positions-new c.args.self.now.positions.items book.entries (length book.names) tally.positions_size
+            tally.known tally.positions bidder (omega (arith, below, size)));
+        ways_size = omega (
+          arith,
+          ap length c.in_ok-push-2.ensures.items,
+          length-append c.args.self.now.ways.items
+              (way.Open ∷ []),
+          tally.ways_size,
+          size,
+        );
+        ways = λ bidder d below. subst (λ (ws : List Way). IsWayOf book.entries bidder (get_or ws bidder d))
+            (sym c.in_ok-push-2.ensures.items)
+            (ways-new c.args.self.now.ways.items book.entries (length book.names) tally.ways_size tally.known
+            tally.ways bidder d (omega (arith, below, size)));
+        lines = lines-new c.args.self.now.offering.days.count book c.insert_full.new.self.keys
+            c.args.self.now.lines.items (omega (arith, size)) tally.lines;
         noncompetitive = tally.noncompetitive;
         bounded = tally.bounded;
       },
@@ -30,17 +55,22 @@ returns-in_ok-push-2-clause-numbered c = λ book tally.
 pub returns-else-is_new-clause-numbered : goal.returns-else-is_new-clause-numbered
 returns-else-is_new-clause-numbered c = λ book tally.
     let keys = c.args.self.now.bidders.keys in
-    let same = c.in_ok-number.ensures.keys ∙ old-name keys c.args.bidder c.in_ok-number.is_new c.if-is_new.false c.in_ok-number.ensures.added in
-    let size : length c.insert_full.new.self.keys ≡ length book.names = omega (arith, ap length same, ap length tally.names) in (
-      gets-number-at keys book.names c.insert_full.new.self.keys c.args.bidder c.in_ok-number.number tally.names c.in_ok-number.ensures.index c.in_ok-number.ensures.keys,
+    let same = c.in_ok-number.ensures.keys
+    ∙ old-name keys c.args.bidder c.in_ok-number.is_new c.if-is_new.false c.in_ok-number.ensures.added in
+    let size : length c.insert_full.new.self.keys ≡ length book.names =
+    omega (arith, ap length same, ap length tally.names) in (
+      gets-number-at keys book.names c.insert_full.new.self.keys c.args.bidder c.in_ok-number.number tally.names
+          c.in_ok-number.ensures.index c.in_ok-number.ensures.keys,
       record {
         names = refl;
-        known = known-wider (length book.names) (length c.insert_full.new.self.keys) book.entries (omega (arith, size)) tally.known;
+        known = known-wider (length book.names) (length c.insert_full.new.self.keys) book.entries
+            (omega (arith, size)) tally.known;
         positions_size = omega (arith, tally.positions_size, size);
         positions = λ bidder below. tally.positions bidder (omega (arith, size, below));
         ways_size = omega (arith, tally.ways_size, size);
         ways = λ bidder d below. tally.ways bidder d (omega (arith, size, below));
-        lines = lines-new c.args.self.now.offering.days.count book c.insert_full.new.self.keys c.args.self.now.lines.items (omega (arith, size)) tally.lines;
+        lines = lines-new c.args.self.now.offering.days.count book c.insert_full.new.self.keys
+            c.args.self.now.lines.items (omega (arith, size)) tally.lines;
         noncompetitive = tally.noncompetitive;
         bounded = tally.bounded;
       },

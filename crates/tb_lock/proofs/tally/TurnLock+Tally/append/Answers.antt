@@ -1,12 +1,21 @@
-use Rattle.std.proofs.Common.{◌≡◌, length, sym, ◌∙◌, subst, rules}
-use Rattle.tb_lock.specs.Turns.{IsReadBetween}
-use Rattle.tb_lock.proofs.TallyLemmas.{tally-may}
+use Rattle.std.proofs.Common.{◌≡◌, length, sym, ◌∙◌, rules}
+use Rattle.tb_lock.proofs.TallyLemmas.{addition-may}
 use Rattle.tb_lock.proofs.tally.TurnLock+Tally.append.Goals as goal
 
 pub give-requires-clause-may : goal.give-requires-clause-may
 give-requires-clause-may g c =
     let t = c.take-tally.ensures.taken in
-    let add = c.add-kept.ensures in
-    let behind : c.len-before.result ≡ length c.take-tally.result.numbers.items = search rules in
-    tally-may _ c.take-tally.result c.add-kept.new.self c.args.number record { seen = t.seen; faults = t.faults_taken; readings = t.readings; fixed = t.same_fixed ∙ sym t.fixed }
-    (subst (λ k. IsReadBetween c.take-tally.result.clock k) (sym add.same.1) c.counted_on.ensures.rose) add.same.0 c.len-before.result c.add-kept.result behind add.kept add.fault
+    let behind : c.len-before.result ≡ length c.settle.new.self.numbers.items = search rules in
+    addition-may _ c.take-tally.result c.settle.new.self c.add-outcome.new.self c.counted_on.result c.args.number
+    c.len-before.result c.add-outcome.result record {
+      took = record {
+        seen = t.seen;
+        doubt = t.doubt;
+        faults = t.faults_taken;
+        readings = t.readings;
+        fixed = t.same_fixed ∙ sym t.fixed;
+      };
+      settles = c.settle.ensures;
+      read = c.counted_on.ensures;
+      adds = c.add-outcome.ensures;
+    } behind

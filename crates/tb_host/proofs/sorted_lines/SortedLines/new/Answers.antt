@@ -1,7 +1,0 @@
-use Rattle.std.proofs.Common.{rules}
-use Rattle.std.proofs.lemmas.List.Sorted.{answers_always}
-use Rattle.tb_host.proofs.OrderLemmas.{in-order-sorted}
-use Rattle.tb_host.proofs.sorted_lines.SortedLines.new.Goals as goal
-
-pub invariant_of-result : goal.invariant_of-result
-invariant_of-result c = in-order-sorted c.sort_by_key.new.self.items (c.in_ok-sort_by_key.ensures.sorted (λ line. (line.rate.steps, line.bidder)) (answers_always _ _ _ (λ f a r g h. search rules)))
