@@ -24,6 +24,6 @@ loop-place-preserved c =
         | inr more ↦
             (let same : place ≡ k = omega arith in
             let here : line ≡ get_or lines k d = sym c.line-line.ensures ∙ get_or_default lines place line d below ∙ ap (λ n. get_or lines n d) same in
-            subst (λ (l : RateLine). HasPrice l.rate.steps days) here (c.if-not-above_zero.ensures.0 refl))
+            subst (λ (l : RateLine). HasPrice l.rate.steps days) here (c.if-not-above_zero.ensures.price.0 refl))
       ];
     }
