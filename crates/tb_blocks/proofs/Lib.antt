@@ -1,0 +1,10 @@
+pub mod JoinedLemmas
+pub mod BeforeLemmas
+pub mod CountsLemmas
+pub mod CountingLemmas
+pub mod RowsLemmas
+pub mod TailLemmas
+pub mod SureLemmas
+pub mod WayLemmas
+pub mod SearchLemmas
+pub mod OrderLemmas

@@ -1,0 +1,4 @@
+pub mod Sizes
+pub mod Rows
+pub mod Lists
+pub mod Orders

@@ -1,0 +1,70 @@
+//! Where a key belongs in a list that is in the order of its elements' keys.
+ghost use Rattle.std.specs.Prelude.{◌≡◌, ℕ, ◌+◌, ◌<◌, ◌≤◌, length};
+ghost use Rattle.std.specs.Ordering.{is_eq};
+ghost use Rattle.tb_blocks.specs.Orders.{is_below, PartsAt};
+ghost use Rattle.tb_blocks.specs.Rows.{joined, AreFilled};
+
+use crate::rows::Rows;
+
+/// An element that has a key. Ordered lists stand in the order of their elements' keys.
+pub trait Keyed {
+    type Key: Ord + Drop;
+
+    ghost key_of: { Self → Self.Key };
+
+    fn key(&self) -> Self::Key
+        ensures { result ≡ key_of self.now };
+}
+
+// The element stands before the key.
+fn is_below<T: Keyed>(element: &T, key: &T::Key) -> bool
+    ensures { result ≡ is_below T.Key.cmp T.key_of key.now element.now }
+{
+    element.key().cmp(key).is_lt()
+}
+
+/// The element has the key.
+pub fn has_key<T: Keyed>(element: &T, key: &T::Key) -> bool
+    ensures { result ≡ is_eq (T.Key.cmp (T.key_of element.now) key.now) }
+{
+    element.key().cmp(key).is_eq()
+}
+
+/// How many of the elements stand before the key, where those come first.
+pub fn place_in<T: Keyed>(elements: &[T], key: &T::Key) -> usize
+    ensures within { result ≤ length elements.now }
+    ensures place { PartsAt T.Key.cmp T.key_of key.now elements.now result }
+{
+    let (mut low, mut high) = (0, elements.len());
+    while low < high {
+        let middle = low + (high - low) / 2;
+        if is_below(&elements[middle], key) {
+            low = middle + 1;
+        } else {
+            high = middle;
+        }
+    }
+    low
+}
+
+impl<T: Keyed + Drop> Rows<T> {
+    /// How many elements stand before the key, where those come first. The blocks are searched by their first elements, and
+    /// then one of them.
+    pub fn place_of(&self, key: &T::Key) -> usize
+        requires some { 0 < length self.now.blocks.items }
+        requires filled { AreFilled self.now.blocks.items }
+        ensures within { result ≤ length (joined self.now.blocks.items) }
+        ensures place { PartsAt T.Key.cmp T.key_of key.now (joined self.now.blocks.items) result }
+    {
+        let (mut low, mut high) = (0, self.blocks.len());
+        while high - low > 1 {
+            let middle = low + (high - low) / 2;
+            if is_below(self.blocks[middle].at(0), key) {
+                low = middle;
+            } else {
+                high = middle;
+            }
+        }
+        self.start(low) + place_in(self.blocks[low].elements(), key)
+    }
+}
