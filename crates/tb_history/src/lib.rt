@@ -1,5 +1,5 @@
 //! What a history of accepted messages says, the verdict on the next message, and laws of all legal histories. Its only
-//! code are the plain structs that definitions read, and empty functions that carry the laws.
+//! code are the plain structs that definitions read, the list of a reading's lines, and empty functions that carry the laws.
 #![tactic(auto)]
 
 mod accounts;
@@ -7,6 +7,7 @@ mod bids;
 mod conserved;
 mod figures;
 mod histories;
+mod reading;
 mod readings;
 mod roster;
 mod sealed;
@@ -17,6 +18,7 @@ pub use bids::{Bid, Cancel, Report};
 pub use conserved::{movements_tell_holdings, par_is_conserved};
 pub use figures::{awards_come_close, figures_are_the_circulars};
 pub use histories::{histories_grow, payment_days_are_first, same_messages_are_equal};
+pub use reading::{Awards, Bids, Holdings, Listing, Reading, Redemption};
 pub use readings::{AwardLine, BidLine, Figures, HoldingLine, PaidLine, Results, readings_are_one};
 pub use roster::{Enrolment, Registration};
 pub use sealed::replies_are_sealed;
