@@ -1,0 +1,14 @@
+//! The words of the command line: which commands there are, and the words of each. `read_words` alone takes memory.
+#![tactic(auto)]
+
+mod clap_reader;
+mod command;
+mod items;
+mod plain;
+mod shape;
+#[cfg(test)]
+mod tests;
+mod words;
+
+pub use command::{Command, WordsFault};
+pub use words::read_words;

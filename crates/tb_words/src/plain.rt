@@ -1,0 +1,185 @@
+//! The plain reader, which takes no memory: the command that words are.
+ghost use Rattle.std.specs.Prelude.{◌≡◌, ◌≢◌, ◌∷◌, [], map, string_bytes, length, codes, IfSome, IfNone};
+ghost use Rattle.tb_message.specs.declared.query.Query.{Query};
+ghost use Rattle.tb_words.specs.declared.command.Command.{Command};
+ghost use Rattle.tb_words.specs.Items.{Text, items_of};
+ghost use Rattle.tb_words.specs.Commands.{AreWordsOf, IsQuery, Spells, has_table, name_of, query_words};
+ghost use Rattle.tb_words.specs.Parts.{texts_of};
+
+use crate::command::Command;
+use crate::shape::{
+    Options, Places, caller, has_options_alone, name_under, number_under, places_alone, read_shape,
+};
+use tb_message::Query;
+use tb_terms::Cusip;
+use tb_units::{Ident, read_within};
+
+/// The command that the words are, if they are one.
+pub(crate) fn plain_command(words: &[String]) -> Option<Command>
+    ensures command { IfSome result (λ command. AreWordsOf command (map string_bytes words.now)) }
+    ensures none { IfNone result ((command : Command) → ¬ (AreWordsOf command (map string_bytes words.now))) }
+{
+    let (name, words) = words.split_first()?;
+    read_named(name.as_str(), words)
+}
+
+// The command of this name, with the words behind it.
+fn read_named(name: &str, words: &[String]) -> Option<Command>
+    ensures command { IfSome result (λ command. (name_of command ≡ name.now) × Spells command (items_of (map string_bytes words.now))) }
+    ensures none { IfNone result ((command : Command) → name_of command ≡ name.now → ¬ (Spells command (items_of (map string_bytes words.now)))) }
+{
+    if name == "award" {
+        award(words)
+    } else if name == "run" {
+        run(words)
+    } else if name == "serve" {
+        serve(words)
+    } else if name == "import" {
+        import(words)
+    } else if name == "report" {
+        report(words)
+    } else if name == "trial" {
+        trial(words)
+    } else {
+        None
+    }
+}
+
+fn award(words: &[String]) -> Option<Command>
+    ensures command { IfSome result (λ command. (name_of command ≡ codes "award") × Spells command (items_of (map string_bytes words.now))) }
+    ensures none { IfNone result ((command : Command) → name_of command ≡ codes "award" → ¬ (Spells command (items_of (map string_bytes words.now)))) }
+{
+    match places_alone(words)? {
+        Places::Nothing => Some(Command::Award { full: false }),
+        Places::One(word) if word == "full" => Some(Command::Award { full: true }),
+        _ => None,
+    }
+}
+
+fn run(words: &[String]) -> Option<Command>
+    ensures command { IfSome result (λ command. (name_of command ≡ codes "run") × Spells command (items_of (map string_bytes words.now))) }
+    ensures none { IfNone result ((command : Command) → name_of command ≡ codes "run" → ¬ (Spells command (items_of (map string_bytes words.now)))) }
+{
+    if !has_options_alone(words, Options::Operator) {
+        return None;
+    }
+    let operator = name_under(words, "--op")?;
+    Some(Command::Run { operator })
+}
+
+fn serve(words: &[String]) -> Option<Command>
+    ensures command { IfSome result (λ command. (name_of command ≡ codes "serve") × Spells command (items_of (map string_bytes words.now))) }
+    ensures none { IfNone result ((command : Command) → name_of command ≡ codes "serve" → ¬ (Spells command (items_of (map string_bytes words.now)))) }
+{
+    if !has_options_alone(words, Options::Serving) {
+        return None;
+    }
+    let operator = name_under(words, "--op")?;
+    let port = number_under(words, "--port", 1, 65_535)?;
+    let workers = number_under(words, "--workers", 1, 64)?;
+    let links = number_under(words, "--links", 1, 1_000_000)?;
+    Some(Command::Serve {
+        operator,
+        port: port as u16,
+        workers: workers as u32,
+        links,
+    })
+}
+
+fn import(words: &[String]) -> Option<Command>
+    ensures command { IfSome result (λ command. (name_of command ≡ codes "import") × Spells command (items_of (map string_bytes words.now))) }
+    ensures none { IfNone result ((command : Command) → name_of command ≡ codes "import" → ¬ (Spells command (items_of (map string_bytes words.now)))) }
+{
+    if !has_options_alone(words, Options::Keyed) {
+        return None;
+    }
+    let operator = name_under(words, "--op")?;
+    let key = caller(words)?;
+    Some(Command::Import { operator, key })
+}
+
+fn report(words: &[String]) -> Option<Command>
+    ensures command { IfSome result (λ command. (name_of command ≡ codes "report") × Spells command (items_of (map string_bytes words.now))) }
+    ensures none { IfNone result ((command : Command) → name_of command ≡ codes "report" → ¬ (Spells command (items_of (map string_bytes words.now)))) }
+{
+    let shape = read_shape(words, Options::Keyed)?;
+    let query = asked(shape.places)?;
+    if shape.csv && !is_tabled(&query) {
+        return None;
+    }
+    let operator = name_under(words, "--op")?;
+    let key = caller(words)?;
+    Some(Command::Report {
+        operator,
+        key,
+        query,
+        csv: shape.csv,
+    })
+}
+
+fn trial(words: &[String]) -> Option<Command>
+    ensures command { IfSome result (λ command. (name_of command ≡ codes "trial") × Spells command (items_of (map string_bytes words.now))) }
+    ensures none { IfNone result ((command : Command) → name_of command ≡ codes "trial" → ¬ (Spells command (items_of (map string_bytes words.now)))) }
+{
+    let Places::Two(seed, count) = places_alone(words)? else {
+        return None;
+    };
+    let seed = read_within(seed, 0, u64::MAX)?;
+    let count = read_within(count, 1, 1_000_000)?;
+    Some(Command::Trial { seed, count })
+}
+
+/// Whether a query is also answered by a table.
+pub(crate) fn is_tabled(query: &Query) -> bool
+    ensures { result ≡ has_table query.now }
+{
+    match query {
+        Query::Awards(_) | Query::Holdings => true,
+        Query::Terms(_) | Query::Results(_) | Query::Bids(_) | Query::Redemption(_) => false,
+    }
+}
+
+/// The query that positional words ask.
+pub(crate) fn asked(places: Places<'_>) -> Option<Query>
+    ensures query { IfSome result (λ query. IsQuery query × (texts_of places.entry ≡ query_words query)) }
+    ensures none { IfNone result ((query : Query) → IsQuery query → texts_of places.entry ≢ query_words query) }
+{
+    match places {
+        Places::One(kind) if kind == "holdings" => Some(Query::Holdings),
+        Places::Two(kind, named) if kind == "redemption" => bill(named).map(Query::Redemption),
+        Places::Two(kind, named) => asked_of(kind, Ident::read(named)?),
+        _ => None,
+    }
+}
+
+// The query of this kind on an auction.
+fn asked_of(kind: &str, auction: Ident) -> Option<Query>
+    ensures query { IfSome result (λ query. kind.now ∷ auction ∷ [] ≡ query_words query) }
+    ensures none { IfNone result ((query : Query) → kind.now ≢ codes "redemption" → kind.now ∷ auction ∷ [] ≢ query_words query) }
+{
+    if kind == "terms" {
+        Some(Query::Terms(auction))
+    } else if kind == "results" {
+        Some(Query::Results(auction))
+    } else if kind == "awards" {
+        Some(Query::Awards(auction))
+    } else if kind == "bids" {
+        Some(Query::Bids(auction))
+    } else {
+        None
+    }
+}
+
+// The CUSIP of nine bytes.
+fn bill(text: &str) -> Option<Cusip>
+    ensures bill { IfSome result (λ bill. (bill.bytes ≡ text.now) × (length bill.bytes ≡ 9)) }
+    ensures none { IfNone result (length text.now ≢ 9) }
+{
+    let text = text.as_bytes();
+    if text.len() != 9 {
+        return None;
+    }
+    let mut bytes = [0; 9];
+    bytes.copy_from_slice(text);
+    Some(Cusip { bytes })
+}
