@@ -1,4 +1,5 @@
-pub mod OrderLemmas
 pub mod RateLineLemmas
 pub mod CallerLemmas
-pub mod BookLemmas
+pub mod KeyLemmas
+pub mod BidderLemmas
+pub mod IndexLemmas

@@ -1,2 +1,2 @@
 pub mod Books
-pub mod Selections
+pub mod Indexes

@@ -2,31 +2,40 @@
 ghost use Rattle.std.specs.Prelude.{◌≡◌, ◌+◌, ◌<◌, ◌≤◌, ◌↔◌, [], ◌∷◌, length, slice_index_or, OnOk, IsOk, IfSome, IfNone, IsNone, IsPermutation};
 ghost use Rattle.tb_book.specs.Books.{HasBid, IsInserted, IsTakenOut, IsKept, competitive_of, noncompetitive_of, noncompetitive_in, par_in, most_bid};
 
-use crate::book_line::{
-    BookLine, competitive_par_of, count_competitive, find_bid, noncompetitive_par,
-    noncompetitive_par_of, place_of,
-};
+use crate::bid::Bid;
+use crate::bidder::{Bidder, lower, raise, totals_of};
+use crate::book_line::{BookLine, NO_RATE};
 use std::alloc::Global;
 use std::marker::Model;
 use std::sync::ledger::Ledger;
+use tb_blocks::Ordered;
 use tb_units::{Dollars, Lines, OutOfMemory, RateLine, Steps};
 
 /// The live bids of one auction. Contracts see the list of lines, in order of rate, bidder and number with the
 /// noncompetitive lines last, and the room for more.
 #[derive(Drop)]
 pub struct Book {
-    lines: Vec<BookLine>,
+    lines: Ordered<BookLine>,
+    // The bids of the lines, in order of bidder and number.
+    bids: Ordered<Bid>,
+    // The sums of each bidder, and of all noncompetitive lines.
+    bidders: Ordered<Bidder>,
+    noncompetitive: u128,
+    // So many more lines may be added to each list.
+    spare: usize,
 }
 
 impl Model for Book {
-    ghost use Rattle.std.specs.Prelude.{◌-◌, vec_len, vec_capacity};
-    ghost use Rattle.tb_book.specs.Books.{Bids, AreKept};
+    ghost use Rattle.tb_book.specs.Books.{Bids};
+    ghost use Rattle.tb_book.specs.Indexes.{IsIndexed, HasSpare};
 
     ghost Value = { Bids };
 
-    ghost view = { λ book. record { lines = book.lines.items; spare = vec_capacity book.lines - vec_len book.lines } };
+    ghost view = { λ book. record { lines = book.lines.elements; spare = book.spare } };
 
-    ghost invariant = { λ book. AreKept book.lines.items };
+    ghost invariant = { λ book.
+        IsIndexed book.lines.elements book.bids.elements book.bidders.elements book.noncompetitive
+        × HasSpare book.spare book.lines.spare book.bids.spare book.bidders.spare };
 }
 
 impl Book {
@@ -35,7 +44,11 @@ impl Book {
         ensures { result.lines ≡ [] }
     {
         Book {
-            lines: Vec::new(alloc),
+            lines: Ordered::new(alloc),
+            bids: Ordered::new(alloc),
+            bidders: Ordered::new(alloc),
+            noncompetitive: 0,
+            spare: 0,
         }
     }
 
@@ -48,7 +61,14 @@ impl Book {
         ensures lines { self.new.lines ≡ self.old.lines }
         ensures room { self.old.spare ≤ self.new.spare }
     {
-        self.lines.reserve(more as usize)?;
+        let wanted = more as usize;
+        if wanted <= self.spare {
+            return Ok(());
+        }
+        self.lines.reserve(wanted)?;
+        self.bids.reserve(wanted)?;
+        self.bidders.reserve(wanted)?;
+        self.spare = wanted;
         Ok(())
     }
 
@@ -62,8 +82,16 @@ impl Book {
         ensures kept { IsKept self.new }
         ensures room { self.old.spare ≤ self.new.spare + 1 }
     {
-        let place = place_of(&self.lines, &line);
-        self.lines.insert(place, line).unwrap();
+        self.lines.insert(line);
+        self.bids.insert(Bid::of(&line));
+        raise(
+            &mut self.bidders,
+            line.bidder,
+            line.competitive(),
+            line.noncompetitive(),
+        );
+        self.noncompetitive += line.noncompetitive();
+        self.spare -= 1;
     }
 
     /// Takes out the bidder's line of this number. `None` where there is no such line.
@@ -75,8 +103,16 @@ impl Book {
         ensures kept { IsKept self.new }
         ensures room { self.old.spare ≤ self.new.spare }
     {
-        let place = find_bid(&self.lines, bidder, number)?;
-        Some(self.lines.remove(place))
+        let bid = self.bids.remove(&(bidder, number))?;
+        let line = self.lines.remove(&(bid.rank, (bidder, number))).unwrap();
+        lower(
+            &mut self.bidders,
+            bidder,
+            line.competitive(),
+            line.noncompetitive(),
+        );
+        self.noncompetitive -= line.noncompetitive();
+        Some(line)
     }
 
     /// The sums of the bidder's competitive and of its noncompetitive lines.
@@ -86,13 +122,13 @@ impl Book {
         ensures limited { result.0.value + result.1.value ≤ most_bid }
         ensures kept { IsKept self.now }
     {
-        let competitive = Dollars {
-            value: competitive_par_of(&self.lines, bidder),
-        };
-        let noncompetitive = Dollars {
-            value: noncompetitive_par_of(&self.lines, bidder),
-        };
-        (competitive, noncompetitive)
+        let (competitive, noncompetitive) = totals_of(&self.bidders, bidder);
+        (
+            Dollars { value: competitive },
+            Dollars {
+                value: noncompetitive,
+            },
+        )
     }
 
     /// The sum of all noncompetitive lines.
@@ -102,7 +138,7 @@ impl Book {
         ensures kept { IsKept self.now }
     {
         Dollars {
-            value: noncompetitive_par(&self.lines),
+            value: self.noncompetitive,
         }
     }
 }
@@ -116,7 +152,7 @@ impl Lines for Book {
     ghost cost = { λ _. 1 };
 
     fn lines(&self) -> u64 {
-        count_competitive(&self.lines) as u64
+        self.lines.place_of(&(NO_RATE, (0, 0))) as u64
     }
 
     fn line<L: Ledger>(&self, place: u64, steps: &mut Steps<L>) -> RateLine
@@ -125,7 +161,7 @@ impl Lines for Book {
         ensures steps { steps.new ≡ steps.old + 1 }
     {
         steps.tick();
-        let line = self.lines[place as usize];
+        let line = *self.lines.at(place as usize);
         RateLine {
             rate: line.rate.unwrap(),
             bidder: line.bidder,

@@ -1,39 +1,102 @@
--- The line goes to its place, for which there is room.
-use Rattle.std.proofs.Common.{◌∷◌, subst, sym}
-use Rattle.std.specs.Prelude.{IsPermutation}
-use Rattle.std.proofs.lemmas.List.Sorted.{IsPermutation-insert}
-use Rattle.tb_units.specs.Places.{HasOneMore}
-use Rattle.tb_book.specs.Books.{AreKept}
-use Rattle.tb_book.proofs.BookLemmas.{AreKept-insert, HasOneMore-insert}
+-- The line, its bid and its part of the sums go in, for which there is room.
+use Rattle.std.proofs.Common.{◌+◌, ap, subst, is_some, is_none, arith}
+use Rattle.tb_units.proofs.SumLemmas.{cond-le}
+use Rattle.tb_book.specs.Books.{HasBid}
+use Rattle.tb_book.specs.Indexes.{IsRaised}
+use Rattle.tb_book.proofs.KeyLemmas.{earlier-lines}
+use Rattle.tb_book.proofs.IndexLemmas.{HasBid-key, competitive-le, noncompetitive-le, noncompetitive_in-le, IsIndexed-added, HasOneMore-inserted, IsPermutation-inserted}
 use Rattle.tb_book.proofs.book.Book.add.Goals as goal
+
+pub insert-requires-2-clause-new : goal.insert-requires-2-clause-new
+insert-requires-2-clause-new c =
+    let lines = c.self.inside.lines.elements in
+    let new = rw (← c.self.view_is) at c.requires.new in
+    λ has. new (subst (λ bid. HasBid bid.bidder bid.number lines) c.of.ensures
+    (HasBid-key c.of.result.bidder c.of.result.number lines c.self.inside.bids.elements c.self.invariant.0.bids_are
+    (has.0, has.1.within, has.1.same)))
+
+pub raise-requires-clause-competitive : goal.raise-requires-clause-competitive
+raise-requires-clause-competitive c =
+    let line = c.args.line in
+    let fits = rw (← c.self.view_is) at c.requires.fits in
+    omega (
+      arith,
+      c.competitive.ensures,
+      cond-le (is_some line.rate) line.amount.value,
+      c.self.invariant.0.competitive_are line.bidder,
+      competitive-le line.bidder c.self.inside.lines.elements,
+      fits,
+    )
+
+pub raise-requires-clause-noncompetitive : goal.raise-requires-clause-noncompetitive
+raise-requires-clause-noncompetitive c =
+    let line = c.args.line in
+    let fits = rw (← c.self.view_is) at c.requires.fits in
+    omega (
+      arith,
+      c.noncompetitive.ensures,
+      cond-le (is_none line.rate) line.amount.value,
+      c.self.invariant.0.noncompetitive_are line.bidder,
+      noncompetitive-le line.bidder c.self.inside.lines.elements,
+      fits,
+    )
+
+pub overflow_add-self : goal.overflow_add-self
+overflow_add-self c =
+    let line = c.args.line in
+    let fits = rw (← c.self.view_is) at c.requires.fits in
+    omega (
+      arith,
+      c.noncompetitive-2.ensures,
+      cond-le (is_none line.rate) line.amount.value,
+      c.self.invariant.0.noncompetitive_is,
+      noncompetitive_in-le c.self.inside.lines.elements,
+      fits,
+    )
 
 pub invariant_of-self : goal.invariant_of-self
 invariant_of-self c =
-    let lines = c.self.inside.lines.items in
-    let items = rw c.unwrap.ensures at c.insert.ensures.items in
-    subst AreKept (sym items)
-    (AreKept-insert c.args.line lines c.place_of-place.result c.self.invariant (record {
-      within = rw c.deref.ensures.value at c.place_of-place.ensures.within;
-      point = rw c.deref.ensures.value at c.place_of-place.ensures.place;
-      new = rw (← c.self.view_is) at c.requires.new;
-      fits = rw (← c.self.view_is) at c.requires.fits;
-    }))
+    let line = c.args.line in
+    let bidders = c.self.inside.bidders.elements in
+    let raised = c.raise.new.bidders.elements in
+    let noncompetitive = c.self.inside.noncompetitive in
+    let more = c.insert.new.self.elements in (
+      IsIndexed-added line c.self.inside.lines.elements more c.of.result c.self.inside.bids.elements
+          c.insert-2.new.self.elements bidders raised noncompetitive (noncompetitive + c.noncompetitive-2.result)
+          c.self.invariant.0
+          (record {
+            line_in = c.insert.ensures.inserted;
+            bid_in = c.insert-2.ensures.inserted;
+            bid_is = c.of.ensures;
+            order = earlier-lines more c.insert.ensures.ordered;
+            new = rw (← c.self.view_is) at c.requires.new;
+            fits = rw (← c.self.view_is) at c.requires.fits;
+            apart = c.raise.ensures.apart;
+            competitive = subst (λ amount. IsRaised (λ entry. entry.competitive) line.bidder amount bidders raised)
+                c.competitive.ensures c.raise.ensures.competitive;
+            noncompetitive = subst (λ amount. IsRaised (λ entry. entry.noncompetitive) line.bidder amount bidders raised)
+                c.noncompetitive.ensures c.raise.ensures.noncompetitive;
+          })
+          (ap (λ part. noncompetitive + part) c.noncompetitive-2.ensures),
+      record {
+        of_lines = omega (arith, c.insert.ensures.spare, c.self.invariant.1.of_lines);
+        of_bids = omega (arith, c.insert-2.ensures.spare, c.self.invariant.1.of_bids);
+        of_bidders = omega (arith, c.raise.ensures.room, c.self.invariant.1.of_bidders);
+      },
+    )
 
 pub returns-clause-lines : goal.returns-clause-lines
 returns-clause-lines c =
-    let lines = c.self.inside.lines.items in
-    let items = rw c.unwrap.ensures at c.insert.ensures.items in
+    let lines = c.self.inside.lines.elements in
     rw (← c.self.view_is) (record {
-      among = subst (HasOneMore c.args.line lines) (sym items) (HasOneMore-insert c.args.line lines c.place_of-place.result);
-      order = (invariant_of-self c).order;
+      among = HasOneMore-inserted c.args.line lines c.insert.new.self.elements c.insert.ensures.inserted;
+      order = earlier-lines c.insert.new.self.elements c.insert.ensures.ordered;
     })
 
 pub returns-clause-elements : goal.returns-clause-elements
 returns-clause-elements c =
-    let lines = c.self.inside.lines.items in
-    let items = rw c.unwrap.ensures at c.insert.ensures.items in
-    rw (← c.self.view_is) (subst (IsPermutation (c.args.line ∷ lines)) (sym items)
-    (IsPermutation-insert lines c.place_of-place.result c.args.line))
+    let lines = c.self.inside.lines.elements in
+    rw (← c.self.view_is) (IsPermutation-inserted c.args.line lines c.insert.new.self.elements c.insert.ensures.inserted)
 
 pub returns-clause-kept : goal.returns-clause-kept
-returns-clause-kept c = invariant_of-self c
+returns-clause-kept c = (invariant_of-self c).0.kept

@@ -1,0 +1,9 @@
+pub mod FindLemmas
+pub mod StandingLemmas
+pub mod TiedLemmas
+pub mod HouseLemmas
+pub mod ParLemmas
+pub mod RoomLemmas
+pub mod AnnounceLemmas
+pub mod RowLemmas
+pub mod VerdictLemmas

@@ -1,0 +1,32 @@
+-- The par is no more than that of all bids.
+use Rattle.std.proofs.Common.{arith, is_some, is_none}
+use Rattle.tb_history.specs.declared.bids.Bid.{Bid}
+use Rattle.tb_history.specs.LiveBids.{is_live, is_of}
+use Rattle.tb_core.proofs.StandingLemmas.{par_of-three}
+use Rattle.tb_core.proofs.bidding.noncompetitive_dollars.Goals as goal
+
+pub noncompetitive_par-value-requires : goal.noncompetitive_par-value-requires
+noncompetitive_par-value-requires c =
+    omega (
+      arith,
+      c.requires,
+      par_of-three (is_of c.args.auction.now c.args.bidder.now) (is_live c.args.cancels.now) (λ (bid : Bid). is_none bid.rate) c.args.bids.now,
+    )
+
+pub invariant_of-result : goal.invariant_of-result
+invariant_of-result c =
+    omega (
+      arith,
+      c.requires,
+      c.noncompetitive_par-value.ensures,
+      par_of-three (is_of c.args.auction.now c.args.bidder.now) (is_live c.args.cancels.now) (λ (bid : Bid). is_none bid.rate) c.args.bids.now,
+    )
+
+pub returns-clause-few : goal.returns-clause-few
+returns-clause-few c =
+    omega (
+      arith,
+      c.requires,
+      c.noncompetitive_par-value.ensures,
+      par_of-three (is_of c.args.auction.now c.args.bidder.now) (is_live c.args.cancels.now) (λ (bid : Bid). is_none bid.rate) c.args.bids.now,
+    )

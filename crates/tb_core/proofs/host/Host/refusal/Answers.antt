@@ -1,0 +1,26 @@
+-- The message is of the kind that the arm is for.
+use Rattle.std.proofs.Common.{◌∙◌, sym, ap}
+use Rattle.tb_message.specs.declared.message.Message.{Message}
+use Rattle.tb_terms.specs.Rows.{refusal_in}
+use Rattle.tb_history.specs.Tables.{rows_of}
+use Rattle.tb_core.proofs.host.Host.refusal.Goals as goal
+
+pub returns-in-Announce : goal.returns-in-Announce
+returns-in-Announce c =
+    c.announce.ensures c.args.sender.now c.args.moment
+    ∙ ap (λ (m : Message). refusal_in (rows_of c.args.self.now.history c.args.sender.now c.args.moment m)) (sym c.in-Announce.is)
+
+pub returns-in-Position : goal.returns-in-Position
+returns-in-Position c =
+    c.position.ensures c.in-Position.position
+    ∙ ap (λ (m : Message). refusal_in (rows_of c.args.self.now.history c.args.sender.now c.args.moment m)) (sym c.in-Position.is)
+
+pub returns-in-Publish : goal.returns-in-Publish
+returns-in-Publish c =
+    c.publish.ensures c.args.sender.now
+    ∙ ap (λ (m : Message). refusal_in (rows_of c.args.self.now.history c.args.sender.now c.args.moment m)) (sym c.in-Publish.is)
+
+pub returns-in-Settle : goal.returns-in-Settle
+returns-in-Settle c =
+    c.settle.ensures c.args.sender.now
+    ∙ ap (λ (m : Message). refusal_in (rows_of c.args.self.now.history c.args.sender.now c.args.moment m)) (sym c.in-Settle.is)

@@ -1,0 +1,85 @@
+-- The host as contracts see it, and how its tables are tied to the history.
+use Rattle.std.specs.Prelude.{◌≡◌, ℕ, ◌+◌, ◌≤◌, ◌++◌, List, Option, None}
+use Rattle.std.specs.List.{AllByRecursion}
+use Rattle.tb_units.specs.declared.moment.Moment.{Moment}
+use Rattle.tb_terms.specs.declared.announcement.Announcement.{Announcement}
+use Rattle.tb_terms.specs.Faults.{fault_of}
+use Rattle.tb_message.specs.declared.message.Entry.{Entry}
+use Rattle.tb_message.specs.declared.message.Message.{Message}
+use Rattle.tb_history.specs.Entries.{registered_by, enrolled_by, entered_by, announced_by, published_by, settled_by, redeemed_by, bid_by, cancelled_by, reported_by}
+use Rattle.tb_history.specs.Roster.{registrations, enrolments, holidays, announcements, publications, settlements, redemptions}
+use Rattle.tb_history.specs.LiveBids.{bids, cancels, reports}
+use Rattle.tb_history.specs.Legal.{IsLegal, last_of}
+use Rattle.tb_core.specs.declared.tables.Tables.{Tables}
+use Rattle.tb_core.specs.Auctions.{announced_in}
+use Rattle.tb_core.specs.Listed.{Listed}
+
+-- the history, and how many more messages may be applied
+pub record House : Type 0 where
+  pub history : List Entry
+  pub room : ℕ
+
+-- the history is legal, and each table is what it says
+pub record AreTied (history : List Entry) (tables : Tables) : Type 0 where
+  pub legal : IsLegal history
+  pub last_is : tables.last.seconds ≡ last_of history
+  pub submitters_are : tables.submitters.list ≡ registrations history
+  pub bidders_are : tables.bidders.list ≡ enrolments history
+  pub holidays_are : tables.holidays.list ≡ holidays history
+  pub auctions_are : announced_in tables.auctions.list ≡ announcements history
+  pub bids_are : tables.bids.list ≡ bids history
+  pub cancels_are : tables.cancels.list ≡ cancels history
+  pub reports_are : tables.reports.list ≡ reports history
+  pub published_are : tables.published.list ≡ publications history
+  pub settled_are : tables.settled.list ≡ settlements history
+  pub redeemed_are : tables.redeemed.list ≡ redemptions history
+
+-- so many adds are sure in each table
+pub record HasRoom (room : ℕ) (tables : Tables) : Type 0 where
+  pub submitters : room ≤ tables.submitters.spare
+  pub bidders : room ≤ tables.bidders.spare
+  pub holidays : room ≤ tables.holidays.spare
+  pub auctions : room ≤ tables.auctions.spare
+  pub bids : room ≤ tables.bids.spare
+  pub cancels : room ≤ tables.cancels.spare
+  pub reports : room ≤ tables.reports.spare
+  pub published : room ≤ tables.published.spare
+  pub settled : room ≤ tables.settled.spare
+  pub redeemed : room ≤ tables.redeemed.spare
+
+-- each table is longer by what the message of a sender under a number says
+pub record HasEntered (submitter : List ℕ) (number : ℕ) (message : Message) (old new : Tables) : Type 0 where
+  pub submitters : new.submitters.list ≡ old.submitters.list ++ registered_by message
+  pub bidders : new.bidders.list ≡ old.bidders.list ++ enrolled_by message
+  pub holidays : new.holidays.list ≡ old.holidays.list ++ entered_by message
+  pub auctions : announced_in new.auctions.list ≡ announced_in old.auctions.list ++ announced_by message
+  pub bids : new.bids.list ≡ old.bids.list ++ bid_by submitter number message
+  pub cancels : new.cancels.list ≡ old.cancels.list ++ cancelled_by submitter message
+  pub reports : new.reports.list ≡ old.reports.list ++ reported_by submitter message
+  pub published : new.published.list ≡ old.published.list ++ published_by message
+  pub settled : new.settled.list ≡ old.settled.list ++ settled_by message
+  pub redeemed : new.redeemed.list ≡ old.redeemed.list ++ redeemed_by message
+
+-- each table has the same rows
+pub record AreSame (old new : Tables) : Type 0 where
+  pub last : new.last ≡ old.last
+  pub submitters : new.submitters.list ≡ old.submitters.list
+  pub bidders : new.bidders.list ≡ old.bidders.list
+  pub holidays : new.holidays.list ≡ old.holidays.list
+  pub auctions : new.auctions.list ≡ old.auctions.list
+  pub bids : new.bids.list ≡ old.bids.list
+  pub cancels : new.cancels.list ≡ old.cancels.list
+  pub reports : new.reports.list ≡ old.reports.list
+  pub published : new.published.list ≡ old.published.list
+  pub settled : new.settled.list ≡ old.settled.list
+  pub redeemed : new.redeemed.list ≡ old.redeemed.list
+
+-- an announcement that the message makes is in order
+abbrev pub IsInOrder : Message → Type 0
+IsInOrder message = AllByRecursion (λ (a : Announcement). fault_of a ≡ None) (announced_by message)
+
+-- the host's entries and tables are tied, and so many messages may be applied
+pub record IsHouse (entries : Listed Entry) (tables : Tables) (room : ℕ) : Type 0 where
+  pub tied : AreTied entries.list tables
+  pub roomy : HasRoom room tables
+  pub spare : room ≤ entries.spare
