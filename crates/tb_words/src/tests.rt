@@ -38,17 +38,29 @@ fn both_read<R: AllocGlobal + Abort>(rt: &R, line: &str, inside: bool) {
     assert_eq!(rt; taken, plain, "{line}");
 }
 
+fn root(rt: &impl Abort) -> Ident {
+    name(rt, "root")
+}
+
+fn submitter_key(rt: &impl Abort) -> Key {
+    Key::Submitter(name(rt, "k1"))
+}
+
 #[test]
 fn commands_have_their_values(rt: HostRuntime) {
-    let operator = name(&rt, "root");
-    let key = Key::Submitter(name(&rt, "k1"));
     reads_as(&rt, "award full", Ok(Command::Award { full: true }));
-    reads_as(&rt, "run --op=root", Ok(Command::Run { operator }));
+    reads_as(
+        &rt,
+        "run --op=root",
+        Ok(Command::Run {
+            operator: root(&rt),
+        }),
+    );
     reads_as(
         &rt,
         "serve --port 8080 --op root --links=1 --workers 2",
         Ok(Command::Serve {
-            operator,
+            operator: root(&rt),
             port: 8080,
             workers: 2,
             links: 1,
@@ -57,14 +69,17 @@ fn commands_have_their_values(rt: HostRuntime) {
     reads_as(
         &rt,
         "import --key k1 --op root",
-        Ok(Command::Import { operator, key }),
+        Ok(Command::Import {
+            operator: root(&rt),
+            key: submitter_key(&rt),
+        }),
     );
     reads_as(
         &rt,
         "report holdings --key k1 --op root --csv",
         Ok(Command::Report {
-            operator,
-            key,
+            operator: root(&rt),
+            key: submitter_key(&rt),
             query: Query::Holdings,
             csv: true,
         }),
@@ -73,8 +88,8 @@ fn commands_have_their_values(rt: HostRuntime) {
         &rt,
         "report redemption 912797AB3 --op root --key op:root",
         Ok(Command::Report {
-            operator,
-            key: Key::Operator(operator),
+            operator: root(&rt),
+            key: Key::Operator(root(&rt)),
             query: Query::Redemption(Cusip {
                 bytes: *b"912797AB3",
             }),
