@@ -50,17 +50,20 @@ carried p q xs ys same k d short passes =
     let counted : count (p (get_or xs k d)) ≡ 1 = ap count passes in
     some-part q ys (omega (arith, same, counted, sum_by_more_le (λ x. count (p x)) xs k d short))
 
--- the bidder's bid of a number, and one of a rank
+-- the bidder's bid of a number
 abbrev is_bid : ℕ → ℕ → Bid → Bool
 is_bid bidder number bid = (bid.bidder == bidder) && (bid.number == number)
 
+-- a bid of the same bidder, number and rank
 abbrev is_same : Bid → Bid → Bool
 is_same one bid = (bid.rank == one.rank) && is_bid one.bidder one.number bid
 
+-- a bid of the bidder and the number is the one
 is_bid-from : (bidder number : ℕ) (bid : Bid) → bid.bidder ≡ bidder → bid.number ≡ number → is_bid bidder number bid ≡ true
 is_bid-from bidder number bid one two =
     and_from (bid.bidder == bidder) (bid.number == number) (eq-eqb bid.bidder bidder one) (eq-eqb bid.number number two)
 
+-- and the one has both
 is_bid-parts : (bidder number : ℕ) (bid : Bid) → is_bid bidder number bid ≡ true
     → (bid.bidder ≡ bidder) × (bid.number ≡ number)
 is_bid-parts bidder number bid is =
@@ -205,10 +208,11 @@ cond-both true false amount = refl
 cond-both false true amount = refl
 cond-both false false amount = refl
 
--- what a line counts of a bidder's two kinds
+-- what a line counts of a bidder's competitive lines
 abbrev competitive_part : ℕ → BookLine → ℕ
 competitive_part bidder line = cond ((line.bidder == bidder) && is_some line.rate) line.amount.value 0
 
+-- and of its noncompetitive lines
 abbrev noncompetitive_part : ℕ → BookLine → ℕ
 noncompetitive_part bidder line = cond ((line.bidder == bidder) && is_none line.rate) line.amount.value 0
 
@@ -218,6 +222,7 @@ competitive-le bidder lines =
     sum_by-le-sum_by (competitive_part bidder) (λ line. line.amount.value) lines
     (λ line. cond-le ((line.bidder == bidder) && is_some line.rate) line.amount.value)
 
+-- of the other kind too
 pub noncompetitive-le : (bidder : ℕ) (lines : List BookLine) → noncompetitive_of bidder lines ≤ par_in lines
 noncompetitive-le bidder lines =
     sum_by-le-sum_by (noncompetitive_part bidder) (λ line. line.amount.value) lines
@@ -382,6 +387,7 @@ competitive-part-le line lines rest out =
           (eq-eqb line.bidder line.bidder refl),
     )
 
+-- of the other kind too
 pub noncompetitive-part-le : (line : BookLine) (lines rest : List BookLine) → IsRemoved line lines rest
     → cond (is_none line.rate) line.amount.value 0 ≤ noncompetitive_of line.bidder lines
 noncompetitive-part-le line lines rest out =
@@ -399,12 +405,13 @@ pub noncompetitive_in-part-le : (line : BookLine) (lines rest : List BookLine) �
 noncompetitive_in-part-le line lines rest out =
     omega (arith, sum-removed line lines rest out (λ l. cond (is_none l.rate) l.amount.value 0))
 
--- a line put in is among the lines, and is one of their elements
+-- a line put in is among the lines
 pub HasOneMore-inserted : (line : BookLine) (lines more_lines : List BookLine) → IsInserted line lines more_lines
     → HasOneMore line lines more_lines
 HasOneMore-inserted line lines more_lines put =
     subst (HasOneMore line lines) (sym put.is) (HasOneMore-insert line lines put.place)
 
+-- and the lines are the old ones and the new one, in some order
 pub IsPermutation-inserted : (line : BookLine) (lines more_lines : List BookLine) → IsInserted line lines more_lines
     → IsPermutation (line ∷ lines) more_lines
 IsPermutation-inserted line lines more_lines put =
@@ -415,6 +422,7 @@ pub IsTakenOut-removed : (line : BookLine) (lines rest : List BookLine) → IsRe
 IsTakenOut-removed line lines rest out =
     subst (IsTakenOut line lines) (sym out.is) (IsTakenOut-remove line lines out.place out.within (out.there line))
 
+-- and the old lines are the ones left and it, in some order
 pub IsPermutation-removed : (line : BookLine) (lines rest : List BookLine) → IsRemoved line lines rest
     → IsPermutation lines (line ∷ rest)
 IsPermutation-removed line lines rest out =
@@ -452,6 +460,7 @@ pub record IsTaken (bidder number : ℕ) (line : BookLine) (lines rest : List Bo
   pub line_out : IsRemoved line lines rest
   pub bid_is : bid ≡ bid_of line
 
+-- so say the keys by which both were found
 pub IsTaken-keys : (bidder number : ℕ) (line : BookLine) (lines rest : List BookLine) (bid : Bid)
     → IsRemoved line lines rest
     → ordering_then (nat_cmp bid.bidder bidder) (nat_cmp bid.number number) ≡ Equal

@@ -13,28 +13,31 @@ use Rattle.tb_book.specs.declared.bidder.Bidder.{Bidder}
 use Rattle.tb_book.specs.Books.{IsLower, IsEarlier}
 use Rattle.tb_book.specs.Indexes.{rank_of, AreOfBidders}
 
--- the order of a line's key, and of a bid's
+-- the order of a line's key
 abbrev pub line_order : BookLine → BookLine → Ordering
 line_order one other =
     ordering_then (nat_cmp (rank_of one.rate) (rank_of other.rate))
     (ordering_then (nat_cmp one.bidder other.bidder) (nat_cmp one.number other.number))
 
+-- the order of a bid's key
 abbrev pub bid_order : Bid → Bid → Ordering
 bid_order one other = ordering_then (nat_cmp one.bidder other.bidder) (nat_cmp one.number other.number)
 
--- a number that is less, and one that is equal
+-- a number whose order is less is less
 pub nat-less : (one other : ℕ) → nat_cmp one other ≡ Less → one < other
 nat-less one other is = ranked one other Less (sym is)
 
+-- numbers of which neither is less are equal
 pub nat-equal : (one other : ℕ) → nat_cmp one other ≡ Equal → one ≡ other
 nat-equal one other is = ranked one other Equal (sym is)
 
--- and the order of such
+-- and the other way round
 pub less-nat : (one other : ℕ) → one < other → nat_cmp one other ≡ Less
 less-nat one other below =
     by_ranked (one < other) (one ≡ other) (other < one) (nat_cmp one other) (ranked one other (nat_cmp one other) refl)
     (λ is _. is) (λ _ same. absurd (omega (arith, same, below))) (λ _ above. absurd (omega (arith, above, below)))
 
+-- of equal numbers neither is less
 pub equal-nat : (one other : ℕ) → one ≡ other → nat_cmp one other ≡ Equal
 equal-nat one other same =
     by_ranked (one < other) (one ≡ other) (other < one) (nat_cmp one other) (ranked one other (nat_cmp one other) refl)
@@ -47,15 +50,17 @@ then-less Less second is = inl refl
 then-less Equal second is = inr (refl, is)
 then-less Greater second is = absurd (true≢false (sym (ap is_lt is)))
 
+-- where both together are equal, each is
 pub then-equal : (first second : Ordering) → ordering_then first second ≡ Equal → (first ≡ Equal) × (second ≡ Equal)
 then-equal Less second is = absurd (true≢false (ap is_lt is))
 then-equal Equal second is = (refl, is)
 then-equal Greater second is = absurd (true≢false (ap is_gt is))
 
+-- and where each is, both together are
 pub equal-then : (first second : Ordering) → first ≡ Equal → second ≡ Equal → ordering_then first second ≡ Equal
 equal-then first second one two = ap (λ order. ordering_then order second) one ∙ two
 
--- a bidder and a number that are less, or equal
+-- a bidder and a number whose key is less: the bidder is, or else the number
 pub pair-less : (bidder number other_bidder other_number : ℕ)
     → ordering_then (nat_cmp bidder other_bidder) (nat_cmp number other_number) ≡ Less
     → (bidder < other_bidder) ⊎ ((bidder ≡ other_bidder) × (number < other_number))
@@ -65,6 +70,7 @@ pair-less bidder number other_bidder other_number is =
       | inr both ↦ inr (nat-equal bidder other_bidder both.0, nat-less number other_number both.1)
     ]
 
+-- a bidder and a number of the same key are the same
 pub pair-equal : (bidder number other_bidder other_number : ℕ)
     → ordering_then (nat_cmp bidder other_bidder) (nat_cmp number other_number) ≡ Equal
     → (bidder ≡ other_bidder) × (number ≡ other_number)
@@ -72,6 +78,7 @@ pair-equal bidder number other_bidder other_number is =
     let both = then-equal (nat_cmp bidder other_bidder) (nat_cmp number other_number) is in
     (nat-equal bidder other_bidder both.0, nat-equal number other_number both.1)
 
+-- and the same ones have the same key
 pub equal-pair : (bidder number other_bidder other_number : ℕ)
     → bidder ≡ other_bidder → number ≡ other_number
     → ordering_then (nat_cmp bidder other_bidder) (nat_cmp number other_number) ≡ Equal
@@ -79,13 +86,14 @@ equal-pair bidder number other_bidder other_number one two =
     equal-then (nat_cmp bidder other_bidder) (nat_cmp number other_number)
     (equal-nat bidder other_bidder one) (equal-nat number other_number two)
 
--- a rank that is less is that of a lower rate, and one that is equal of the same
+-- a rank that is less is that of a lower rate
 rank-less : (one other : Option Rate) → rank_of one < rank_of other → IsLower one other
 rank-less (Some one) (Some other) below = below
 rank-less (Some one) None below = tt
 rank-less None (Some other) below = absurd (omega (arith, below, other.in_range))
 rank-less None None below = absurd (omega (arith, below))
 
+-- a rank that is equal is that of the same rate
 rank-equal : (one other : Option Rate) → rank_of one ≡ rank_of other → one ≡ other
 rank-equal (Some one) (Some other) same = ap Some (same_rate one other same)
 rank-equal (Some one) None same = absurd (omega (arith, same, one.in_range))
@@ -116,12 +124,13 @@ pub apart-bidders : (bidders : List Bidder)
 apart-bidders bidders order = λ a b d earlier short same.
     omega (arith, same, nat-less (get_or bidders a d).bidder (get_or bidders b d).bidder (order a b d earlier short))
 
--- a rank below that of a line with no rate is a rate's, and one that isn't below is that of a line with no rate
+-- a rank below that of a line with no rate is a rate's
 pub some-below : (rate : Option Rate) (rest : Ordering) → ¬ (rest ≡ Less) → ordering_then (nat_cmp (rank_of rate) 200000) rest ≡ Less
     → is_some rate ≡ true
 some-below (Some rate) rest never is = refl
 some-below None rest never is = absurd (never is)
 
+-- and one that isn't below is that of a line with no rate
 pub none-behind : (rate : Option Rate) (rest : Ordering) → ¬ (ordering_then (nat_cmp (rank_of rate) 200000) rest ≡ Less)
     → is_some rate ≡ false
 none-behind (Some rate) rest not_below =

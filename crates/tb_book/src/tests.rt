@@ -203,7 +203,7 @@ fn want_of_memory_leaves_the_lines(rt: HostRuntime) -> Result<(), Fail> {
     let mut book = book_of(rt.alloc(), &[bid])?;
     assert_eq!(rt; book.reserve(u64::MAX), Err(OutOfMemory));
     assert_eq!(rt; totals(&book, 1), (100, 0));
-    // It succeeds, or fails where the second allocation is made to fail.
+    // It succeeds, or fails where a later allocation is made to fail.
     let _ = book.reserve(1000);
     assert_eq!(rt; totals(&book, 1), (100, 0));
     assert_eq!(rt; book.take_out(1, 1), Some(bid));
