@@ -1,12 +1,12 @@
 -- The closing of a published auction has come.
-use Rattle.std.proofs.Common.{◌≡◌, ℕ, ◌%◌, ◌==◌, ◌≤◌, ◌&&◌, Bool, true, false, not, nat_le, Option, Some, None, is_some, length, if◌then◌else◌, inl, inr, List, [], ◌∷◌, ◌++◌, refl, subst, arith, append_assoc, append-nil}
+use Rattle.std.proofs.Common.{◌≡◌, ℕ, ◌-◌, ◌%◌, ◌^◌, ◌==◌, ◌<◌, ◌≤◌, ◌&&◌, Bool, true, false, not, nat_le, nat_lt, Option, Some, None, is_some, length, if◌then◌else◌, inl, inr, List, [], ◌∷◌, ◌++◌, refl, subst, arith, append_assoc, append-nil}
 use Rattle.std.specs.List.{find, AllByRecursion}
-use Rattle.std.proofs.lemmas.Bool.{cases_Bool, and_parts, leb-true, ltb-false, or_cases}
+use Rattle.std.proofs.lemmas.Bool.{cases_Bool, and_parts, leb-true, ltb-true, ltb-false, or_cases}
 use Rattle.tb_units.specs.declared.moment.Moment.{Moment}
 use Rattle.tb_units.specs.declared.rate.Rate.{Rate}
 use Rattle.tb_units.specs.Moments.{moment_of}
 use Rattle.tb_units.specs.Multiples.{is_multiple}
-use Rattle.tb_terms.specs.Announcements.{has_dates, has_amounts, has_closings, is_closing, is_within, offering_unit, most_offering}
+use Rattle.tb_terms.specs.Announcements.{has_dates, has_amounts, has_closings, is_closing, is_within, offering_unit, most_offering, last_maturity, most_days, first_closing, last_closing}
 use Rattle.tb_terms.specs.Cusips.{is_cusip}
 use Rattle.tb_terms.specs.Closings.{c_closing}
 use Rattle.tb_terms.specs.Eastern.{closing_of}
@@ -237,3 +237,59 @@ amounts_of a in_order =
     let size = a.competitive_floor.value in
     let parts = and_parts ((size % 100 == 0) && nat_le 100 size) (nat_le size a.offering.value) holds.1 in
     leb-true 100 size (and_parts (size % 100 == 0) (nat_le 100 size) parts.0).1
+
+-- its offering is at most 10^12 dollars
+pub offering_of : (a : Announcement) → IsInOrder a → a.offering.value ≤ 10 ^ 12
+offering_of a in_order =
+    let amounts =
+    has_amounts-faultless (is_cusip a.cusip.bytes) (has_dates a) (has_amounts a) (has_closings a) in_order in
+    let offered = is_multiple offering_unit most_offering a.offering.value in
+    let one = is_within a a.minimum.value in
+    let two = is_within a a.nc_ceiling.value in
+    let three = is_within a a.competitive_floor.value in
+    let first = and_parts (offered && one && two && three) (is_within a a.nlp_threshold.value) amounts in
+    let second = and_parts (offered && one && two) three first.0 in
+    let third = and_parts (offered && one) two second.0 in
+    let size = a.offering.value in
+    leb-true size (10 ^ 12)
+    (and_parts ((size % offering_unit == 0) && nat_le offering_unit size) (nat_le size most_offering)
+    (and_parts offered one third.0).0).1
+
+-- the dates of an announcement without a fault are in order
+dates-faultless : (a b c d : Bool)
+    → (if a then (if b then (if c then (if d then None else Some fault.BadClosing) else Some fault.BadAmounts)
+    else Some fault.BadDates) else Some fault.BadCusip) ≡ None
+    → b ≡ true
+dates-faultless true true c d none = refl
+dates-faultless true false c d none = absurd cc
+dates-faultless false b c d none = absurd cc
+
+-- an announcement in order matures after its issue, by the last day, and closes within a day
+pub record IsDated (a : Announcement) : Type 0 where
+  pub issued : a.issue.number < a.maturity.number
+  pub early : a.maturity.number ≤ last_maturity
+  pub noncompetitive : a.nc_close < 1440
+  pub competitive : a.c_close < 1440
+
+-- it does
+pub dates_of : (a : Announcement) → IsInOrder a → IsDated a
+dates_of a in_order =
+    let dates =
+    dates-faultless (is_cusip a.cusip.bytes) (has_dates a) (has_amounts a) (has_closings a) in_order in
+    let closings = faultless (is_cusip a.cusip.bytes) (has_dates a) (has_amounts a) (has_closings a) in_order in
+    let first = nat_le a.auction_date.number a.issue.number in
+    let second = nat_lt a.issue.number a.maturity.number in
+    let third = nat_le a.maturity.number last_maturity in
+    let before = and_parts (first && second && third) (nat_le (a.maturity.number - a.issue.number) most_days) dates in
+    let early = and_parts (first && second) third before.0 in
+    let later = and_parts first second early.0 in
+    let both = and_parts (is_closing a.nc_close && is_closing a.c_close) (nat_le a.nc_close a.c_close) closings in
+    let each = and_parts (is_closing a.nc_close) (is_closing a.c_close) both.0 in
+    let one = leb-true a.nc_close last_closing (and_parts (nat_le first_closing a.nc_close) (nat_le a.nc_close last_closing) each.0).1 in
+    let two = leb-true a.c_close last_closing (and_parts (nat_le first_closing a.c_close) (nat_le a.c_close last_closing) each.1).1 in
+    record {
+      issued = ltb-true a.issue.number a.maturity.number later.1;
+      early = leb-true a.maturity.number last_maturity early.1;
+      noncompetitive = omega (arith, one);
+      competitive = omega (arith, two);
+    }

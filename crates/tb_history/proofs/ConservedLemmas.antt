@@ -149,7 +149,7 @@ IsLegal-submitters : (h : List Entry) → IsLegal h → AreSubmitters (registrat
 IsLegal-submitters h legal = by_entries (λ h. AreSubmitters (registrations h)) submitters-nil submitters-push h legal
 
 -- an element is registered
-registered-at : (registered : List Registration) (k : ℕ) (d : Registration)
+pub registered-at : (registered : List Registration) (k : ℕ) (d : Registration)
     → k < length registered → is_registered registered (get_or registered k d).submitter ≡ true
 registered-at [] k d within = absurd (omega (arith, within))
 registered-at (r ∷ rs) zero d within = or_left (is_same r.submitter r.submitter) _ (is_same-refl r.submitter)

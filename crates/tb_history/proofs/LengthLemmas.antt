@@ -6,17 +6,18 @@ use Rattle.std.proofs.lemmas.Bool.{cases_Bool, leb-false, or_cases, or_left, or_
 use Rattle.std.proofs.lemmas.List.Elements.{filter-append}
 use Rattle.std.proofs.lemmas.List.Sums.{sum_by-cons, sum_by-le}
 use Rattle.tb_units.specs.declared.moment.Moment.{Moment}
+use Rattle.tb_terms.specs.Faults.{fault_of, fault_rows}
 use Rattle.tb_message.specs.declared.message.Entry.{Entry}
 use Rattle.tb_message.specs.declared.message.Message.{Message}
 use Rattle.tb_message.specs.declared.message.Message.TheVariants as message
 use Rattle.tb_history.specs.declared.roster.Registration.{Registration}
-use Rattle.tb_history.specs.Entries.{is_same, operator, registered_by}
-use Rattle.tb_history.specs.Roster.{registrations, is_caller, is_registered, sent_by}
-use Rattle.tb_history.specs.Tables.{rows_of}
+use Rattle.tb_history.specs.Entries.{is_same, operator, registered_by, enrolled_by, announced_by}
+use Rattle.tb_history.specs.Roster.{registrations, enrolments, announcements, bill_of, is_caller, is_registered, sent_by}
+use Rattle.tb_history.specs.Tables.{rows_of, maturity_rows}
 use Rattle.tb_history.specs.Legal.{IsLegal, Follows}
 use Rattle.tb_units.proofs.SumLemmas.{sum_by_agree}
-use Rattle.tb_history.proofs.PartLemmas.{AllByRecursion-append, AllByRecursion-weaker}
-use Rattle.tb_history.proofs.GrowthLemmas.{registrations-snoc}
+use Rattle.tb_history.proofs.PartLemmas.{AllByRecursion-append, AllByRecursion-back, AllByRecursion-weaker}
+use Rattle.tb_history.proofs.GrowthLemmas.{registrations-snoc, enrolments-snoc, announcements-snoc}
 use Rattle.tb_history.proofs.SameLemmas.{is_same-equal, is_same-sym}
 use Rattle.tb_history.proofs.AcceptedLemmas.{IsClear, accepted-passes}
 use Rattle.tb_history.proofs.LegalLemmas.{by_entries}
@@ -172,3 +173,65 @@ IsLegal-length h legal =
       many,
       bounded.submitters,
     )
+
+-- an announcement is of one auction more, and of few
+announced-few : (h : List Entry) (s : List ℕ) (moment : Moment) (m : Message)
+    → AllByRecursion IsClear (rows_of h s moment m)
+    → length (announcements h) ≤ 65536
+    → length (announcements h) + length (announced_by m) ≤ 65536
+announced-few h s moment (message.Announce a) clear few =
+    let last = AllByRecursion-back IsClear
+    (fault_rows (fault_of a) ++ maturity_rows (bill_of (announcements h) a.cusip) a.maturity) _ clear.1 in
+    omega (arith, leb-false 65536 (length (announcements h)) last.1.0)
+announced-few h s moment other clear few = omega (arith, few)
+
+-- and stays so with an accepted entry
+announcements-push : (h : List Entry) (e : Entry)
+    → IsLegal h
+    → length (announcements h) ≤ 65536
+    → Follows h e
+    → length (announcements (h ++ e ∷ [])) ≤ 65536
+announcements-push h e legal few follows =
+    let passed = accepted-passes h e.submitter e.number e.moment e.message follows.accepted in
+    rw (announcements-snoc h e, length-append (announcements h) (announced_by e.message))
+    (announced-few h e.submitter e.moment e.message passed.rows few)
+
+-- nothing is announced yet
+announcements-nil : length (announcements []) ≤ 65536
+unfolding announcements
+announcements-nil = omega arith
+
+-- so it is in every legal history
+pub IsLegal-announcements : (h : List Entry) → IsLegal h → length (announcements h) ≤ 65536
+IsLegal-announcements h legal =
+    by_entries (λ h. length (announcements h) ≤ 65536) announcements-nil announcements-push h legal
+
+-- an enrolment is of one bidder more, and of few
+enrolled-few : (h : List Entry) (s : List ℕ) (moment : Moment) (m : Message)
+    → AllByRecursion IsClear (rows_of h s moment m)
+    → length (enrolments h) ≤ 16384
+    → length (enrolments h) + length (enrolled_by m) ≤ 16384
+enrolled-few h s moment (message.Enrol bidder submitter) clear few =
+    omega (arith, leb-false 16384 (length (enrolments h)) clear.1.1.1.0)
+enrolled-few h s moment other clear few = omega (arith, few)
+
+-- and stays so with an accepted entry
+enrolments-push : (h : List Entry) (e : Entry)
+    → IsLegal h
+    → length (enrolments h) ≤ 16384
+    → Follows h e
+    → length (enrolments (h ++ e ∷ [])) ≤ 16384
+enrolments-push h e legal few follows =
+    let passed = accepted-passes h e.submitter e.number e.moment e.message follows.accepted in
+    rw (enrolments-snoc h e, length-append (enrolments h) (enrolled_by e.message))
+    (enrolled-few h e.submitter e.moment e.message passed.rows few)
+
+-- nobody is enrolled yet
+enrolments-nil : length (enrolments []) ≤ 16384
+unfolding enrolments
+enrolments-nil = omega arith
+
+-- so it is in every legal history
+pub IsLegal-enrolments : (h : List Entry) → IsLegal h → length (enrolments h) ≤ 16384
+IsLegal-enrolments h legal =
+    by_entries (λ h. length (enrolments h) ≤ 16384) enrolments-nil enrolments-push h legal

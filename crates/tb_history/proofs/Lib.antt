@@ -22,4 +22,7 @@ pub mod CreditedLemmas
 pub mod MovedLemmas
 pub mod PassLemmas
 pub mod ToldLemmas
+pub mod NumberingLemmas
 pub mod ConservedLemmas
+pub mod ParLemmas
+pub mod IssuedLemmas

@@ -1,8 +1,9 @@
 -- The movements of a legal history are legal, and tell what it says of accounts.
-use Rattle.std.proofs.Common.{◌≡◌, ℕ, ◌+◌, ◌==◌, ◌&&◌, Bool, true, false, cond, Some, is_some, inl, inr, List, [], ◌∷◌, map, sum_by, All, refl, sym, ap, ◌∙◌, arith}
+use Rattle.std.proofs.Common.{◌≡◌, ℕ, ◌+◌, ◌==◌, ◌&&◌, nat_lt, Bool, true, false, cond, Some, is_some, inl, inr, List, [], ◌∷◌, length, map, sum_by, All, refl, sym, ap, ◌∙◌, arith}
 use Rattle.std.specs.Option.{option_map}
-use Rattle.std.specs.List.{AllByRecursion, find, filter, list_any}
+use Rattle.std.specs.List.{AllByRecursion, count_by, find, filter, list_any}
 use Rattle.std.proofs.lemmas.Bool.{cases_Bool}
+use Rattle.std.proofs.lemmas.List.Sums.{sum_by-cons}
 use Rattle.tb_units.proofs.SumLemmas.{sum_by-filter-cons}
 use Rattle.tb_terms.specs.declared.cusip.Cusip.{Cusip}
 use Rattle.tb_movements.specs.Movements.{brought, taken, issues}
@@ -14,7 +15,7 @@ use Rattle.tb_history.specs.declared.accounts.Mark.{Mark}
 use Rattle.tb_history.specs.declared.accounts.Release.{Release}
 use Rattle.tb_history.specs.Entries.{is_same}
 use Rattle.tb_history.specs.Roster.{redemptions, is_redeemed}
-use Rattle.tb_history.specs.Holdings.{marks, releases, credited_to, issued, received_by, sent_from, held_of, mark_of, left_of, pledged_of, free_of}
+use Rattle.tb_history.specs.Holdings.{marks, releases, credited_to, issued, received_by, sent_from, held_of, mark_of, left_of, pledged_of, free_of, open_marks}
 use Rattle.tb_history.specs.Moves.{Numbering, movements_by, IsNumbered, IsBillNumbered, as_moved}
 use Rattle.tb_history.proofs.ClosedLemmas.{found-in}
 use Rattle.tb_history.proofs.CreditedLemmas.{flipped}
@@ -125,6 +126,40 @@ pub free-told : (numbers : Numbering) (participants : List ℕ) (h : List Entry)
 unfolding free_of
 free-told numbers participants h participant cusip told own bills =
     rw (held-told numbers participants h participant cusip told own bills, pledged-told numbers participants h participant cusip told) refl
+
+-- of all pledges the participant's with something left
+opens-list : (numbers : Numbering) (participants : List ℕ) (h : List Entry) (participant : List ℕ) (all : List Mark)
+    → AreTold numbers participants h
+    → AllByRecursion (IsKnown numbers) all
+    → count_by (λ (mark : pledges.Mark). mark.holder == numbers.holder participant
+    && nat_lt 0 (pledges.left_of (movements_by numbers h) mark)) (map (as_moved numbers) all)
+    ≡ length (filter (λ (mark : Mark). is_same mark.holder participant && nat_lt 0 (left_of h mark)) all)
+opens-list numbers participants h participant [] told known = refl
+opens-list numbers participants h participant (mark ∷ all) told known =
+    let test : Mark → Bool = λ (m : Mark). is_same m.holder participant && nat_lt 0 (left_of h m) in
+    let open_mark : pledges.Mark → Bool = λ (m : pledges.Mark). m.holder == numbers.holder participant
+    && nat_lt 0 (pledges.left_of (movements_by numbers h) m) in
+    let rest = opens-list numbers participants h participant all told known.1 in
+    let same : open_mark (as_moved numbers mark) ≡ test mark =
+    rw (known.0.0 participant, flipped participant mark.holder, left-told numbers participants h mark told known.0) refl in
+    let split = sum_by-cons (λ (m : pledges.Mark). cond (open_mark m) 1 0) (as_moved numbers mark)
+    (map (as_moved numbers) all) in
+    elim (cases_Bool (test mark)) [
+      | inl is ↦ let also : open_mark (as_moved numbers mark) ≡ true = same ∙ is in
+          split ∙ rw (also, is) (omega (arith, rest))
+      | inr isnt ↦ let also : open_mark (as_moved numbers mark) ≡ false = same ∙ isnt in
+          split ∙ rw (also, isnt) (omega (arith, rest))
+    ]
+
+-- how many pledges of a participant are open
+pub opens-told : (numbers : Numbering) (participants : List ℕ) (h : List Entry) (participant : List ℕ)
+    → AreTold numbers participants h
+    → pledges.open_marks (numbers.holder participant) (movements_by numbers h) ≡ open_marks h participant
+unfolding open_marks
+opens-told numbers participants h participant told =
+    ap (count_by (λ (mark : pledges.Mark). mark.holder == numbers.holder participant
+    && nat_lt 0 (pledges.left_of (movements_by numbers h) mark))) told.marks_are
+    ∙ opens-list numbers participants h participant (marks h) told told.known
 
 -- the pledge of a holder and number
 mark-list : (numbers : Numbering) (holder : List ℕ) (number : ℕ) (all : List Mark)

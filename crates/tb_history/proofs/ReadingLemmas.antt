@@ -23,6 +23,8 @@ use Rattle.tb_award.proofs.AwardLemmas.{AreAwards-one}
 use Rattle.tb_award.proofs.RateLemmas.{IsRateOfPart-one}
 use Rattle.tb_award.proofs.RecognitionLemmas.{AreRecognised-one}
 use Rattle.tb_message.specs.declared.message.Entry.{Entry}
+use Rattle.tb_message.specs.declared.query.Query.{Query}
+use Rattle.tb_message.specs.declared.query.Query.TheVariants as query
 use Rattle.tb_history.specs.declared.roster.Enrolment.{Enrolment}
 use Rattle.tb_history.specs.declared.roster.Registration.{Registration}
 use Rattle.tb_history.specs.declared.readings.Results.{Results}
@@ -30,8 +32,12 @@ use Rattle.tb_history.specs.declared.readings.Figures.{Figures}
 use Rattle.tb_history.specs.declared.readings.AwardLine.{AwardLine}
 use Rattle.tb_history.specs.declared.readings.HoldingLine.{HoldingLine}
 use Rattle.tb_history.specs.declared.readings.PaidLine.{PaidLine}
+use Rattle.tb_history.specs.declared.reading.Reading.{Reading}
+use Rattle.tb_history.specs.declared.reading.Reading.TheVariants as reading
+use Rattle.tb_history.specs.Roster.{announcements, announcement_of}
 use Rattle.tb_history.specs.Awarded.{Bidding, sought_in, stop_of, awarded}
-use Rattle.tb_history.specs.Readings.{days_of, AreRecognisedOf, HasFigures, AreFigures, AreResults, IsRateOver, IsInvestment, IsAwardLine, AreAwardLines, IsHoldingLine, AreHoldingLines, IsPaidLine, ArePaidLines}
+use Rattle.tb_history.specs.Holdings.{bidding_in}
+use Rattle.tb_history.specs.Readings.{days_of, AreRecognisedOf, HasFigures, AreFigures, AreResults, IsRateOver, IsInvestment, IsAwardLine, AreAwardLines, AreAwards, bidders_in, IsReading, IsHoldingLine, AreHoldingLines, IsPaidLine, ArePaidLines}
 
 -- percentages of one number of hundredths are one
 same_percent : (one other : Percent) → one.hundredths ≡ other.hundredths → one ≡ other
@@ -274,3 +280,41 @@ ArePaidLines-one h cusip (r ∷ holders) (line ∷ lines) [] are are' = absurd a
 ArePaidLines-one h cusip (r ∷ holders) (x ∷ xs) (y ∷ ys) are are' =
     same_lists x y xs ys (IsPaidLine-one h cusip r.submitter x y are.0 are'.0)
     (ArePaidLines-one h cusip holders xs ys are.1 are'.1)
+
+-- an auction has one announcement
+announced-one : (found : Option Announcement) (a b : Announcement) → found ≡ Some a → found ≡ Some b → a ≡ b
+announced-one found a b first second = let both : Some a ≡ Some b = sym first ∙ second in cc
+
+-- there is one reading of a query
+pub IsReading-one : (h : List Entry) (caller : List ℕ) (q : Query) (one other : Reading)
+    → IsReading h caller q one
+    → IsReading h caller q other
+    → one ≡ other
+IsReading-one h caller (query.Terms auction) (reading.Terms one) (reading.Terms other) is is' =
+    ap reading.Terms (announced-one (announcement_of (announcements h) auction) one other is is')
+IsReading-one h caller (query.Results auction) (reading.Results one) (reading.Results other) is is' =
+    let same = announced-one (announcement_of (announcements h) auction) is'.0 is.0 is'.1 is.1 in
+    ap reading.Results (AreResults-one (bidding_in h is.0) one other is.2
+    (subst (λ (a : Announcement). AreResults (bidding_in h a) other) same is'.2))
+IsReading-one h caller (query.Awards auction) (reading.Awards one) (reading.Awards other) is is' =
+    let same = announced-one (announcement_of (announcements h) auction) is'.0 is.0 is'.1 is.1 in
+    ap reading.Awards (AreAwardLines-one (bidding_in h is.0) (bidders_in h is.0 caller) one other is.2
+    (subst (λ (a : Announcement). AreAwards h a caller other) same is'.2))
+IsReading-one h caller (query.Bids auction) (reading.Bids one) (reading.Bids other) is is' =
+    ap reading.Bids (is ∙ sym is')
+IsReading-one h caller query.Holdings (reading.Holdings one) (reading.Holdings other) is is' =
+    ap reading.Holdings (AreHoldingLines-one h caller _ one other is is')
+IsReading-one h caller (query.Redemption cusip) (reading.Redemption one) (reading.Redemption other) is is' =
+    ap reading.Redemption (ArePaidLines-one h cusip _ one other is is')
+IsReading-one h caller (query.Terms auction) (reading.Terms one) other is is' = absurd is'
+IsReading-one h caller (query.Results auction) (reading.Results one) other is is' = absurd is'
+IsReading-one h caller (query.Awards auction) (reading.Awards one) other is is' = absurd is'
+IsReading-one h caller (query.Bids auction) (reading.Bids one) other is is' = absurd is'
+IsReading-one h caller query.Holdings (reading.Holdings one) other is is' = absurd is'
+IsReading-one h caller (query.Redemption cusip) (reading.Redemption one) other is is' = absurd is'
+IsReading-one h caller (query.Terms auction) one other is is' = absurd is
+IsReading-one h caller (query.Results auction) one other is is' = absurd is
+IsReading-one h caller (query.Awards auction) one other is is' = absurd is
+IsReading-one h caller (query.Bids auction) one other is is' = absurd is
+IsReading-one h caller query.Holdings one other is is' = absurd is
+IsReading-one h caller (query.Redemption cusip) one other is is' = absurd is

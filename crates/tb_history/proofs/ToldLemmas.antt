@@ -12,6 +12,7 @@ use Rattle.tb_units.specs.declared.moment.Moment.{Moment}
 use Rattle.tb_terms.specs.declared.announcement.Announcement.{Announcement}
 use Rattle.tb_terms.specs.declared.cusip.Cusip.{Cusip}
 use Rattle.tb_terms.specs.declared.refusal.Refusal.TheVariants as refusal
+use Rattle.tb_rules.specs.BidRule.{is_no_par}
 use Rattle.tb_movements.specs.Movements.{Movement, Credit, brought, taken, issues, redeems}
 use Rattle.tb_movements.specs.Marks as pledges
 use Rattle.tb_movements.specs.Legal as movements
@@ -73,7 +74,7 @@ AreNumbered-front numbers participants h e are =
     }
 
 -- whoever sends what isn't the operator's is registered
-sender-registered : (h : List Entry) (s : List ℕ) (m : Message)
+pub sender-registered : (h : List Entry) (s : List ℕ) (m : Message)
     → is_caller (registrations h) s ≡ true
     → is_permitted s m ≡ true
     → is_operators m ≡ false
@@ -90,10 +91,11 @@ pub record IsTransferable (h : List Entry) (s : List ℕ) (cusip : Cusip) (to : 
   pub known : is_registered (registrations h) to ≡ true
   pub apart : is_same to s ≡ false
   pub live : is_redeemed (redemptions h) cusip ≡ false
+  pub par : is_no_par amount ≡ false
   pub enough : amount ≤ free_of h s cusip
 
 -- by the table of transfers
-transfer_rows-clear : (h : List Entry) (s : List ℕ) (moment : Moment) (cusip : Cusip) (to : List ℕ) (amount : ℕ)
+pub transfer_rows-clear : (h : List Entry) (s : List ℕ) (moment : Moment) (cusip : Cusip) (to : List ℕ) (amount : ℕ)
     → AllByRecursion IsClear (par_rows h s moment cusip to amount)
     → IsTransferable h s cusip to amount
 transfer_rows-clear h s moment cusip to amount clear = by_bill (bill_of (announcements h) cusip) refl clear
@@ -109,11 +111,12 @@ transfer_rows-clear h s moment cusip to amount clear = by_bill (bill_of (announc
       known = not-false (is_registered (registrations h) to) all.0;
       apart = all.1.1.0;
       live = all.1.1.1.0;
+      par = all.1.0;
       enough = ltb-false (free_of h s cusip) amount all.1.1.1.1.1.0;
     }
 
 -- another name has another number
-other-number : (numbers : Numbering) (one other : List ℕ)
+pub other-number : (numbers : Numbering) (one other : List ℕ)
     → IsNumbered numbers one
     → is_same other one ≡ false
     → numbers.holder one ≢ numbers.holder other
@@ -140,6 +143,22 @@ unused-mark (e ∷ h) s n none =
     skip (message.Pledge cusip to amount) isnt rest = rw isnt rest
     skip other isnt rest = rest
 
+-- the bill of an announced auction is announced
+pub bill-found : (announced : List Announcement) (a : Announcement) (auction : List ℕ)
+    → announcement_of announced auction ≡ Some a → has_bill announced a.cusip.bytes ≡ true
+bill-found [] a auction found = absurd cc
+bill-found (x ∷ announced) a auction found =
+    elim (cases_Bool (is_same x.auction auction)) [
+      | inl is ↦
+          let one : Some x ≡ Some a = rw is at found in
+          let same : x ≡ a = cc in
+          or_left (is_same x.cusip.bytes a.cusip.bytes) (has_bill announced a.cusip.bytes)
+          (subst (λ (y : Announcement). is_same y.cusip.bytes a.cusip.bytes ≡ true) (sym same)
+          (is_same-refl a.cusip.bytes))
+      | inr isnt ↦ or_right (is_same x.cusip.bytes a.cusip.bytes) (has_bill announced a.cusip.bytes)
+          (bill-found announced a auction (rw isnt at found))
+    ]
+
 -- each kind of movement passes
 passes-settled : (numbers : Numbering) (participants : List ℕ) (h : List Entry) (auction : List ℕ)
     (found : Option Announcement)
@@ -153,21 +172,6 @@ passes-settled numbers participants h auction None told are legal is unsettled =
 passes-settled numbers participants h auction (Some a) told are legal is unsettled =
     told.redeemed a.cusip (are.bills a.cusip.bytes (bill-found (announcements h) a auction is))
     ∙ unsettled-live h auction a legal is unsettled
-  where
-    bill-found : (announced : List Announcement) (a : Announcement) (auction : List ℕ)
-        → announcement_of announced auction ≡ Some a → has_bill announced a.cusip.bytes ≡ true
-    bill-found [] a auction found = absurd cc
-    bill-found (x ∷ announced) a auction found =
-        elim (cases_Bool (is_same x.auction auction)) [
-          | inl is ↦
-              let one : Some x ≡ Some a = rw is at found in
-              let same : x ≡ a = cc in
-              or_left (is_same x.cusip.bytes a.cusip.bytes) (has_bill announced a.cusip.bytes)
-              (subst (λ (y : Announcement). is_same y.cusip.bytes a.cusip.bytes ≡ true) (sym same)
-              (is_same-refl a.cusip.bytes))
-          | inr isnt ↦ or_right (is_same x.cusip.bytes a.cusip.bytes) (has_bill announced a.cusip.bytes)
-              (bill-found announced a auction (rw isnt at found))
-        ]
 
 -- a release is of a pledge, by its pledgee, and of no more than is left
 passes-released : (numbers : Numbering) (participants : List ℕ) (h : List Entry) (s holder : List ℕ)
@@ -195,8 +199,17 @@ passes-released numbers participants h s holder pledge amount (Some mark) told i
         found-in (IsKnown numbers) (λ (m : Mark). is_same m.holder holder && (m.number == pledge)) (marks h)
         mark told.known found
 
+-- a redemption that passes is of an announced bill
+pub redeem-bill : (h : List Entry) (s : List ℕ) (moment : Moment) (cusip : Cusip) (found : Option Announcement)
+    → bill_of (announcements h) cusip ≡ found
+    → AllByRecursion IsClear (rows_of h s moment (message.Redeem cusip))
+    → has_bill (announcements h) cusip.bytes ≡ true
+redeem-bill h s moment cusip None is clear =
+    let all = rw is at clear in let wrong : true ≡ false = all.0 in absurd cc
+redeem-bill h s moment cusip (Some a) is clear = found_any (is_of_bill cusip) (announcements h) (rw is refl)
+
 -- whatever the message moves passes
-passes-message : (numbers : Numbering) (participants : List ℕ) (h : List Entry) (s : List ℕ) (n : ℕ) (moment : Moment)
+pub passes-message : (numbers : Numbering) (participants : List ℕ) (h : List Entry) (s : List ℕ) (n : ℕ) (moment : Moment)
     (m : Message)
     → AreTold numbers participants h
     → AreNumbered numbers participants h
@@ -234,15 +247,8 @@ passes-message numbers participants h s n moment (message.Release holder pledge 
     passes-released numbers participants h s holder pledge amount.value (mark_of h holder pledge)
     told refl passed.rows.1
 passes-message numbers participants h s n moment (message.Redeem cusip) told are legal passed =
-    told.redeemed cusip (are.bills cusip.bytes (redeem-bill (bill_of (announcements h) cusip) refl passed.rows))
+    told.redeemed cusip (are.bills cusip.bytes (redeem-bill h s moment cusip (bill_of (announcements h) cusip) refl passed.rows))
     ∙ (redeem-clear h s moment cusip passed.rows).1
-  where
-    redeem-bill : (found : Option Announcement)
-        → bill_of (announcements h) cusip ≡ found
-        → AllByRecursion IsClear (rows_of h s moment (message.Redeem cusip))
-        → has_bill (announcements h) cusip.bytes ≡ true
-    redeem-bill None is clear = let all = rw is at clear in let wrong : true ≡ false = all.0 in absurd cc
-    redeem-bill (Some a) is clear = found_any (is_of_bill cusip) (announcements h) (rw is refl)
 passes-message numbers participants h s n moment other told are legal passed = tt
 
 -- each bidder's participant is registered
@@ -274,7 +280,7 @@ unfolding enrolments
 enrolled-nil = tt
 
 -- so it is in every legal history
-IsLegal-enrolled : (h : List Entry)
+pub IsLegal-enrolled : (h : List Entry)
     → IsLegal h
     → AllByRecursion (λ (x : Enrolment). is_registered (registrations h) x.submitter ≡ true) (enrolments h)
 IsLegal-enrolled h legal =

@@ -13,6 +13,8 @@ use Rattle.tb_terms.specs.Years.{HasLeapDay}
 use Rattle.tb_terms.specs.declared.announcement.Announcement.{Announcement}
 use Rattle.tb_terms.specs.declared.cusip.Cusip.{Cusip}
 use Rattle.tb_message.specs.declared.message.Entry.{Entry}
+use Rattle.tb_message.specs.declared.query.Query.{Query}
+use Rattle.tb_message.specs.declared.query.Query.TheVariants as query
 use Rattle.tb_history.specs.declared.roster.Enrolment.{Enrolment}
 use Rattle.tb_history.specs.declared.roster.Registration.{Registration}
 use Rattle.tb_history.specs.declared.bids.Bid.{Bid}
@@ -23,9 +25,11 @@ use Rattle.tb_history.specs.declared.readings.AwardLine.{AwardLine}
 use Rattle.tb_history.specs.declared.readings.BidLine.{BidLine}
 use Rattle.tb_history.specs.declared.readings.HoldingLine.{HoldingLine}
 use Rattle.tb_history.specs.declared.readings.PaidLine.{PaidLine}
+use Rattle.tb_history.specs.declared.reading.Reading.{Reading}
+use Rattle.tb_history.specs.declared.reading.Reading.TheVariants as reading
 use Rattle.tb_history.specs.Entries.{is_same}
-use Rattle.tb_history.specs.Roster.{registrations, announcements, bill_of}
-use Rattle.tb_history.specs.LiveBids.{is_live, par_of, noncompetitive_in, position_of}
+use Rattle.tb_history.specs.Roster.{registrations, announcements, announcement_of, bill_of}
+use Rattle.tb_history.specs.LiveBids.{bids, cancels, is_live, par_of, noncompetitive_in, position_of}
 use Rattle.tb_history.specs.Awarded.{Bidding, stop_of, sought_in, awarded}
 use Rattle.tb_history.specs.Holdings.{bidding_in, bidders_of, held_of, pledged_of, free_of, paid_to}
 
@@ -192,3 +196,22 @@ abbrev pub IsRedemption : List Entry → Cusip → List PaidLine → Type 0
 IsRedemption history cusip lines =
     ArePaidLines history cusip
     (filter (λ (r : Registration). nat_lt 0 (paid_to history r.submitter cusip)) (registrations history)) lines
+
+-- of the auction's announcement this holds
+abbrev pub OfAnnounced : List Entry → List ℕ → (Announcement → Type 0) → Type 0
+OfAnnounced history auction Holds =
+    (a : Announcement) × (announcement_of (announcements history) auction ≡ Some a) × Holds a
+
+-- what the history tells the caller of the query
+abbrev pub IsReading : List Entry → List ℕ → Query → Reading → Type 0
+IsReading history caller (query.Terms auction) (reading.Terms terms) =
+    announcement_of (announcements history) auction ≡ Some terms
+IsReading history caller (query.Results auction) (reading.Results results) =
+    OfAnnounced history auction (λ a. AreResults (bidding_in history a) results)
+IsReading history caller (query.Awards auction) (reading.Awards lines) =
+    OfAnnounced history auction (λ a. AreAwards history a caller lines)
+IsReading history caller (query.Bids auction) (reading.Bids lines) =
+    lines ≡ bid_lines (bids history) (cancels history) caller auction
+IsReading history caller query.Holdings (reading.Holdings lines) = AreHoldings history caller lines
+IsReading history caller (query.Redemption cusip) (reading.Redemption lines) = IsRedemption history cusip lines
+IsReading history caller query reading = ⊥

@@ -1,8 +1,10 @@
 //! What queries are answered, line by line.
 ghost use Rattle.std.specs.Prelude.{◌≡◌, ℕ, List};
 ghost use Rattle.tb_message.specs.declared.message.Entry.{Entry};
+ghost use Rattle.tb_message.specs.declared.query.Query.{Query};
+ghost use Rattle.tb_history.specs.declared.reading.Reading.{Reading};
 ghost use Rattle.tb_history.specs.Awarded.{Bidding};
-ghost use Rattle.tb_history.specs.Readings.{AreResults, AreAwards, AreHoldings, IsRedemption};
+ghost use Rattle.tb_history.specs.Readings.{AreResults, AreAwards, AreHoldings, IsReading, IsRedemption};
 
 use tb_award::Cut;
 use tb_price::Investment;
@@ -70,4 +72,6 @@ pub fn readings_are_one()
         → AreHoldings history caller one → AreHoldings history caller other → one ≡ other }
     ensures redemption { (history : List Entry) (cusip : Cusip) (one other : List PaidLine)
         → IsRedemption history cusip one → IsRedemption history cusip other → one ≡ other }
+    ensures readings { (history : List Entry) (caller : List ℕ) (query : Query) (one other : Reading)
+        → IsReading history caller query one → IsReading history caller query other → one ≡ other }
 {}

@@ -1,6 +1,7 @@
 -- Each clause is a lemma on legal histories.
-use Rattle.tb_history.proofs.PassLemmas.{held-told, free-told, mark-told, left-told, known-mark}
+use Rattle.tb_history.proofs.PassLemmas.{held-told, free-told, opens-told, mark-told, left-told, known-mark}
 use Rattle.tb_history.proofs.ToldLemmas.{IsLegal-told}
+use Rattle.tb_history.proofs.NumberingLemmas.{movements-grow}
 use Rattle.tb_history.proofs.ConservedLemmas.{places-numbered, paid-told}
 use Rattle.tb_history.proofs.conserved.movements_tell_holdings.Goals as goal
 
@@ -36,3 +37,10 @@ returns-clause-left c numbers participants history holder number mark legal are 
     let told = IsLegal-told numbers participants history legal are in
     left-told numbers participants history mark told
     (known-mark numbers participants history holder number mark told found)
+
+pub returns-clause-opens : goal.returns-clause-opens
+returns-clause-opens c numbers participants history holder legal are =
+    opens-told numbers participants history holder (IsLegal-told numbers participants history legal are)
+
+pub returns-clause-grows : goal.returns-clause-grows
+returns-clause-grows c history entry legal follows = movements-grow history entry legal follows

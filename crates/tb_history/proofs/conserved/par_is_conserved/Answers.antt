@@ -1,4 +1,5 @@
 -- Each clause is a lemma on legal histories.
+use Rattle.tb_history.proofs.IssuedLemmas.{IsLegal-issued}
 use Rattle.tb_history.proofs.ConservedLemmas.{held-sum, paid-sum, pledged-covered}
 use Rattle.tb_history.proofs.conserved.par_is_conserved.Goals as goal
 
@@ -11,3 +12,6 @@ returns-clause-payments c history cusip legal bill redeemed = paid-sum history c
 pub returns-clause-covered : goal.returns-clause-covered
 returns-clause-covered c history participant cusip legal bill known =
     pledged-covered history participant cusip legal bill known
+
+pub returns-clause-limited : goal.returns-clause-limited
+returns-clause-limited c history cusip legal = IsLegal-issued history cusip legal

@@ -1,5 +1,5 @@
 -- Each clause is a lemma on readings.
-use Rattle.tb_history.proofs.ReadingLemmas.{AreResults-one, AreAwardLines-one, AreHoldingLines-one, ArePaidLines-one}
+use Rattle.tb_history.proofs.ReadingLemmas.{AreResults-one, AreAwardLines-one, AreHoldingLines-one, ArePaidLines-one, IsReading-one}
 use Rattle.tb_history.proofs.readings.readings_are_one.Goals as goal
 
 pub returns-clause-results : goal.returns-clause-results
@@ -13,3 +13,6 @@ returns-clause-holdings c history caller one other are are' = AreHoldingLines-on
 
 pub returns-clause-redemption : goal.returns-clause-redemption
 returns-clause-redemption c history cusip one other are are' = ArePaidLines-one history cusip _ one other are are'
+
+pub returns-clause-readings : goal.returns-clause-readings
+returns-clause-readings c history caller query one other is is' = IsReading-one history caller query one other is is'
