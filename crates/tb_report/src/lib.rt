@@ -3,10 +3,12 @@
 
 mod growing;
 mod lists;
+mod printable;
 mod results;
 mod terms;
 #[cfg(test)]
 mod tests;
 mod writing;
 
+pub use printable::readings_are_printable;
 pub use writing::{line_count, text};
