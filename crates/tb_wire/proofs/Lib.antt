@@ -1,0 +1,12 @@
+pub mod Picks
+pub mod PathLemmas
+pub mod PhraseLemmas
+pub mod HeaderLemmas
+pub mod LengthLemmas
+pub mod Heads
+pub mod FrontLemmas
+pub mod FrontLaws
+pub mod Texts
+pub mod LineLemmas
+pub mod CallerLemmas
+pub mod KeyLemmas

@@ -1,0 +1,11 @@
+pub mod Head
+pub mod Headers
+pub mod Bodies
+pub mod Paths
+pub mod Rows
+pub mod Targets
+pub mod Reading
+pub mod Front
+pub mod Cuts
+pub mod Replies
+pub mod Codes
