@@ -1,0 +1,4 @@
+pub mod PositionLemmas
+pub mod KeyLemmas
+pub mod PlaceLemmas
+pub mod CountLemmas

@@ -1,0 +1,19 @@
+-- The row at the place is the first that has the key.
+use Rattle.std.proofs.Common.{◌≡◌, ap, get_or, rules, sym, ◌∙◌, None}
+use Rattle.std.specs.Option.{option_copied}
+use Rattle.tb_index.proofs.PositionLemmas.{find-none, find-placed}
+use Rattle.tb_index.proofs.twice_keyed.TwiceKeyed.get_other.Goals as goal
+
+pub returns-in_err-place : goal.returns-in_err-place
+returns-in_err-place g c =
+    let none : option_copied c.from_residual.result ≡ None = search rules in
+    rw none
+    (sym (find-none (λ row. g.Or.Key.PartialEq.eq (g.Or.KeyOf.key_of row) c.args.key.now) c.args.self.now.list
+    (sym c.find_other.ensures ∙ c.in_err-place.was)))
+
+pub returns : goal.returns
+returns g c =
+    let place = c.in_ok-place.place in
+    let row = c.index-rows-place.result in
+    sym (find-placed (λ row. g.Or.Key.PartialEq.eq (g.Or.KeyOf.key_of row) c.args.key.now) c.args.self.now.list place
+    row (sym c.in_ok-place.ensures) (c.index-rows-place.is ∙ ap (λ list. get_or list place row) c.rows.ensures))

@@ -1,0 +1,12 @@
+//! By what rows are found.
+ghost use Rattle.std.specs.Prelude.{◌≡◌};
+
+/// A key that each row of a type has. Rows that have several keys have a type of this kind for each.
+pub trait KeyOf<T> {
+    type Key: Ord + Copy + Drop;
+
+    ghost key_of: { T → Self.Key };
+
+    fn key_of(row: &T) -> Self::Key
+        ensures { result ≡ key_of row.now };
+}

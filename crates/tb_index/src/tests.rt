@@ -1,0 +1,154 @@
+//! Tests of the public calls: look-ups beside walks over the rows.
+use super::*;
+use std::process::Abort;
+use std::test::Fail;
+use tb_units::Ident;
+
+// A bid is found by its bidder and number, and counted by its auction.
+#[derive(Clone, Copy, Debug, PartialEq, Eq)]
+struct Bid {
+    bidder: Ident,
+    number: u64,
+    auction: Ident,
+}
+
+struct ByNumber;
+
+impl KeyOf<Bid> for ByNumber {
+    type Key = (Ident, u64);
+
+    ghost key_of = { λ bid. (bid.bidder, bid.number) };
+
+    fn key_of(bid: &Bid) -> (Ident, u64) {
+        (bid.bidder, bid.number)
+    }
+}
+
+struct OfAuction;
+
+impl KeyOf<Bid> for OfAuction {
+    type Key = Ident;
+
+    ghost key_of = { λ bid. bid.auction };
+
+    fn key_of(bid: &Bid) -> Ident {
+        bid.auction
+    }
+}
+
+// A page is found by its year, and by its number.
+#[derive(Clone, Copy, Debug, PartialEq, Eq)]
+struct Page {
+    year: u64,
+    number: u64,
+}
+
+struct ByYear;
+
+impl KeyOf<Page> for ByYear {
+    type Key = u64;
+
+    ghost key_of = { λ page. page.year };
+
+    fn key_of(page: &Page) -> u64 {
+        page.year
+    }
+}
+
+struct ByPage;
+
+impl KeyOf<Page> for ByPage {
+    type Key = u64;
+
+    ghost key_of = { λ page. page.number };
+
+    fn key_of(page: &Page) -> u64 {
+        page.number
+    }
+}
+
+fn name(rt: &impl Abort, text: &str) -> Ident {
+    Ident::read(text).expect(rt, "no name")
+}
+
+fn bid_of(rt: &impl Abort, bidder: &str, number: u64, auction: &str) -> Bid {
+    Bid {
+        bidder: name(rt, bidder),
+        number,
+        auction: name(rt, auction),
+    }
+}
+
+#[test]
+fn bids_are_found_by_bidder_and_number_and_counted_by_auction(rt: HostRuntime) -> Result<(), Fail> {
+    let mut bids: Counted<Bid, ByNumber, OfAuction> = Counted::new(rt.alloc());
+    assert_eq!(rt; bids.spare(), 0);
+    bids.reserve(5)?;
+    for (bidder, number, auction) in [
+        ("ann", 7, "bill13"),
+        ("bob", 7, "bill13"),
+        ("ann", 8, "bill26"),
+        ("ann", 7, "bill26"),
+        ("eve", 1, "bill13"),
+    ] {
+        assert!(rt; 0 < bids.spare());
+        bids.push(bid_of(&rt, bidder, number, auction));
+    }
+    assert_eq!(rt; bids.rows().len(), 5);
+    // The first of two that have the same bidder and number.
+    assert_eq!(rt; bids.keyed().find(&(name(&rt, "ann"), 7)), Some(0));
+    assert_eq!(rt; bids.keyed().find(&(name(&rt, "ann"), 8)), Some(2));
+    assert_eq!(rt; bids.keyed().find(&(name(&rt, "bob"), 8)), None);
+    assert_eq!(rt;
+        bids.keyed().get(&(name(&rt, "bob"), 7)).copied(),
+        Some(bid_of(&rt, "bob", 7, "bill13"))
+    );
+    assert!(rt; bids.keyed().has(&(name(&rt, "eve"), 1)));
+    assert!(rt; !bids.keyed().has(&(name(&rt, "ev"), 1)));
+    assert_eq!(rt; bids.count(&name(&rt, "bill13")), 3);
+    assert_eq!(rt; bids.count(&name(&rt, "bill26")), 2);
+    assert_eq!(rt; bids.count(&name(&rt, "bill52")), 0);
+    // The later of the two goes, and the first is still found.
+    assert_eq!(rt; bids.pop(), Some(bid_of(&rt, "eve", 1, "bill13")));
+    assert_eq!(rt; bids.pop(), Some(bid_of(&rt, "ann", 7, "bill26")));
+    assert_eq!(rt; bids.keyed().find(&(name(&rt, "ann"), 7)), Some(0));
+    assert_eq!(rt; bids.keyed().find(&(name(&rt, "eve"), 1)), None);
+    assert_eq!(rt; bids.count(&name(&rt, "bill13")), 2);
+    assert_eq!(rt; bids.count(&name(&rt, "bill26")), 1);
+    Ok(())
+}
+
+fn expect_same(rt: &impl Abort, pages: &TwiceKeyed<Page, ByYear, ByPage>) {
+    for key in 0..9 {
+        let by_year = pages.rows().iter().position(|page| page.year == key);
+        assert_eq!(rt; pages.keyed().find(&key), by_year);
+        assert_eq!(rt; pages.keyed().has(&key), by_year.is_some());
+        let by_number = pages.rows().iter().position(|page| page.number == key);
+        assert_eq!(rt; pages.find_other(&key), by_number);
+        assert_eq!(rt; pages.has_other(&key), by_number.is_some());
+    }
+}
+
+#[test]
+fn pages_are_found_by_either_key_as_a_walk_finds_them(rt: HostRuntime) -> Result<(), Fail> {
+    let mut pages: TwiceKeyed<Page, ByYear, ByPage> = TwiceKeyed::new(rt.alloc());
+    assert_eq!(rt; pages.pop(), None);
+    for step in 0..40u64 {
+        pages.reserve(1)?;
+        pages.push(Page {
+            year: step * 5 % 8,
+            number: step * 3 % 7,
+        });
+        expect_same(&rt, &pages);
+    }
+    // The first page of the year 2 is the third, since 2 * 5 = 8 + 2.
+    let third = Page { year: 2, number: 6 };
+    assert_eq!(rt; pages.keyed().get(&2).copied(), Some(third));
+    assert_eq!(rt; pages.get_other(&6).copied(), Some(third));
+    for _ in 0..40 {
+        assert!(rt; pages.pop().is_some());
+        expect_same(&rt, &pages);
+    }
+    assert_eq!(rt; pages.rows().len(), 0);
+    Ok(())
+}

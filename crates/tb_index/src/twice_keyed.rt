@@ -1,0 +1,122 @@
+//! Rows that are found by either of two keys.
+ghost use Rattle.std.specs.Prelude.{◌≡◌, ◌+◌, ◌<◌, ◌≤◌, ◌↔◌, [], ◌∷◌, ◌++◌, option_copied, IsNone, IfSome, OnOk};
+ghost use Rattle.std.specs.List.{find, list_any, position};
+
+use crate::keyed::Keyed;
+use crate::keys::KeyOf;
+use crate::places::{Places, add_place, first_place, take_place};
+use std::alloc::Global;
+use std::marker::Model;
+use tb_blocks::Ordered;
+use tb_units::OutOfMemory;
+
+/// Rows in the order of adding, found by either of two keys. Contracts see the list of the rows, and how many adds are
+/// sure.
+#[derive(Drop)]
+pub struct TwiceKeyed<T, By: KeyOf<T>, Or: KeyOf<T>> {
+    keyed: Keyed<T, By>,
+    places: Places<Or::Key>,
+}
+
+impl<T, By: KeyOf<T>, Or: KeyOf<T>> Model for TwiceKeyed<T, By, Or> {
+    ghost use Rattle.std.specs.Prelude.{min, map};
+    ghost use Rattle.tb_index.specs.Listed.{Listed};
+    ghost use Rattle.tb_index.specs.Indexes.{ArePlaces};
+
+    ghost Value = { Listed T };
+
+    ghost view = { λ twice. record { list = twice.keyed.list; spare = min twice.keyed.spare twice.places.spare } };
+
+    ghost invariant = { λ twice. ArePlaces Or.Key.cmp (map Or.key_of twice.keyed.list) twice.places.elements };
+}
+
+impl<T: Drop, By: KeyOf<T>, Or: KeyOf<T>> TwiceKeyed<T, By, Or> {
+    /// No rows, which take no memory.
+    pub fn new(alloc: Global) -> TwiceKeyed<T, By, Or>
+        ensures list { result.list ≡ [] }
+        ensures spare { result.spare ≡ 0 }
+    {
+        TwiceKeyed {
+            keyed: Keyed::new(alloc),
+            places: Ordered::new(alloc),
+        }
+    }
+
+    /// Makes so many adds sure. No other call takes memory.
+    pub fn reserve(&mut self, more: usize) -> Result<(), OutOfMemory>
+        ensures spare { OnOk result (more ≤ self.new.spare) }
+        // The rows stay, and no room is lost, whatever the result.
+        ensures list { self.new.list ≡ self.old.list }
+        ensures room { self.old.spare ≤ self.new.spare }
+    {
+        self.keyed.reserve(more)?;
+        self.places.reserve(more)?;
+        Ok(())
+    }
+
+    /// How many adds are sure.
+    pub fn spare(&self) -> usize
+        ensures { result ≡ self.now.spare }
+    {
+        self.keyed.spare().min(self.places.spare())
+    }
+
+    /// The rows, in the order of adding.
+    pub fn rows(&self) -> &[T]
+        ensures { result.now ≡ self.now.list }
+    {
+        self.keyed.rows()
+    }
+
+    /// The rows, to be found by the one key.
+    pub fn keyed(&self) -> &Keyed<T, By>
+        ensures { result.now.list ≡ self.now.list }
+    {
+        &self.keyed
+    }
+
+    /// The place of the first row that has the other key.
+    pub fn find_other(&self, key: &Or::Key) -> Option<usize>
+        ensures { result ≡ position (λ row. Or.Key.eq (Or.key_of row) key.now) self.now.list }
+    {
+        first_place(&self.places, key)
+    }
+
+    /// The first row that has the other key.
+    pub fn get_other(&self, key: &Or::Key) -> Option<&T>
+        ensures { option_copied result ≡ find (λ row. Or.Key.eq (Or.key_of row) key.now) self.now.list }
+    {
+        let place = self.find_other(key)?;
+        Some(&self.rows()[place])
+    }
+
+    /// Whether a row has the other key.
+    pub fn has_other(&self, key: &Or::Key) -> bool
+        ensures { result ≡ list_any (λ row. Or.Key.eq (Or.key_of row) key.now) self.now.list }
+    {
+        self.find_other(key).is_some()
+    }
+
+    /// Adds a row at the end, which can't fail.
+    pub fn push(&mut self, row: T)
+        requires { 0 < self.old.spare }
+        ensures list { self.new.list ≡ self.old.list ++ row ∷ [] }
+        ensures spare { self.old.spare ≤ self.new.spare + 1 }
+    {
+        add_place(&mut self.places, Or::key_of(&row), self.keyed.len());
+        self.keyed.push(row);
+    }
+
+    /// Takes the last row back. `None` where there is no row.
+    pub fn pop(&mut self) -> Option<T>
+        ensures none { IsNone result ↔ (self.old.list ≡ []) }
+        ensures some { IfSome result (λ row. self.old.list ≡ self.new.list ++ row ∷ []) }
+        ensures unchanged { IsNone result → self.new.list ≡ self.old.list }
+        // No room is lost.
+        ensures spare { self.old.spare ≤ self.new.spare }
+    {
+        let row = self.keyed.pop()?;
+        take_place(&mut self.places, &Or::key_of(&row), self.keyed.len());
+        Some(row)
+    }
+}
