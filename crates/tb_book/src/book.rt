@@ -72,6 +72,13 @@ impl Book {
         Ok(())
     }
 
+    /// How many more lines there is room for.
+    pub fn spare(&self) -> u64
+        ensures { result ≡ self.now.spare }
+    {
+        self.spare as u64
+    }
+
     /// Adds a line, which can't fail.
     pub fn add(&mut self, line: BookLine)
         requires room { 0 < self.old.spare }

@@ -1,0 +1,4 @@
+pub mod FindLemmas
+pub mod ChangeLemmas
+pub mod ReadyLemmas
+pub mod SumsLemmas

@@ -1,0 +1,6 @@
+-- No book that stands ready loses places.
+use Rattle.std.proofs.Common.{arith}
+use Rattle.tb_shelf.proofs.shelf.Shelf.prepare.Goals as goal
+
+pub invariant_of-self-in_err-raise_all : goal.invariant_of-self-in_err-raise_all
+invariant_of-self-in_err-raise_all c = (c.raise_all.ensures.kept c.self.inside.places c.self.invariant.0, omega arith)
