@@ -1,0 +1,2 @@
+pub mod Biddings
+pub mod Outcomes
