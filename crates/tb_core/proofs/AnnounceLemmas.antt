@@ -1,5 +1,5 @@
 -- The rows of an announcement, part by part.
-use Rattle.std.proofs.Common.{◌≡◌, ◌++◌, Bool, true, false, Option, Some, None, List, [], ◌∷◌, is_some, refl, ap, ◌∙◌, append_assoc}
+use Rattle.std.proofs.Common.{◌≡◌, ◌++◌, Bool, true, false, Some, None, List, is_some, refl, ap, ◌∙◌, append_assoc}
 use Rattle.tb_terms.specs.declared.announcement.Announcement.{Announcement}
 use Rattle.tb_terms.specs.declared.refusal.Refusal.{Refusal}
 use Rattle.tb_terms.specs.declared.refusal.Refusal.TheVariants as refusal

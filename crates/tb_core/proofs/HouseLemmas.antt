@@ -1,15 +1,52 @@
 -- The host's tables stay tied, and its room is what it was, or is longer, or less by one.
-use Rattle.std.proofs.Common.{◌≡◌, ℕ, ◌+◌, ◌-◌, ◌≤◌, ◌++◌, max, List, [], ◌∷◌, sym, subst, arith}
+use Rattle.std.proofs.Common.{◌≡◌, ℕ, ◌+◌, ◌-◌, ◌*◌, ◌^◌, ◌<◌, ◌≤◌, ◌++◌, max, true, refl, inl, inr, List, [], ◌∷◌, length, length-append, sym, ap, ◌∙◌, subst, arith}
 use Rattle.tb_message.specs.declared.message.Entry.{Entry}
-use Rattle.tb_history.specs.Legal.{Follows}
+use Rattle.tb_message.specs.declared.message.Message.{Message}
+use Rattle.tb_message.specs.declared.message.Message.TheVariants as message
+use Rattle.tb_history.specs.Entries.{bid_by, enrolled_by}
+use Rattle.tb_history.specs.Legal.{Follows, Longer}
+use Rattle.tb_core.specs.declared.scratch.Scratch.{Scratch}
 use Rattle.tb_core.specs.declared.tables.Tables.{Tables}
-use Rattle.tb_core.specs.Listed.{Listed}
-use Rattle.tb_core.specs.House.{AreTied, AreSame, HasEntered, HasRoom, IsHouse}
+use Rattle.tb_index.specs.Listed.{Listed}
+use Rattle.tb_core.specs.Settling.{HasScratch}
+use Rattle.tb_core.specs.Accounting.{TellsNext}
+use Rattle.tb_core.specs.Crediting.{movement_in}
+use Rattle.tb_core.specs.House.{AreTied, AreSame, HasEntered, HasRows, HasRoom, IsHouse, room_of}
 use Rattle.tb_core.proofs.TiedLemmas.{AreTied-same, AreTied-push}
+use Rattle.std.specs.List.{filter}
+use Rattle.std.proofs.lemmas.Bool.{and_parts, cases_lt}
+use Rattle.tb_units.specs.Multiples.{most_par}
+use Rattle.tb_history.specs.declared.roster.Enrolment.{Enrolment}
+use Rattle.tb_history.specs.declared.bids.Bid.{Bid}
+use Rattle.tb_history.specs.Roster.{enrolments}
+use Rattle.tb_history.specs.LiveBids.{par_of}
+use Rattle.tb_history.proofs.GrowthLemmas.{bids-snoc}
+use Rattle.tb_core.specs.Rooms.{Fits, HasRoomAhead, KeepsRoom, TakesRoom, announces, behind, has_place}
+use Rattle.tb_core.specs.Shelving.{TakesMessage}
+use Rattle.tb_core.proofs.BookLemmas.{Follows-next, HasNextRoom, takes-message}
+use Rattle.tb_core.proofs.KeptLemmas.{IsKeptShelf-both, KeepsRoom-kept}
+use Rattle.tb_core.proofs.NumberLemmas.{IsLegal-bidders}
+use Rattle.tb_history.proofs.ParLemmas.{IsLegal-par}
+use Rattle.tb_core.proofs.RoomLemmas.{TakesRoom-by, behind_length}
+
+-- so it is in accounts
+room_max : (one other bidders spare : ℕ)
+    → one * (bidders + one) ≤ spare
+    → other * (bidders + other) ≤ spare
+    → max one other * (bidders + max one other) ≤ spare
+room_max one other bidders spare first second =
+    elim (cases_lt one other) [
+      | inl less ↦
+          let is : other ≡ max one other = omega (arith, less) in
+          subst (λ (n : ℕ). n * (bidders + n) ≤ spare) is second
+      | inr most ↦
+          let is : one ≡ max one other = omega (arith, most) in
+          subst (λ (n : ℕ). n * (bidders + n) ≤ spare) is first
+    ]
 
 -- room for one number and for another is room for the greater
-HasRoom-max : (one other : ℕ) (tables : Tables) → HasRoom one tables → HasRoom other tables → HasRoom (max one other) tables
-HasRoom-max one other tables first second = record {
+HasRows-max : (one other : ℕ) (tables : Tables) → HasRows one tables → HasRows other tables → HasRows (max one other) tables
+HasRows-max one other tables first second = record {
   submitters = omega (arith, first.submitters, second.submitters);
   bidders = omega (arith, first.bidders, second.bidders);
   holidays = omega (arith, first.holidays, second.holidays);
@@ -20,6 +57,20 @@ HasRoom-max one other tables first second = record {
   published = omega (arith, first.published, second.published);
   settled = omega (arith, first.settled, second.settled);
   redeemed = omega (arith, first.redeemed, second.redeemed);
+  places = omega (arith, first.places, second.places);
+  calendar = omega (arith, first.calendar, second.calendar);
+}
+
+-- and so it is everywhere
+HasRoom-max : (one other : ℕ) (tables : Tables) → HasRoom one tables → HasRoom other tables → HasRoom (max one other) tables
+HasRoom-max one other tables first second = record {
+  rows = HasRows-max one other tables first.rows second.rows;
+  accounts = record {
+    accounts = room_max one other (length tables.bidders.list) tables.accounts.spare_accounts first.accounts.accounts
+        second.accounts.accounts;
+    marks = omega (arith, first.accounts.marks, second.accounts.marks);
+    redeems = omega (arith, first.accounts.redeems, second.accounts.redeems);
+  };
 }
 
 -- where the rows stay and no room is lost, it is a host as before
@@ -28,11 +79,13 @@ pub house_kept : (old new : Listed Entry) (before after : Tables)
     → old.spare ≤ new.spare
     → AreSame before after
     → ((room : ℕ) → HasRoom room before → HasRoom room after)
+    → HasScratch (length after.bids.list) (length after.bidders.list) after.scratch
     → (room : ℕ) → IsHouse old before room → IsHouse new after room
-house_kept old new before after list spare same keeps room house = record {
+house_kept old new before after list spare same keeps scratch room house = record {
   tied = subst (λ (h : List Entry). AreTied h after) (sym list) (AreTied-same old.list before after house.tied same);
   roomy = keeps room house.roomy;
   spare = omega (arith, house.spare, spare);
+  scratch = scratch;
 }
 
 -- and where so many adds are sure it has room for as many
@@ -43,42 +96,67 @@ pub house_more : (old new : Listed Entry) (before after : Tables) (more : ℕ)
     → AreSame before after
     → ((room : ℕ) → HasRoom room before → HasRoom room after)
     → HasRoom more after
+    → HasScratch (length after.bids.list) (length after.bidders.list) after.scratch
     → (room : ℕ) → IsHouse old before room → IsHouse new after (max room more)
-house_more old new before after more list spare sure same keeps roomy room house = record {
+house_more old new before after more list spare sure same keeps roomy scratch room house = record {
   tied = subst (λ (h : List Entry). AreTied h after) (sym list) (AreTied-same old.list before after house.tied same);
   roomy = HasRoom-max room more after (keeps room house.roomy) roomy;
   spare = omega (arith, house.spare, spare, sure);
+  scratch = scratch;
 }
+
+-- room for bids and bidders is room for fewer
+HasScratch-less : (bids bidders fewer less : ℕ) (scratch : Scratch)
+    → fewer ≤ bids
+    → less ≤ bidders
+    → HasScratch bids bidders scratch
+    → HasScratch fewer less scratch
+HasScratch-less bids bidders fewer less scratch few small has = record {
+  lines = λ some. omega (arith, few, has.lines some);
+  bidders_too = λ some. omega (arith, small, has.bidders_too some);
+  positions = λ some. omega (arith, small, has.positions some);
+}
+
+-- a message bids once at most
+one-bid : (s : List ℕ) (n : ℕ) (m : Message) → length (bid_by s n m) ≤ 1
+one-bid s n (message.Bid auction bidder rate amount) = omega arith
+one-bid s n other = omega arith
+
+-- and enrols one bidder at most
+one-bidder : (m : Message) → length (enrolled_by m) ≤ 1
+one-bidder (message.Enrol bidder submitter) = omega arith
+one-bidder other = omega arith
+
+-- so a settlement finds its room for one message fewer
+scratch_push : (before after : Tables) (s : List ℕ) (n : ℕ) (m : Message)
+    → HasEntered s n m before after
+    → HasScratch (length before.bids.list) (length before.bidders.list) before.scratch
+    → HasScratch (length after.bids.list) (length after.bidders.list) after.scratch
+scratch_push before after s n m entered has =
+    let bids : length after.bids.list ≡ length before.bids.list + length (bid_by s n m) =
+    ap length entered.bids ∙ length-append before.bids.list (bid_by s n m) in
+    let bidders : length after.bidders.list ≡ length before.bidders.list + length (enrolled_by m) =
+    ap length entered.bidders ∙ length-append before.bidders.list (enrolled_by m) in
+    HasScratch-less (length before.bids.list + 1) (length before.bidders.list + 1) (length after.bids.list)
+    (length after.bidders.list) after.scratch (omega (arith, bids, one-bid s n m)) (omega (arith, bidders, one-bidder m))
+    (entered.scratch.has (length before.bids.list) (length before.bidders.list) has)
 
 -- with an accepted entry it has room for one fewer
 pub house_push : (old new : Listed Entry) (before after : Tables) (e : Entry)
     → Follows old.list e
+    → TellsNext (movement_in before e.submitter e.number e.message) before.accounts after.accounts
     → new.list ≡ old.list ++ e ∷ []
     → old.spare ≤ new.spare + 1
     → HasEntered e.submitter e.number e.message before after
     → after.last ≡ e.moment
     → ((room : ℕ) → HasRoom (room + 1) before → HasRoom room after)
     → (room : ℕ) → IsHouse old before (room + 1) → IsHouse new after room
-house_push old new before after e follows list spare entered last keeps room house = record {
+house_push old new before after e follows told list spare entered last keeps room house = record {
   tied = subst (λ (h : List Entry). AreTied h after) (sym list)
-      (AreTied-push old.list before after e house.tied follows entered last);
+      (AreTied-push old.list before after e house.tied follows told entered last);
   roomy = keeps room house.roomy;
   spare = omega (arith, house.spare, spare);
-}
-
--- room for a number is room for a smaller one
-pub HasRoom-less : (room less : ℕ) (tables : Tables) → less ≤ room → HasRoom room tables → HasRoom less tables
-HasRoom-less room less tables smaller has = record {
-  submitters = omega (arith, smaller, has.submitters);
-  bidders = omega (arith, smaller, has.bidders);
-  holidays = omega (arith, smaller, has.holidays);
-  auctions = omega (arith, smaller, has.auctions);
-  bids = omega (arith, smaller, has.bids);
-  cancels = omega (arith, smaller, has.cancels);
-  reports = omega (arith, smaller, has.reports);
-  published = omega (arith, smaller, has.published);
-  settled = omega (arith, smaller, has.settled);
-  redeemed = omega (arith, smaller, has.redeemed);
+  scratch = scratch_push before after e.submitter e.number e.message entered house.scratch;
 }
 
 -- some room is room for one more than one fewer
@@ -89,3 +167,79 @@ pub house_one_more : (entries : Listed Entry) (tables : Tables) (room : ℕ)
 house_one_more entries tables room some house =
     let same : room ≡ room - 1 + 1 = omega (arith, some) in
     subst (λ (n : ℕ). IsHouse entries tables n) same house
+
+-- rows that stay twice stay
+pub AreSame-both : (one two three : Tables) → AreSame one two → AreSame two three → AreSame one three
+AreSame-both one two three first second = record {
+  last = second.last ∙ first.last;
+  submitters = second.submitters ∙ first.submitters;
+  bidders = second.bidders ∙ first.bidders;
+  holidays = second.holidays ∙ first.holidays;
+  auctions = second.auctions ∙ first.auctions;
+  bids = second.bids ∙ first.bids;
+  cancels = second.cancels ∙ first.cancels;
+  reports = second.reports ∙ first.reports;
+  published = second.published ∙ first.published;
+  settled = second.settled ∙ first.settled;
+  redeemed = second.redeemed ∙ first.redeemed;
+  shelf = IsKeptShelf-both one.shelf two.shelf three.shelf first.shelf second.shelf;
+  lasts = omega (arith, first.lasts, second.lasts);
+  calendar = second.calendar ∙ first.calendar;
+  accounts = λ movements told. second.accounts movements (first.accounts movements told);
+}
+
+-- where the rows stay and no room is lost, what fitted still fits
+pub KeepsRoom-same : (old new : ℕ) (before after : Tables)
+    → old ≤ new → AreSame before after → KeepsRoom (room_of old before) (room_of new after)
+KeepsRoom-same old new before after more same =
+    KeepsRoom-kept (room_of old before) (room_of new after) more same.shelf same.lasts
+
+-- the tables can take an accepted message for which there is room
+pub takes-entry : (h : List Entry) (tables : Tables) (room : ℕ) (e : Entry)
+    → AreTied h tables
+    → Follows h e
+    → Fits (room_of room tables) (e.message ∷ [])
+    → TakesMessage tables.bidders.list e.submitter e.number e.message tables.shelf
+takes-entry h tables room e tied follows fits =
+    subst (λ (es : List Enrolment). TakesMessage es e.submitter e.number e.message tables.shelf) (sym tied.bidders_are)
+    (takes-message h e.submitter e.number e.moment e.message tables.shelf (Follows-next h e tied.legal follows)
+    (subst (λ (bs : List Bid). par_of bs ≤ most_par) (bids-snoc h e) (IsLegal-par (h ++ e ∷ []) (Longer h e tied.legal follows)))
+    tied.books_are (next-room e.message room tables fits))
+  where
+    next-room : (m : Message) (room : ℕ) (tables : Tables) → Fits (room_of room tables) (m ∷ []) → HasNextRoom m tables.shelf
+    next-room m room tables fits =
+        let place = and_parts (has_place tables.shelf.books 1 m) true fits.ahead.places in
+        record {
+          ready = λ is.
+              let one : length (filter announces (m ∷ [])) ≡ 1 = rw is refl in
+              omega (arith, fits.ahead.ready, one);
+          place = place.0;
+        }
+
+-- there are few bidders
+pub few-bidders : (h : List Entry) (tables : Tables) → AreTied h tables → length tables.bidders.list < 2 ^ 32
+few-bidders h tables tied =
+    let same : length tables.bidders.list ≡ length (enrolments h) = ap length tied.bidders_are in
+    omega (arith, same, IsLegal-bidders h tied.legal)
+
+-- what a message takes of the host's room
+pub takes-room : (h : List Entry) (old new : ℕ) (before after : Tables) (s : List ℕ) (n : ℕ) (m : Message)
+    → HasRoom old before
+    → HasEntered s n m before after
+    → new + 1 ≡ old
+    → TakesRoom m (room_of old before) (room_of new after)
+takes-room h old new before after s n m roomy entered less =
+    TakesRoom-by before.bidders.list before.bids.list s n m (room_of old before) (room_of new after)
+    (record {
+      shelf = entered.shelf;
+      rows = omega (arith, less);
+      enough = roomy.rows.places;
+      lasts = entered.scratch.lasts;
+    })
+
+-- with room for as many rows as there are messages, and for what they need ahead, they fit
+pub fits_more : (room : ℕ) (tables : Tables) (ahead : List Entry) (m : Message)
+    → length ahead + 1 ≤ room
+    → HasRoomAhead tables.shelf tables.scratch.lasts (behind ahead m)
+    → Fits (room_of room tables) (behind ahead m)
+fits_more room tables ahead m rows has = record { rows = omega (arith, rows, behind_length ahead m); ahead = has }

@@ -1,12 +1,301 @@
 -- Room for a list of messages.
-use Rattle.std.proofs.Common.{◌≡◌, ◌+◌, ◌∙◌, ap, List, [], ◌∷◌, map, length, length-append}
-use Rattle.std.proofs.lemmas.List.{length-map}
+use Rattle.std.proofs.Common.{◌≡◌, ℕ, suc, ◌+◌, ◌<◌, ◌≤◌, ◌&&◌, ◌||◌, ◌∙◌, Bool, true, false, cond, Option, Some, None, inl, inr, refl, sym, ap, ap₂, subst, List, [], ◌∷◌, ◌++◌, map, nat_le, length, length-append, get_or, take, Result, Ok, Err, arith}
+use Rattle.std.specs.Prelude.{OnOk}
+use Rattle.std.specs.Option.{option_map_or}
+use Rattle.std.specs.List.{filter, list_all, list_any}
+use Rattle.std.proofs.lemmas.Bool.{and_from, and_parts, cases_Bool, leb-true, le-leb, or_left, or_right}
+use Rattle.std.proofs.lemmas.List.{length-map, take_all}
+use Rattle.std.proofs.lemmas.List.Elements.{filter-append}
+use Rattle.std.proofs.lemmas.List.Folds.{list_all-append, list_all-map, list_all_more, list_any-append}
 use Rattle.tb_message.specs.declared.message.Entry.{Entry}
 use Rattle.tb_message.specs.declared.message.Message.{Message}
-use Rattle.tb_core.specs.Rooms.{behind}
+use Rattle.tb_message.specs.declared.message.Message.TheVariants as message
+use Rattle.tb_book.specs.Books.{Bids}
+use Rattle.tb_shelf.specs.declared.named.NamedBook.{NamedBook}
+use Rattle.tb_shelf.specs.Shelves.{Goes, IsAdded, IsChanged, IsLowered, Shelved, book_in, has_places, is_of}
+use Rattle.tb_history.specs.declared.roster.Enrolment.{Enrolment}
+use Rattle.tb_history.specs.declared.bids.Bid.{Bid}
+use Rattle.tb_history.specs.Entries.{announced_by, is_same}
+use Rattle.tb_history.specs.LiveBids.{bid_of}
+use Rattle.tb_history.specs.Readings.{place_of}
+use Rattle.tb_history.proofs.SameLemmas.{is_same-equal}
+use Rattle.tb_core.specs.Rooms.{Fits, Room, TakesRoom, announces, behind, has_place, settles}
+use Rattle.tb_core.specs.Shelving.{HasShelved, IsKeptShelf, IsOut, Shelves}
+use Rattle.tb_core.proofs.KeptLemmas.{has_place-kept, list_all-weaker}
 
 -- the messages of the entries that are undecided, and one more
 pub behind_length : (ahead : List Entry) (message : Message) → length (behind ahead message) ≡ length ahead + 1
 behind_length ahead message =
     length-append (map (λ (entry : Entry). entry.message) ahead) (message ∷ [])
     ∙ ap (λ n. n + 1) (length-map ahead (λ (entry : Entry). entry.message))
+
+-- as many of them pass as do among the entries and with the last one
+filter-mapped : (test : Message → Bool) (ahead : List Entry)
+    → length (filter test (map (λ (entry : Entry). entry.message) ahead))
+    ≡ length (filter (λ (entry : Entry). test entry.message) ahead)
+filter-mapped test [] = refl
+filter-mapped test (entry ∷ ahead) =
+    elim (cases_Bool (test entry.message)) [
+      | inl is ↦ rw is (ap (λ n. suc n) (filter-mapped test ahead))
+      | inr isnt ↦ rw isnt (filter-mapped test ahead)
+    ]
+
+-- one passes or none
+one-filtered : (test : Message → Bool) (message : Message) → length (filter test (message ∷ [])) ≡ cond (test message) 1 0
+one-filtered test message = elim (cases_Bool (test message)) [ inl is ↦ rw is refl | inr isnt ↦ rw isnt refl ]
+
+-- together
+pub behind_count : (test : Message → Bool) (ahead : List Entry) (message : Message)
+    → length (filter test (behind ahead message))
+    ≡ length (filter (λ (entry : Entry). test entry.message) ahead) + cond (test message) 1 0
+behind_count test ahead message =
+    let before = map (λ (entry : Entry). entry.message) ahead in
+    ap length (filter-append test before (message ∷ []))
+    ∙ length-append (filter test before) (filter test (message ∷ []))
+    ∙ ap₂ (λ a b. a + b) (filter-mapped test ahead) (one-filtered test message)
+
+-- a test with nothing more
+and_true : (b : Bool) → (b && true) ≡ b
+and_true true = refl
+and_true false = refl
+
+-- nor another
+or_false : (b : Bool) → (b || false) ≡ b
+or_false true = refl
+or_false false = refl
+
+-- whether each of them passes
+pub behind_all : (test : Message → Bool) (ahead : List Entry) (message : Message)
+    → list_all test (behind ahead message) ≡ (list_all (λ (entry : Entry). test entry.message) ahead && test message)
+behind_all test ahead message =
+    list_all-append test (map (λ (entry : Entry). entry.message) ahead) (message ∷ [])
+    ∙ ap₂ (λ a b. a && b) (list_all-map test (λ (entry : Entry). entry.message) ahead) (and_true (test message))
+
+-- some pass among those of the entries just where an entry's does
+any-mapped : (test : Message → Bool) (ahead : List Entry)
+    → list_any test (map (λ (entry : Entry). entry.message) ahead) ≡ list_any (λ (entry : Entry). test entry.message) ahead
+any-mapped test [] = refl
+any-mapped test (entry ∷ ahead) = ap (λ b. test entry.message || b) (any-mapped test ahead)
+
+-- whether one of them passes
+pub behind_any : (test : Message → Bool) (ahead : List Entry) (message : Message)
+    → list_any test (behind ahead message) ≡ (list_any (λ (entry : Entry). test entry.message) ahead || test message)
+behind_any test ahead message =
+    list_any-append test (map (λ (entry : Entry). entry.message) ahead) (message ∷ [])
+    ∙ ap₂ (λ a b. a || b) (any-mapped test ahead) (or_false (test message))
+
+-- a book with places has fewer too
+places-less : (found : Option Bids) (n fewer : ℕ)
+    → fewer ≤ n
+    → option_map_or (λ (book : Bids). nat_le n book.spare) found true ≡ true
+    → option_map_or (λ (book : Bids). nat_le fewer book.spare) found true ≡ true
+places-less None n fewer less has = refl
+places-less (Some book) n fewer less has = le-leb fewer book.spare (omega (arith, leb-true n book.spare has, less))
+
+-- so has each message's book
+pub has_place-less : (books : List NamedBook) (n fewer : ℕ) (m : Message)
+    → fewer ≤ n
+    → has_place books n m ≡ true
+    → has_place books fewer m ≡ true
+has_place-less books n fewer (message.Bid auction bidder rate amount) less has =
+    places-less (book_in books auction) n fewer less has
+has_place-less books n fewer other less has = refl
+
+-- a message counts as an announcement or not
+announces-cons : (m : Message) (ms : List Message)
+    → length (filter announces (m ∷ ms)) ≡ length (announced_by m) + length (filter announces ms)
+announces-cons (message.Announce a) ms = omega arith
+announces-cons other ms = omega arith
+
+-- no message needs no room
+pub Fits-nil : (room : Room) → Fits room []
+Fits-nil room =
+    record {
+      rows = omega arith;
+      ahead = record {
+        ready = omega arith;
+        places = refl;
+        settling = λ none. let wrong : false ≡ true = none in absurd cc;
+      };
+    }
+
+-- room for messages is room for the first of them alone
+pub Fits-one : (room : Room) (m : Message) (ms : List Message) → Fits room (m ∷ ms) → Fits room (m ∷ [])
+Fits-one room m ms fits =
+    let books = room.shelf.books in
+    let parts = and_parts (has_place books (length (m ∷ ms)) m) (list_all (has_place books (length (m ∷ ms))) ms) fits.ahead.places in
+    record {
+      rows = omega (arith, fits.rows);
+      ahead = record {
+        ready = omega (arith, fits.ahead.ready, announces-cons m ms, announces-cons m []);
+        places = and_from (has_place books 1 m) true
+            (has_place-less books (length (m ∷ ms)) 1 m (omega arith) parts.0) refl;
+        settling = λ is. omega (
+          arith,
+          fits.ahead.settling (or_left (settles m) (list_any settles ms) (sym (or_false (settles m)) ∙ is)),
+        );
+      };
+    }
+
+-- and for the others
+pub Fits-rest : (room : Room) (m : Message) (ms : List Message) → Fits room (m ∷ ms) → Fits room ms
+Fits-rest room m ms fits =
+    let books = room.shelf.books in
+    let parts = and_parts (has_place books (length (m ∷ ms)) m) (list_all (has_place books (length (m ∷ ms))) ms) fits.ahead.places in
+    record {
+      rows = omega (arith, fits.rows);
+      ahead = record {
+        ready = omega (arith, fits.ahead.ready, announces-cons m ms);
+        places = list_all-weaker (has_place books (length (m ∷ ms))) (has_place books (length ms)) ms
+            (λ x has. has_place-less books (length (m ∷ ms)) (length ms) x (omega arith) has) parts.1;
+        settling = λ is. omega (arith, fits.ahead.settling (or_right (settles m) (list_any settles ms) is));
+      };
+    }
+
+-- a book that goes so has a place fewer at most
+goes-places : (Change : Bids → Bids → Type 0) (before after : Option Bids) (n : ℕ)
+    → ((one other : Bids) → Change one other → one.spare ≤ other.spare + 1)
+    → Goes Change before after
+    → option_map_or (λ (book : Bids). nat_le (n + 1) book.spare) before true ≡ true
+    → option_map_or (λ (book : Bids). nat_le n book.spare) after true ≡ true
+goes-places Change None None n takes goes has = refl
+goes-places Change None (Some after) n takes goes has = absurd goes
+goes-places Change (Some before) None n takes goes has = absurd goes
+goes-places Change (Some before) (Some after) n takes goes has =
+    le-leb n after.spare (omega (arith, leb-true (n + 1) before.spare has, takes before after goes))
+
+-- so it is with all books where one goes so
+places-changed : (name : List ℕ) (Change : Bids → Bids → Type 0) (old new : List NamedBook) (n : ℕ)
+    → ((one other : Bids) → Change one other → one.spare ≤ other.spare + 1)
+    → IsChanged name Change old new
+    → (auction : List ℕ) → has_places old (n + 1) auction ≡ true → has_places new n auction ≡ true
+places-changed name Change old new n takes changed auction has =
+    elim (cases_Bool (is_same name auction)) [
+      | inl is ↦
+          let same = is_same-equal name auction is in
+          subst (λ (x : List ℕ). has_places new n x ≡ true) same
+          (goes-places Change (book_in old name) (book_in new name) n takes changed.changed
+          (subst (λ (x : List ℕ). has_places old (n + 1) x ≡ true) (sym same) has))
+      | inr isnt ↦
+          subst (λ (found : Option Bids). option_map_or (λ (book : Bids). nat_le n book.spare) found true ≡ true)
+          (sym (changed.others auction isnt)) (places-less (book_in old auction) (n + 1) n (omega arith) has)
+    ]
+
+-- with a book more that has the places
+places-opened : (old : List NamedBook) (named : NamedBook) (auction : List ℕ) (n : ℕ)
+    → n ≤ named.book.spare
+    → has_places old n auction ≡ true
+    → has_places (old ++ named ∷ []) n auction ≡ true
+places-opened [] named auction n enough has =
+    elim (cases_Bool (is_of auction named)) [
+      | inl is ↦ rw is (le-leb n named.book.spare enough)
+      | inr isnt ↦ rw isnt refl
+    ]
+places-opened (first ∷ old) named auction n enough has =
+    elim (cases_Bool (is_of auction first)) [
+      | inl is ↦ rw is (rw is at has)
+      | inr isnt ↦ rw isnt (places-opened old named auction n enough (rw isnt at has))
+    ]
+
+-- a cancel takes no place
+places-out : (enrolled : List Enrolment) (found : Option Bid) (name : List ℕ) (number : ℕ) (old new : List NamedBook) (n : ℕ)
+    → IsOut enrolled found name number old new
+    → (auction : List ℕ) → has_places old (n + 1) auction ≡ true → has_places new n auction ≡ true
+places-out enrolled None name number old new n out auction has =
+    rw out (places-less (book_in old auction) (n + 1) n (omega arith) has)
+places-out enrolled (Some bid) name number old new n out auction has =
+    places-changed name (IsLowered (place_of enrolled bid.bidder) number) old new n
+    (λ one other lowered. omega (arith, lowered.room)) out auction has
+
+-- a message takes one place of a book at most
+places-message : (enrolled : List Enrolment) (all : List Bid) (s : List ℕ) (number : ℕ) (m : Message) (old new : Shelved) (n : ℕ)
+    → n + 1 ≤ old.places
+    → Shelves enrolled all s number m old new
+    → (auction : List ℕ) → has_places old.books (n + 1) auction ≡ true → has_places new.books n auction ≡ true
+places-message enrolled all s number (message.Announce a) old new n enough goes auction has =
+    rw goes.books
+    (places-opened old.books goes.named auction n (omega (arith, goes.room, enough))
+    (places-less (book_in old.books auction) (n + 1) n (omega arith) has))
+places-message enrolled all s number (message.Bid name bidder rate amount) old new n enough goes auction has =
+    places-changed name
+    (IsAdded (record { bidder = place_of enrolled bidder; number = number; rate = rate; amount = amount }))
+    old.books new.books n (λ one other added. added.room) goes auction has
+places-message enrolled all s number (message.Cancel name bid) old new n enough goes auction has =
+    places-out enrolled (bid_of all s name bid) name bid old.books new.books n goes auction has
+places-message enrolled all s number other old new n enough goes auction has =
+    rw goes (places-less (book_in old.books auction) (n + 1) n (omega arith) has)
+
+-- so another message keeps its place
+place-message : (old new : List NamedBook) (n : ℕ) (m : Message)
+    → ((auction : List ℕ) → has_places old (n + 1) auction ≡ true → has_places new n auction ≡ true)
+    → has_place old (n + 1) m ≡ true
+    → has_place new n m ≡ true
+place-message old new n (message.Bid auction bidder rate amount) takes has = takes auction has
+place-message old new n other takes has = refl
+
+-- what a message takes of the room
+pub record IsTakenBy (enrolled : List Enrolment) (all : List Bid) (s : List ℕ) (number : ℕ) (m : Message) (old new : Room) : Type 0 where
+  pub shelf : HasShelved enrolled all s number m old.shelf new.shelf
+  pub rows : old.messages ≤ new.messages + 1
+  pub enough : old.messages ≤ old.shelf.places
+  pub lasts : old.settling ≤ new.settling + 1
+
+-- leaves what the others need
+pub TakesRoom-by : (enrolled : List Enrolment) (all : List Bid) (s : List ℕ) (number : ℕ) (m : Message) (old new : Room)
+    → IsTakenBy enrolled all s number m old new
+    → TakesRoom m old new
+TakesRoom-by enrolled all s number m old new taken ms fits =
+    let n = length ms in
+    let count : length (m ∷ ms) ≡ n + 1 = omega arith in
+    let places : list_all (has_place old.shelf.books (n + 1)) (m ∷ ms) ≡ true =
+    subst (λ (k : ℕ). list_all (has_place old.shelf.books k) (m ∷ ms) ≡ true) count fits.ahead.places in
+    let parts = and_parts (has_place old.shelf.books (n + 1) m) (list_all (has_place old.shelf.books (n + 1)) ms) places in
+    record {
+      rows = omega (arith, fits.rows, taken.rows);
+      ahead = record {
+        ready = omega (arith, fits.ahead.ready, announces-cons m ms, taken.shelf.ready);
+        places = list_all-weaker (has_place old.shelf.books (n + 1)) (has_place new.shelf.books n) ms
+            (λ x has. place-message old.shelf.books new.shelf.books n x
+            (places-message enrolled all s number m old.shelf new.shelf n (omega (arith, fits.rows, taken.enough))
+            taken.shelf.books) has) parts.1;
+        settling = λ is. omega (arith, fits.ahead.settling (or_right (settles m) (list_any settles ms) is), taken.lasts);
+      };
+    }
+
+-- with the next entry's message in its place
+pub places-more : (old new : Shelved) (n : ℕ) (ahead : List Entry) (i : ℕ) (next : Entry)
+    → i < length ahead
+    → next ≡ get_or ahead i next
+    → IsKeptShelf old new
+    → list_all (λ (entry : Entry). has_place old.books n entry.message) (take i ahead) ≡ true
+    → has_place new.books n next.message ≡ true
+    → list_all (λ (entry : Entry). has_place new.books n entry.message) (take (i + 1) ahead) ≡ true
+places-more old new n ahead i next within is kept has here =
+    let before : Entry → Bool = λ entry. has_place old.books n entry.message in
+    let now : Entry → Bool = λ entry. has_place new.books n entry.message in
+    list_all_more now ahead i next within
+    ∙ and_from (list_all now (take i ahead)) (now (get_or ahead i next))
+    (list_all-weaker before now (take i ahead) (λ entry was. has_place-kept old new n entry.message kept was) has)
+    (subst (λ (entry : Entry). now entry ≡ true) is here)
+
+-- and with the last one
+pub places-last : {E : Type 0} (result : Result Unit E) (old new : Shelved) (n : ℕ) (ahead : List Entry) (m : Message) (i : ℕ)
+    → length ahead ≤ i
+    → IsKeptShelf old new
+    → list_all (λ (entry : Entry). has_place old.books n entry.message) (take i ahead) ≡ true
+    → OnOk result (has_place new.books n m ≡ true)
+    → OnOk result (list_all (has_place new.books n) (behind ahead m) ≡ true)
+places-last (Err e) old new n ahead m i whole kept has here = tt
+places-last (Ok u) old new n ahead m i whole kept has here =
+    let before : Entry → Bool = λ entry. has_place old.books n entry.message in
+    let now : Entry → Bool = λ entry. has_place new.books n entry.message in
+    let all : list_all before ahead ≡ true =
+    subst (λ (entries : List Entry). list_all before entries ≡ true) (take_all i ahead whole) has in
+    behind_all (has_place new.books n) ahead m
+    ∙ and_from (list_all now ahead) (has_place new.books n m)
+    (list_all-weaker before now ahead (λ entry is. has_place-kept old new n entry.message kept is) all) here
+
+-- a fact that holds whatever the result
+pub whatever : {E : Type 0} {P : Type 0} (result : Result Unit E) → P → OnOk result P
+whatever (Err e) fact = tt
+whatever (Ok u) fact = fact

@@ -1,9 +1,8 @@
 -- The rows of a message on tables that are tied to the history are those on the history.
-use Rattle.std.proofs.Common.{◌≡◌, ℕ, ℤ, ◌≤◌, Bool, Option, List, refl, sym, subst}
+use Rattle.std.proofs.Common.{◌≡◌, ℕ, ℤ, Bool, Option, List, refl}
 use Rattle.tb_units.specs.declared.moment.Moment.{Moment}
 use Rattle.tb_units.specs.declared.amount.Dollars.{Dollars}
 use Rattle.tb_units.specs.declared.rate.Rate.{Rate}
-use Rattle.tb_units.specs.Multiples.{most_par}
 use Rattle.tb_terms.specs.declared.announcement.Announcement.{Announcement}
 use Rattle.tb_terms.specs.declared.terms.Terms.{Terms}
 use Rattle.tb_rules.specs.declared.own.Own.{Own}
@@ -12,14 +11,13 @@ use Rattle.tb_message.specs.declared.message.Entry.{Entry}
 use Rattle.tb_message.specs.declared.message.Message.TheVariants as message
 use Rattle.tb_history.specs.declared.bids.Bid.{Bid}
 use Rattle.tb_history.specs.Roster.{enrolment_of, is_under, announcement_of, is_named, is_redeemed}
-use Rattle.tb_history.specs.LiveBids.{bid_of, is_cancelled, standing_of, par_of}
+use Rattle.tb_history.specs.LiveBids.{bid_of, is_cancelled, standing_of}
 use Rattle.tb_history.specs.Tables.{rows_of, announce_rows, bid_rows, cancel_rows, position_rows, publish_rows, settle_rows}
 use Rattle.tb_core.specs.declared.tables.Tables.{Tables}
 use Rattle.tb_core.specs.Auctions.{announced_in, announcement_in}
 use Rattle.tb_core.specs.Standings.{capped}
 use Rattle.tb_core.specs.House.{AreTied}
 use Rattle.tb_core.proofs.StandingLemmas.{bid_rows-capped}
-use Rattle.tb_core.proofs.ParLemmas.{IsLegal-par}
 
 -- announce
 pub tied_announce : (h : List Entry) (tables : Tables) → AreTied h tables
@@ -53,10 +51,6 @@ tied_bid h tables tied sender moment auction bidder rate amount found enrolled o
       tied.reports_are,
     )
     (bid_rows-capped _ _ _ moment rate amount.value)
-
--- all bids come to no more than is summed up
-pub tied_par : (h : List Entry) (tables : Tables) → AreTied h tables → par_of tables.bids.list ≤ most_par
-tied_par h tables tied = subst (λ (bids : List Bid). par_of bids ≤ most_par) (sym tied.bids_are) (IsLegal-par h tied.legal)
 
 -- cancel
 pub tied_cancel : (h : List Entry) (tables : Tables) → AreTied h tables

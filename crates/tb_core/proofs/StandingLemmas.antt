@@ -1,13 +1,12 @@
 -- What the code has of a bidder is what stands of it.
-use Rattle.std.proofs.Common.{◌≡◌, ℕ, ◌+◌, ◌≤◌, min, Bool, true, false, cond, Option, Some, None, inl, inr, List, [], ◌∷◌, nat_le, length, refl, sym, ap, ◌∙◌, sum_by, arith}
+use Rattle.std.proofs.Common.{◌≡◌, ℕ, ◌≤◌, min, Bool, Option, Some, None, inl, inr, List, [], ◌∷◌, nat_le, length, refl, arith}
 use Rattle.std.specs.List.{filter}
 use Rattle.std.proofs.lemmas.Bool.{cases_Bool}
 use Rattle.std.proofs.lemmas.List.Sums.{sum_by-cons}
 use Rattle.tb_units.specs.declared.moment.Moment.{Moment}
 use Rattle.tb_units.specs.declared.rate.Rate.{Rate}
 use Rattle.tb_terms.specs.declared.announcement.Announcement.{Announcement}
-use Rattle.tb_rules.specs.declared.own.Own.{Own}
-use Rattle.tb_rules.specs.BidRule.{Standing, standing_in}
+use Rattle.tb_rules.specs.BidRule.{Standing}
 use Rattle.tb_history.specs.declared.bids.Bid.{Bid}
 use Rattle.tb_history.specs.declared.bids.Cancel.{Cancel}
 use Rattle.tb_history.specs.declared.bids.Report.{Report}
@@ -25,21 +24,18 @@ par_of-filter test (bid ∷ bids) =
       | inr isnt ↦ rw isnt (omega (arith, sum_by-cons amount bid bids, par_of-filter test bids))
     ]
 
--- nor is that of some of some of some of them
-pub par_of-three : (one two three : Bid → Bool) (bids : List Bid) → par_of (filter three (filter two (filter one bids))) ≤ par_of bids
-par_of-three one two three bids =
-    omega (arith, par_of-filter three (filter two (filter one bids)), par_of-filter two (filter one bids), par_of-filter one bids)
-
 -- figures that agree are one standing
-pub capped-is : (own : Own) (all : List Bid) (cancelled : List Cancel) (reported : List Report) (auction bidder : List ℕ)
-    → own.competitive.value ≡ par_of (competitive_in (filter (is_live cancelled) (bids_of all auction bidder)))
-    → own.noncompetitive.value ≡ par_of (noncompetitive_in (filter (is_live cancelled) (bids_of all auction bidder)))
-    → own.accepted ≡ min 1000 (length (bids_of all auction bidder))
-    → own.reported ≡ has_report reported auction bidder
-    → standing_in own ≡ capped (standing_of all cancelled reported auction bidder)
+pub capped-is : (competitive noncompetitive accepted : ℕ) (report : Bool) (all : List Bid) (cancelled : List Cancel)
+    (reported : List Report) (auction bidder : List ℕ)
+    → competitive ≡ par_of (competitive_in (filter (is_live cancelled) (bids_of all auction bidder)))
+    → noncompetitive ≡ par_of (noncompetitive_in (filter (is_live cancelled) (bids_of all auction bidder)))
+    → accepted ≡ min 1000 (length (bids_of all auction bidder))
+    → report ≡ has_report reported auction bidder
+    → record { competitive = competitive; noncompetitive = noncompetitive; accepted = accepted; reported = report }
+    ≡ capped (standing_of all cancelled reported auction bidder)
 unfolding standing_of
-capped-is own all cancelled reported auction bidder competitive noncompetitive accepted report =
-    rw (competitive, noncompetitive, accepted, report) refl
+capped-is competitive noncompetitive accepted report all cancelled reported auction bidder par other count there =
+    rw (par, other, count, there) refl
 
 -- the quota is reached alike
 least_cap : (n : ℕ) → nat_le 1000 (min 1000 n) ≡ nat_le 1000 n

@@ -1,24 +1,40 @@
 -- The tables stay tied to the history as it grows.
-use Rattle.std.proofs.Common.{◌≡◌, ℕ, ◌++◌, List, [], ◌∷◌, Option, Some, None, true, false, refl, sym, ap, ◌∙◌, append-nil}
+use Rattle.std.proofs.Common.{◌≡◌, ℕ, ◌++◌, List, [], ◌∷◌, Option, Some, None, true, false, refl, sym, ap, ◌∙◌, subst, append-nil, arith}
+use Rattle.std.specs.Prelude.{option_to_list}
 use Rattle.std.specs.List.{AllByRecursion}
 use Rattle.tb_terms.specs.declared.checking.TermsFault.{TermsFault}
 use Rattle.tb_terms.specs.Faults.{fault_of, fault_rows}
 use Rattle.tb_units.specs.declared.moment.Moment.{Moment}
-use Rattle.tb_terms.specs.declared.terms.Terms.{Terms}
 use Rattle.tb_message.specs.declared.message.Entry.{Entry}
 use Rattle.tb_message.specs.declared.message.Message.{Message}
 use Rattle.tb_message.specs.declared.message.Message.TheVariants as message
-use Rattle.tb_history.specs.Roster.{registrations, enrolments, holidays, announcements, publications, settlements, redemptions, announcement_of, bill_of, is_redeemed}
+use Rattle.tb_history.specs.Roster.{registrations, enrolments, holidays, announcements, publications, settlements, redemptions, announcement_of, bill_of}
 use Rattle.tb_history.specs.LiveBids.{bids, cancels, reports}
 use Rattle.tb_history.specs.Tables.{rows_of, maturity_rows}
-use Rattle.tb_history.specs.Legal.{IsLegal, Empty, Longer, Follows, last_of}
+use Rattle.tb_history.specs.Legal.{Empty, Longer, Follows}
 use Rattle.tb_history.proofs.PartLemmas.{AllByRecursion-front}
 use Rattle.tb_history.proofs.AcceptedLemmas.{IsClear, accepted-passes}
 use Rattle.tb_history.proofs.HistoryLemmas.{last_of-push}
 use Rattle.tb_history.proofs.GrowthLemmas.{registrations-snoc, enrolments-snoc, holidays-snoc, announcements-snoc, publications-snoc, settlements-snoc, redemptions-snoc, bids-snoc, cancels-snoc, reports-snoc}
 use Rattle.tb_core.specs.declared.tables.Tables.{Tables}
 use Rattle.tb_core.specs.Auctions.{announced_in}
+use Rattle.tb_history.specs.declared.roster.Enrolment.{Enrolment}
+use Rattle.tb_history.specs.declared.bids.Bid.{Bid}
+use Rattle.tb_core.specs.Shelving.{HasShelved}
+use Rattle.tb_units.specs.declared.day.Day.{Day}
+use Rattle.tb_movements.specs.Movements.{Movement}
+use Rattle.tb_movements.specs.Told.{IsTold}
+use Rattle.tb_history.specs.Entries.{entered_by}
+use Rattle.tb_history.specs.Moves.{Numbering, settled_as, movement_by}
+use Rattle.tb_history.proofs.NumberingLemmas.{movements-grow}
+use Rattle.tb_terms.specs.declared.announcement.Announcement.{Announcement}
+use Rattle.tb_core.specs.Crediting.{settled_in, movement_in}
+use Rattle.tb_core.specs.Calendar.{IsCalendar}
+use Rattle.tb_core.specs.Accounting.{numbers_in, numbers_of, moved_in, TellsNext}
 use Rattle.tb_core.specs.House.{AreTied, AreSame, HasEntered, IsInOrder}
+use Rattle.tb_core.proofs.CalendarLemmas.{IsCalendar-push}
+use Rattle.tb_core.proofs.BookLemmas.{AreBooks-nil, AreBooks-push}
+use Rattle.tb_core.proofs.KeptLemmas.{AreBooks-kept}
 
 -- nothing is added
 pub nothing_more : {X : Type 0} (xs : List X) → xs ≡ xs ++ []
@@ -32,14 +48,62 @@ grown : {X : Type 0} (new old said before after : List X)
     → new ≡ after
 grown new old said before after grows is says = grows ∙ (ap (λ xs. xs ++ said) is ∙ sym says)
 
+-- the books go by what the history says of bidders and bids
+shelved-tied : (h : List Entry) (old new : Tables) (e : Entry)
+    → AreTied h old
+    → HasEntered e.submitter e.number e.message old new
+    → HasShelved (enrolments h) (bids h) e.submitter e.number e.message old.shelf new.shelf
+shelved-tied h old new e tied entered =
+    subst (λ (es : List Enrolment). HasShelved es (bids h) e.submitter e.number e.message old.shelf new.shelf) tied.bidders_are
+    (subst (λ (bs : List Bid). HasShelved old.bidders.list bs e.submitter e.number e.message old.shelf new.shelf) tied.bids_are
+    entered.shelf)
+
+-- the tables number participants and bills as the history does
+pub numbers-tied : (h : List Entry) (tables : Tables)
+    → AreTied h tables
+    → numbers_in tables.submitters.list tables.auctions.list ≡ numbers_of h
+numbers-tied h tables tied = rw (tied.submitters_are, tied.auctions_are) refl
+
+-- what a settlement moves
+settled-tied : (h : List Entry) (tables : Tables) (found : Option Announcement)
+    → AreTied h tables
+    → settled_in tables found ≡ settled_as (numbers_of h) h found
+settled-tied h tables None tied = refl
+settled-tied h tables (Some a) tied =
+    rw (tied.submitters_are, tied.auctions_are, tied.bidders_are, tied.bids_are, tied.cancels_are, tied.reports_are) refl
+
+-- the tables say what the next entry moves
+pub movement-tied : (h : List Entry) (tables : Tables)
+    → AreTied h tables
+    → (s : List ℕ) (n : ℕ) (m : Message) → movement_in tables s n m ≡ movement_by (numbers_of h) h s n m
+movement-tied h tables tied s n (message.Settle auction) =
+    settled-tied h tables (announcement_of (announced_in tables.auctions.list) auction) tied
+    ∙ ap (λ (all : List Announcement). settled_as (numbers_of h) h (announcement_of all auction)) tied.auctions_are
+movement-tied h tables tied s n plain =
+    ap (λ (numbers : Numbering). movement_by numbers [] s n plain) (numbers-tied h tables tied)
+
+-- so the accounts tell what has moved with it
+accounts_tell-push : (h : List Entry) (old new : Tables) (e : Entry)
+    → AreTied h old
+    → Follows h e
+    → TellsNext (movement_in old e.submitter e.number e.message) old.accounts new.accounts
+    → IsTold (moved_in (h ++ e ∷ [])) new.accounts
+accounts_tell-push h old new e tied follows told =
+    let next : Option Movement = movement_by (numbers_of h) h e.submitter e.number e.message in
+    let now : IsTold (moved_in h ++ option_to_list next) new.accounts =
+    subst (λ (m : Option Movement). IsTold (moved_in h ++ option_to_list m) new.accounts)
+    (movement-tied h old tied e.submitter e.number e.message) (told (moved_in h) tied.accounts_tell) in
+    subst (λ (ms : List Movement). IsTold ms new.accounts) (sym (movements-grow h e tied.legal follows)) now
+
 -- with an accepted entry
 pub AreTied-push : (h : List Entry) (old new : Tables) (e : Entry)
     → AreTied h old
     → Follows h e
+    → TellsNext (movement_in old e.submitter e.number e.message) old.accounts new.accounts
     → HasEntered e.submitter e.number e.message old new
     → new.last ≡ e.moment
     → AreTied (h ++ e ∷ []) new
-AreTied-push h old new e tied follows entered last = record {
+AreTied-push h old new e tied follows told entered last = record {
   legal = Longer h e tied.legal follows;
   last_is = ap (λ (m : Moment). m.seconds) last ∙ sym (last_of-push 946702800 h e);
   submitters_are = grown _ _ _ _ _ entered.submitters tied.submitters_are (registrations-snoc h e);
@@ -52,6 +116,10 @@ AreTied-push h old new e tied follows entered last = record {
   published_are = grown _ _ _ _ _ entered.published tied.published_are (publications-snoc h e);
   settled_are = grown _ _ _ _ _ entered.settled tied.settled_are (settlements-snoc h e);
   redeemed_are = grown _ _ _ _ _ entered.redeemed tied.redeemed_are (redemptions-snoc h e);
+  books_are = AreBooks-push h e old.shelf new.shelf tied.legal follows tied.books_are (shelved-tied h old new e tied entered);
+  calendar_is = subst (λ (days : List Day). IsCalendar new.calendar.list days) (sym (holidays-snoc h e))
+      (IsCalendar-push old.calendar.list (holidays h) (entered_by e.message) new.calendar.list tied.calendar_is entered.calendar);
+  accounts_tell = accounts_tell-push h old new e tied follows told;
 }
 
 -- tables with the same rows are tied alike
@@ -69,17 +137,22 @@ AreTied-same h old new tied same = record {
   published_are = same.published ∙ tied.published_are;
   settled_are = same.settled ∙ tied.settled_are;
   redeemed_are = same.redeemed ∙ tied.redeemed_are;
+  books_are = AreBooks-kept h old.shelf new.shelf tied.books_are same.shelf;
+  calendar_is = subst (λ (days : List Day). IsCalendar days (holidays h)) (sym same.calendar) tied.calendar_is;
+  accounts_tell = same.accounts (moved_in h) tied.accounts_tell;
 }
 
 -- empty tables are those of the empty history
 pub AreTied-empty : (tables : Tables)
-    → (tables.submitters.list ≡ []) × (tables.bidders.list ≡ []) × (tables.holidays.list ≡ [])
+    → (tables.submitters.list ≡ []) × (tables.bidders.list ≡ []) × (tables.holidays.list ≡ []) × (tables.calendar.list ≡ [])
     → (tables.auctions.list ≡ []) × (tables.published.list ≡ []) × (tables.settled.list ≡ []) × (tables.redeemed.list ≡ [])
     → (tables.bids.list ≡ []) × (tables.cancels.list ≡ []) × (tables.reports.list ≡ [])
+    → (tables.shelf.books ≡ []) × (tables.scratch.lasts ≡ 0)
+    → IsTold [] tables.accounts
     → tables.last.seconds ≡ 946702800
     → AreTied [] tables
 unfolding registrations enrolments holidays announcements publications settlements redemptions bids cancels reports
-AreTied-empty tables roster auctions bidding last = record {
+AreTied-empty tables roster auctions bidding shelf accounts last = record {
   legal = Empty;
   last_is = last;
   submitters_are = roster.0;
@@ -92,6 +165,9 @@ AreTied-empty tables roster auctions bidding last = record {
   published_are = auctions.1;
   settled_are = auctions.2;
   redeemed_are = auctions.3;
+  books_are = AreBooks-nil tables.shelf.books shelf.0;
+  calendar_is = subst (λ (days : List Day). IsCalendar days []) (sym roster.3) (record { same = λ number. refl; few = omega arith });
+  accounts_tell = accounts;
 }
 
 -- an announcement none of whose rows holds has no fault

@@ -1,5 +1,5 @@
 -- What the code has passed of the common rows, and what is left of the verdict.
-use Rattle.std.proofs.Common.{◌≡◌, ℕ, false, not, Option, Some, None, List, [], ◌∷◌, map, nat_le}
+use Rattle.std.proofs.Common.{◌≡◌, ℕ, false, not, Option, None, List, nat_le}
 use Rattle.std.specs.Option.{option_map_or}
 use Rattle.tb_units.specs.declared.moment.Moment.{Moment}
 use Rattle.tb_terms.specs.declared.refusal.Refusal.{Refusal}

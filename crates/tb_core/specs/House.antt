@@ -1,7 +1,6 @@
 -- The host as contracts see it, and how its tables are tied to the history.
-use Rattle.std.specs.Prelude.{◌≡◌, ℕ, ◌+◌, ◌≤◌, ◌++◌, List, Option, None}
+use Rattle.std.specs.Prelude.{◌≡◌, ℕ, ◌+◌, ◌*◌, ◌^◌, ◌<◌, ◌≤◌, ◌++◌, List, None, length}
 use Rattle.std.specs.List.{AllByRecursion}
-use Rattle.tb_units.specs.declared.moment.Moment.{Moment}
 use Rattle.tb_terms.specs.declared.announcement.Announcement.{Announcement}
 use Rattle.tb_terms.specs.Faults.{fault_of}
 use Rattle.tb_message.specs.declared.message.Entry.{Entry}
@@ -10,14 +9,22 @@ use Rattle.tb_history.specs.Entries.{registered_by, enrolled_by, entered_by, ann
 use Rattle.tb_history.specs.Roster.{registrations, enrolments, holidays, announcements, publications, settlements, redemptions}
 use Rattle.tb_history.specs.LiveBids.{bids, cancels, reports}
 use Rattle.tb_history.specs.Legal.{IsLegal, last_of}
+use Rattle.tb_movements.specs.Told.{IsTold}
+use Rattle.tb_holdings.specs.Book.{Book}
+use Rattle.tb_core.specs.declared.scratch.Scratch.{Scratch}
 use Rattle.tb_core.specs.declared.tables.Tables.{Tables}
 use Rattle.tb_core.specs.Auctions.{announced_in}
-use Rattle.tb_core.specs.Listed.{Listed}
+use Rattle.tb_core.specs.Calendar.{IsCalendar, AddsDays}
+use Rattle.tb_core.specs.Accounting.{moved_in, TellsSame}
+use Rattle.tb_core.specs.Rooms.{Room}
+use Rattle.tb_core.specs.Settling.{HasScratch, IsTaken, KeepsScratch}
+use Rattle.tb_core.specs.Shelving.{AreBooks, HasShelved, IsKeptShelf}
+use Rattle.tb_index.specs.Listed.{Listed}
 
--- the history, and how many more messages may be applied
+-- the history, and for which messages there is room
 pub record House : Type 0 where
   pub history : List Entry
-  pub room : ℕ
+  pub room : Room
 
 -- the history is legal, and each table is what it says
 pub record AreTied (history : List Entry) (tables : Tables) : Type 0 where
@@ -33,9 +40,12 @@ pub record AreTied (history : List Entry) (tables : Tables) : Type 0 where
   pub published_are : tables.published.list ≡ publications history
   pub settled_are : tables.settled.list ≡ settlements history
   pub redeemed_are : tables.redeemed.list ≡ redemptions history
+  pub books_are : AreBooks history tables.shelf.books
+  pub calendar_is : IsCalendar tables.calendar.list (holidays history)
+  pub accounts_tell : IsTold (moved_in history) tables.accounts
 
--- so many adds are sure in each table
-pub record HasRoom (room : ℕ) (tables : Tables) : Type 0 where
+-- so many adds are sure in each table, and in each book that stands ready
+pub record HasRows (room : ℕ) (tables : Tables) : Type 0 where
   pub submitters : room ≤ tables.submitters.spare
   pub bidders : room ≤ tables.bidders.spare
   pub holidays : room ≤ tables.holidays.spare
@@ -46,6 +56,34 @@ pub record HasRoom (room : ℕ) (tables : Tables) : Type 0 where
   pub published : room ≤ tables.published.spare
   pub settled : room ≤ tables.settled.spare
   pub redeemed : room ≤ tables.redeemed.spare
+  pub places : room ≤ tables.shelf.places
+  pub calendar : room ≤ tables.calendar.spare
+
+-- so many messages may move par, where there are so many bidders: a settlement may open an account for each, and each message
+-- may enrol one more
+pub record HasAccountRoom (room bidders : ℕ) (book : Book) : Type 0 where
+  pub accounts : room * (bidders + room) ≤ book.spare_accounts
+  pub marks : room ≤ book.spare_marks
+  pub redeems : room ≤ book.spare_redeems
+
+-- so many messages may be entered
+pub record HasRoom (room : ℕ) (tables : Tables) : Type 0 where
+  pub rows : HasRows room tables
+  pub accounts : HasAccountRoom room (length tables.bidders.list) tables.accounts
+
+-- the tables with other accounts, and another scratch list
+abbrev pub with_accounts : Tables → Book → Scratch → Tables
+with_accounts tables accounts scratch = record tables { accounts = accounts; scratch = scratch }
+
+-- nothing but the accounts is changed, and the room of settlements stays
+pub record KeepsRows (old new : Tables) : Type 0 where
+  pub same : new ≡ with_accounts old new.accounts new.scratch
+  pub scratch : KeepsScratch old.scratch new.scratch
+
+-- there are few participants and bills to number
+pub record AreFew (tables : Tables) : Type 0 where
+  pub submitters : length tables.submitters.list < 2 ^ 32
+  pub auctions : length tables.auctions.list < 2 ^ 32
 
 -- each table is longer by what the message of a sender under a number says
 pub record HasEntered (submitter : List ℕ) (number : ℕ) (message : Message) (old new : Tables) : Type 0 where
@@ -59,6 +97,9 @@ pub record HasEntered (submitter : List ℕ) (number : ℕ) (message : Message) 
   pub published : new.published.list ≡ old.published.list ++ published_by message
   pub settled : new.settled.list ≡ old.settled.list ++ settled_by message
   pub redeemed : new.redeemed.list ≡ old.redeemed.list ++ redeemed_by message
+  pub shelf : HasShelved old.bidders.list old.bids.list submitter number message old.shelf new.shelf
+  pub scratch : IsTaken old.scratch new.scratch
+  pub calendar : AddsDays (entered_by message) old.calendar.list new.calendar.list
 
 -- each table has the same rows
 pub record AreSame (old new : Tables) : Type 0 where
@@ -73,13 +114,22 @@ pub record AreSame (old new : Tables) : Type 0 where
   pub published : new.published.list ≡ old.published.list
   pub settled : new.settled.list ≡ old.settled.list
   pub redeemed : new.redeemed.list ≡ old.redeemed.list
+  pub shelf : IsKeptShelf old.shelf new.shelf
+  pub lasts : old.scratch.lasts ≤ new.scratch.lasts
+  pub calendar : new.calendar.list ≡ old.calendar.list
+  pub accounts : TellsSame old.accounts new.accounts
 
 -- an announcement that the message makes is in order
 abbrev pub IsInOrder : Message → Type 0
 IsInOrder message = AllByRecursion (λ (a : Announcement). fault_of a ≡ None) (announced_by message)
 
--- the host's entries and tables are tied, and so many messages may be applied
+-- the host's entries and tables are tied, so many messages may be applied, and a settlement finds its room
 pub record IsHouse (entries : Listed Entry) (tables : Tables) (room : ℕ) : Type 0 where
   pub tied : AreTied entries.list tables
   pub roomy : HasRoom room tables
   pub spare : room ≤ entries.spare
+  pub scratch : HasScratch (length tables.bids.list) (length tables.bidders.list) tables.scratch
+
+-- what there is room for, by what is kept
+abbrev pub room_of : ℕ → Tables → Room
+room_of room tables = record { messages = room; shelf = tables.shelf; settling = tables.scratch.lasts }

@@ -1,7 +1,15 @@
-pub mod Listed
-pub mod Stage
 pub mod Auctions
 pub mod Announced
+pub mod Accounting
+pub mod Calendar
+pub mod Conserved
+pub mod ParRows
 pub mod Standings
+pub mod Shelving
 pub mod Rooms
+pub mod Settling
+pub mod Crediting
+pub mod Shown
 pub mod House
+pub mod CloseAwards
+pub mod Bidden

@@ -1,39 +1,24 @@
 //! Announced auctions with their terms.
-ghost use Rattle.std.specs.Prelude.{◌≡◌, is_some};
+ghost use Rattle.std.specs.Prelude.{◌≡◌, ◌&&◌, is_some, not};
 ghost use Rattle.std.specs.List.{find, position};
 ghost use Rattle.tb_history.specs.Entries.{is_same};
-ghost use Rattle.tb_history.specs.Roster.{announcement_of, bill_of};
+ghost use Rattle.tb_history.specs.Roster.{announcement_of, bill_of, is_named, unsettled_of};
 ghost use Rattle.tb_core.specs.Auctions.{announced_in, announcement_in};
 
-use crate::names::is_same;
-use crate::table::Table;
+use crate::keys::{ByBill, ByName};
+use crate::names::{Names, has_name};
+use tb_index::TwiceKeyed;
 use tb_terms::{Cusip, Terms};
 use tb_units::Ident;
 
 /// The terms of the auctions, in the order of announcement.
-pub type Auctions = Table<Terms>;
-
-fn place_of_auction(auctions: &[Terms], auction: &Ident) -> Option<usize>
-    ensures { result ≡ position (λ t. is_same t.announcement.auction auction.now) auctions.now }
-{
-    auctions
-        .iter()
-        .position(|t| is_same(&t.announcement.auction, auction))
-}
-
-#[tactic(auto, using(crate::proofs::FindLemmas::found_at, crate::proofs::FindLemmas::found_none))]
-fn auction_at(auctions: &[Terms], auction: &Ident) -> Option<Terms>
-    ensures { result ≡ find (λ t. is_same t.announcement.auction auction.now) auctions.now }
-{
-    let place = place_of_auction(auctions, auction)?;
-    Some(auctions[place])
-}
+pub type Auctions = TwiceKeyed<Terms, ByName, ByBill>;
 
 /// The terms of the auction.
 pub fn terms_of(auctions: &Auctions, auction: &Ident) -> Option<Terms>
     ensures { announcement_in result ≡ announcement_of (announced_in auctions.now.list) auction.now }
 {
-    auction_at(auctions.rows(), auction)
+    auctions.keyed().get(auction).copied()
 }
 
 /// Whether an auction of this name is announced.
@@ -43,25 +28,39 @@ pub fn has_auction(auctions: &Auctions, auction: &Ident) -> bool
     terms_of(auctions, auction).is_some()
 }
 
-fn place_of_bill(auctions: &[Terms], cusip: &Cusip) -> Option<usize>
-    ensures { result ≡ position (λ t. is_same t.announcement.cusip.bytes cusip.now.bytes) auctions.now }
+/// The place of the bill's first auction.
+pub fn place_of_bill(auctions: &Auctions, cusip: &Cusip) -> Option<usize>
+    ensures { result ≡ position (λ t. is_same t.announcement.cusip.bytes cusip.now.bytes) auctions.now.list }
 {
-    auctions
-        .iter()
-        .position(|t| t.announcement.cusip.bytes == cusip.bytes)
-}
-
-#[tactic(auto, using(crate::proofs::FindLemmas::found_at, crate::proofs::FindLemmas::found_none))]
-fn bill_at(auctions: &[Terms], cusip: &Cusip) -> Option<Terms>
-    ensures { result ≡ find (λ t. is_same t.announcement.cusip.bytes cusip.now.bytes) auctions.now }
-{
-    let place = place_of_bill(auctions, cusip)?;
-    Some(auctions[place])
+    auctions.find_other(&cusip.bytes)
 }
 
 /// The terms of the auction of the bill that was announced first.
 pub fn bill_terms(auctions: &Auctions, cusip: &Cusip) -> Option<Terms>
     ensures { announcement_in result ≡ bill_of (announced_in auctions.now.list) cusip.now }
 {
-    bill_at(auctions.rows(), cusip)
+    auctions.get_other(&cusip.bytes).copied()
+}
+
+fn place_of_unsettled(auctions: &[Terms], settled: &Names, cusip: &Cusip) -> Option<usize>
+    ensures { result ≡ position (λ t. is_same t.announcement.cusip.bytes cusip.now.bytes && not (is_named settled.now.list t.announcement.auction)) auctions.now }
+{
+    auctions.iter().position(|t| {
+        t.announcement.cusip.bytes == cusip.bytes && !has_name(settled, &t.announcement.auction)
+    })
+}
+
+#[tactic(auto, using(crate::proofs::FindLemmas::found_at, crate::proofs::FindLemmas::found_none))]
+fn unsettled_at(auctions: &[Terms], settled: &Names, cusip: &Cusip) -> Option<Terms>
+    ensures { result ≡ find (λ t. is_same t.announcement.cusip.bytes cusip.now.bytes && not (is_named settled.now.list t.announcement.auction)) auctions.now }
+{
+    let place = place_of_unsettled(auctions, settled, cusip)?;
+    Some(auctions[place])
+}
+
+/// The terms of the bill's first auction that isn't settled.
+pub fn unsettled_terms(auctions: &Auctions, settled: &Names, cusip: &Cusip) -> Option<Terms>
+    ensures { announcement_in result ≡ unsettled_of (announced_in auctions.now.list) settled.now.list cusip.now }
+{
+    unsettled_at(auctions.rows(), settled, cusip)
 }

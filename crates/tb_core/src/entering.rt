@@ -2,10 +2,12 @@
 ghost use Rattle.std.specs.Prelude.{◌≡◌, ◌<◌, ◌≤◌, ◌+◌, ◌++◌};
 ghost use Rattle.tb_history.specs.Entries.{registered_by, enrolled_by, entered_by, announced_by, published_by, settled_by, redeemed_by, bid_by, cancelled_by, reported_by};
 ghost use Rattle.tb_core.specs.Auctions.{announced_in};
+ghost use Rattle.tb_core.specs.Calendar.{AddsDays};
 ghost use Rattle.tb_core.specs.House.{IsInOrder};
 
 use crate::auctions::Auctions;
 use crate::bidding::{Bids, Cancels, Reports};
+use crate::calendar::Calendar;
 use crate::names::Names;
 use crate::roster::{Bidders, Bills, Holidays, Submitters};
 use tb_history::{Bid, Cancel, Enrolment, Registration, Report};
@@ -52,6 +54,18 @@ pub fn enter_holiday(holidays: &mut Holidays, message: &Message)
 {
     if let Message::Holiday { day } = message {
         holidays.push(*day);
+    }
+}
+
+/// A holiday, in the order of dates.
+#[tactic(auto, using(crate::proofs::CalendarLemmas::adds_nothing))]
+pub fn enter_calendar(calendar: &mut Calendar, message: &Message)
+    requires { 0 < calendar.old.spare }
+    ensures added { AddsDays (entered_by message.now) calendar.old.list calendar.new.list }
+    ensures spare { calendar.old.spare ≤ calendar.new.spare + 1 }
+{
+    if let Message::Holiday { day } = message {
+        calendar.enter(*day);
     }
 }
 

@@ -1,39 +1,56 @@
 //! The host machine.
-ghost use Rattle.std.specs.Prelude.{◌≡◌, ℕ, ℤ, List, ◌+◌, ◌*◌, ◌≤◌, ◌↔◌, true, false, [], ◌∷◌, ◌++◌, length, IfOk, OnOk};
+ghost use Rattle.std.specs.Prelude.{◌≡◌, ℕ, ℤ, List, ◌+◌, ◌*◌, ◌≤◌, ◌↔◌, true, false, is_some, Some, [], ◌∷◌, ◌++◌, length, IfOk, OnOk};
 ghost use Rattle.std.specs.Option.{option_map};
 ghost use Rattle.tb_units.specs.declared.moment.Moment.{Moment};
 ghost use Rattle.tb_message.specs.declared.message.Message.TheVariants as message;
+ghost use Rattle.tb_message.specs.declared.query.Query.TheVariants as query;
 ghost use Rattle.tb_terms.specs.Rows.{refusal_in};
-ghost use Rattle.tb_history.specs.Roster.{registrations, is_caller};
+ghost use Rattle.tb_terms.specs.declared.announcement.Announcement.{Announcement};
+ghost use Rattle.tb_history.specs.Roster.{announcement_of, announcements, registrations, is_caller, is_published, is_registered};
 ghost use Rattle.tb_history.specs.Roster as roster;
-ghost use Rattle.tb_history.specs.Tables.{rows_of};
-ghost use Rattle.tb_history.specs.Verdict.{verdict_on};
+ghost use Rattle.tb_history.specs.Tables.{par_rows, rows_of};
+ghost use Rattle.tb_history.specs.Verdict.{is_permitted, verdict_on};
 ghost use Rattle.tb_history.specs.Legal.{Follows, last_of};
 ghost use Rattle.tb_history.specs.OwnPart.{own_part, moves_par};
-ghost use Rattle.tb_history.specs.Answer.{submitter_of};
-ghost use Rattle.tb_core.specs.Stage.{is_served};
-ghost use Rattle.tb_core.specs.House.{IsHouse};
-ghost use Rattle.tb_core.specs.Rooms.{Fits, behind};
+ghost use Rattle.tb_history.specs.LiveBids.{bids, cancels};
+ghost use Rattle.tb_history.specs.Answer.{asked_rows, asks_on, auction_rows, query_refusal, submitter_of};
+ghost use Rattle.tb_history.specs.Holdings.{bidding_in};
+ghost use Rattle.tb_history.specs.Moves.{has_bill};
+ghost use Rattle.tb_history.specs.Readings.{AreAwards, AreHoldings, AreResults, IsReading, IsRedemption, OfAnnounced, bid_lines};
+ghost use Rattle.tb_results.specs.Biddings.{AreBooked};
+ghost use Rattle.tb_core.specs.Conserved.{IsConserved};
+ghost use Rattle.tb_core.specs.CloseAwards.{IsClose};
+ghost use Rattle.tb_core.specs.House.{IsHouse, room_of};
+ghost use Rattle.tb_core.specs.Rooms.{Fits, KeepsRoom, TakesRoom, behind};
 
-use crate::auctions::terms_of;
-use crate::bidding::{find_bid, has_cancel, own_of};
+use crate::accounts::{find_pledge, free_par, holder_number, open_pledges};
+use crate::auctions::{bill_terms, terms_of, unsettled_terms};
+use crate::bidding::{find_bid, has_cancel};
+use crate::books::book_of;
+use crate::holdings::{holdings_lines, redemption_lines};
 use crate::kept::{Entries, count_sent, find_kept};
-use crate::names::{has_name, is_operator};
+use crate::names::{has_name, is_operator, is_same};
+use crate::par_refusals::{pledge_refusal, redeem_refusal, release_refusal, transfer_refusal};
 use crate::permits::{is_permitted, repeated};
+use crate::reading::{awards_reading, bid_lines, results_reading};
 use crate::refusals::{
     announce_refusal, bid_refusal, cancel_refusal, enrol_refusal, holiday_refusal,
     position_refusal, publish_refusal, register_refusal, settle_refusal,
 };
+use crate::refused::{QueryRefused, auction_refusal, may_ask, redemption_refusal};
 use crate::roster::{find_submitter, has_bill, has_submitter, is_enrolled};
-use crate::table::Table;
+use crate::standing::own_of;
 use crate::tables::Tables;
 use std::alloc::Global;
 use std::marker::Model;
-use tb_message::{Entry, Message, Verdict};
-use tb_terms::{Announcement, EasternDays, Refusal};
+use tb_book::Book;
+use tb_history::{Awards, Bids, Holdings, Reading, Redemption, Results};
+use tb_index::Counted;
+use tb_message::{Entry, Message, Query, Verdict};
+use tb_terms::{Announcement, Cusip, EasternDays, Refusal, Terms};
 use tb_units::{Dollars, Ident, Moment, OutOfMemory, Rate};
 
-/// All that was accepted. Contracts see the history, which is legal, and how many more messages may be applied.
+/// All that was accepted. Contracts see the history, which is legal, and for which messages there is room.
 #[derive(Drop)]
 pub struct Host {
     days: EasternDays,
@@ -43,30 +60,32 @@ pub struct Host {
 }
 
 impl Model for Host {
-    ghost use Rattle.tb_core.specs.House.{House, IsHouse};
+    ghost use Rattle.tb_core.specs.House.{House, IsHouse, room_of};
 
     ghost Value = { House };
 
-    ghost view = { λ h. record { history = h.entries.list; room = h.room } };
+    ghost view = { λ h. record { history = h.entries.list; room = room_of h.room h.tables } };
 
     ghost invariant = { λ h. IsHouse h.entries h.tables h.room };
 }
 
-// Makes so many adds sure everywhere.
+// Takes the room for the messages of these entries, and then for this one.
 fn reserve(
     entries: &mut Entries,
     tables: &mut Tables,
     room: &mut usize,
-    more: usize,
+    ahead: &[Entry],
+    message: &Message,
 ) -> Result<(), OutOfMemory>
     requires { IsHouse entries.old tables.old room.old }
-    ensures more { OnOk result (more ≤ room.new) }
+    ensures fits { OnOk result (Fits (room_of room.new tables.new) (behind ahead.now message.now)) }
     ensures house { IsHouse entries.new tables.new room.new }
     ensures history { entries.new.list ≡ entries.old.list }
-    ensures room { room.old ≤ room.new }
+    ensures room { KeepsRoom (room_of room.old tables.old) (room_of room.new tables.new) }
 {
+    let more = ahead.len() + 1;
     entries.reserve(more)?;
-    tables.reserve(more)?;
+    tables.reserve(ahead, message)?;
     *room = (*room).max(more);
     Ok(())
 }
@@ -81,10 +100,10 @@ fn enter(
 )
     requires house { IsHouse entries.old tables.old room.old }
     requires follows { Follows entries.old.list entry }
-    requires fits { 1 ≤ room.old }
+    requires fits { Fits (room_of room.old tables.old) (entry.message ∷ []) }
     ensures house { IsHouse entries.new tables.new room.new }
     ensures history { entries.new.list ≡ entries.old.list ++ entry ∷ [] }
-    ensures room { room.new + 1 ≡ room.old }
+    ensures room { TakesRoom entry.message (room_of room.old tables.old) (room_of room.new tables.new) }
 {
     tables.enter(
         days,
@@ -108,7 +127,7 @@ impl Host {
         let days = EasternDays::new(alloc)?;
         Ok(Host {
             days,
-            entries: Table::new(alloc),
+            entries: Counted::new(alloc),
             tables: Tables::new(alloc),
             room: 0,
         })
@@ -116,29 +135,29 @@ impl Host {
 
     /// Takes the memory to apply the messages of the entries that are still undecided, and then this one. No other call
     /// takes memory but `read`.
-    #[tactic(auto, using(crate::proofs::RoomLemmas::behind_length))]
     pub fn make_room(&mut self, ahead: &[Entry], message: &Message) -> Result<(), OutOfMemory>
         ensures fits { OnOk result (Fits self.new.room (behind ahead.now message.now)) }
         // The history stays, and no room is lost, whatever the result.
         ensures history { self.new.history ≡ self.old.history }
-        ensures room { self.old.room ≤ self.new.room }
+        ensures room { KeepsRoom self.old.room self.new.room }
     {
-        let _ = message;
         reserve(
             &mut self.entries,
             &mut self.tables,
             &mut self.room,
-            ahead.len() + 1,
+            ahead,
+            message,
         )
     }
 
     /// Whether there is room to apply the messages of these entries, and then this one.
-    #[tactic(auto, using(crate::proofs::RoomLemmas::behind_length))]
     pub fn has_room(&self, ahead: &[Entry], message: &Message) -> bool
         ensures { (result ≡ true) ↔ Fits self.now.room (behind ahead.now message.now) }
     {
-        let _ = message;
-        ahead.len() < self.room
+        if ahead.len() + 1 > self.room {
+            return false;
+        }
+        self.tables.has_room_ahead(ahead, message)
     }
 
     /// The submitter that is registered with the key.
@@ -181,8 +200,9 @@ impl Host {
         moment: Moment,
         message: &Message,
     ) -> Verdict
-        requires { is_served message.now ≡ true }
         ensures verdict { result ≡ verdict_on self.now.history submitter.now number moment message.now }
+        // Par is conserved over all that was accepted.
+        ensures conserved { IsConserved self.now.history }
         // Replies are sealed: they are those on the sender's own part of the history.
         ensures sealed { moves_par message.now ≡ false → result ≡ verdict_on (own_part submitter.now self.now.history) submitter.now number moment message.now }
     {
@@ -192,11 +212,11 @@ impl Host {
 
     /// Adds an entry that was accepted. It takes no memory.
     pub fn apply(&mut self, entry: Entry)
-        requires served { is_served entry.message ≡ true }
         requires follows { Follows self.old.history entry }
         requires fits { Fits self.old.room (entry.message ∷ []) }
         ensures history { self.new.history ≡ self.old.history ++ entry ∷ [] }
-        ensures room { self.new.room + 1 ≡ self.old.room }
+        ensures conserved { IsConserved self.new.history }
+        ensures room { TakesRoom entry.message self.old.room self.new.room }
     {
         enter(
             &mut self.entries,
@@ -207,8 +227,150 @@ impl Host {
         );
     }
 
+    /// What a query of the submitter is answered.
+    pub fn read(
+        &self,
+        alloc: Global,
+        submitter: &Ident,
+        query: &Query,
+    ) -> Result<Reading, QueryRefused>
+        ensures refused { (refusal : Refusal) → (result ≡ Err (QueryRefused.Refused refusal)) ↔ (query_refusal self.now.history submitter.now query.now ≡ Some refusal) }
+        ensures reading { IfOk result (λ reading. IsReading self.now.history submitter.now query.now reading) }
+        // Answers are sealed: a refusal is that on the submitter's own part of the history, and so is what is read on an
+        // auction whose results aren't published.
+        ensures sealed_refusal { (refusal : Refusal) → (result ≡ Err (QueryRefused.Refused refusal)) ↔ (query_refusal (own_part submitter.now self.now.history) submitter.now query.now ≡ Some refusal) }
+        ensures sealed_reading { (auction : List ℕ) → asks_on auction query.now ≡ true → is_published self.now.history auction ≡ false
+            → IfOk result (λ reading. IsReading (own_part submitter.now self.now.history) submitter.now query.now reading) }
+        ensures close { IfOk result (λ reading. IsClose self.now.history query.now reading) }
+        // Par is conserved over all that is read.
+        ensures conserved { IsConserved self.now.history }
+    {
+        let _ = &self.days;
+        if let Some(refusal) = self.query_refusal(submitter, query) {
+            return Err(QueryRefused::Refused(refusal));
+        }
+        match self.reading(alloc, submitter, query) {
+            Ok(reading) => Ok(reading),
+            Err(_) => Err(QueryRefused::OutOfMemory),
+        }
+    }
+
+    // The first refusal of the query whose cause holds.
+    fn query_refusal(&self, caller: &Ident, query: &Query) -> Option<Refusal>
+        ensures { result ≡ query_refusal self.now.history caller.now query.now }
+    {
+        if !self.is_caller(caller) {
+            return Some(Refusal::UnknownKey);
+        }
+        if !may_ask(caller, query) {
+            return Some(Refusal::NotPermitted);
+        }
+        self.asked_refusal(query)
+    }
+
+    // The first refusal of the query's own table.
+    fn asked_refusal(&self, query: &Query) -> Option<Refusal>
+        ensures { result ≡ refusal_in (asked_rows self.now.history query.now) }
+    {
+        match query {
+            Query::Terms(auction) => self.auction_refusal(auction, false),
+            Query::Results(auction) => self.auction_refusal(auction, true),
+            Query::Awards(auction) => self.auction_refusal(auction, true),
+            Query::Bids(auction) => self.auction_refusal(auction, false),
+            Query::Holdings => None,
+            Query::Redemption(cusip) => self.redemption_refusal(cusip),
+        }
+    }
+
+    fn auction_refusal(&self, auction: &Ident, shows_results: bool) -> Option<Refusal>
+        ensures { result ≡ refusal_in (auction_rows (announcement_of (announcements self.now.history) auction.now) shows_results (is_published self.now.history auction.now)) }
+    {
+        let terms = terms_of(&self.tables.auctions, auction);
+        let published = has_name(&self.tables.published, auction);
+        auction_refusal(terms, shows_results, published)
+    }
+
+    fn redemption_refusal(&self, cusip: &Cusip) -> Option<Refusal>
+        ensures { result ≡ refusal_in (asked_rows self.now.history (query.Redemption cusip.now)) }
+    {
+        let terms = bill_terms(&self.tables.auctions, cusip);
+        let redeemed = has_bill(&self.tables.redeemed, cusip);
+        redemption_refusal(terms, redeemed)
+    }
+
+    // What is read, where the query isn't refused.
+    fn reading(&self, alloc: Global, caller: &Ident, query: &Query) -> Result<Reading, OutOfMemory>
+        requires { query_refusal self.now.history caller.now query.now ≡ None }
+        ensures { IfOk result (λ reading. IsReading self.now.history caller.now query.now reading) }
+    {
+        match query {
+            Query::Terms(auction) => Ok(Reading::Terms(self.announced(auction).announcement)),
+            Query::Results(auction) => Ok(Reading::Results(self.results(alloc, auction)?)),
+            Query::Awards(auction) => Ok(Reading::Awards(self.awards(alloc, caller, auction)?)),
+            Query::Bids(auction) => Ok(Reading::Bids(self.bids(alloc, caller, auction)?)),
+            Query::Holdings => Ok(Reading::Holdings(self.holdings(alloc, caller)?)),
+            Query::Redemption(cusip) => Ok(Reading::Redemption(self.redemption(alloc, cusip)?)),
+        }
+    }
+
+    fn announced(&self, auction: &Ident) -> Terms
+        requires { is_some (announcement_of (announcements self.now.history) auction.now) ≡ true }
+        ensures { announcement_of (announcements self.now.history) auction.now ≡ Some result.announcement }
+    {
+        terms_of(&self.tables.auctions, auction).unwrap()
+    }
+
+    fn results(&self, alloc: Global, auction: &Ident) -> Result<Results, OutOfMemory>
+        requires { is_some (announcement_of (announcements self.now.history) auction.now) ≡ true }
+        ensures { IfOk result (λ results. OfAnnounced self.now.history auction.now (λ a. AreResults (bidding_in self.now.history a) results)) }
+    {
+        let terms = self.announced(auction);
+        results_reading(alloc, &self.tables, &terms, self.book(auction))
+    }
+
+    fn awards(&self, alloc: Global, caller: &Ident, auction: &Ident) -> Result<Awards, OutOfMemory>
+        requires { is_some (announcement_of (announcements self.now.history) auction.now) ≡ true }
+        ensures { IfOk result (λ lines. OfAnnounced self.now.history auction.now (λ a. AreAwards self.now.history a caller.now lines)) }
+    {
+        let terms = self.announced(auction);
+        awards_reading(alloc, &self.tables, &terms, self.book(auction), caller)
+    }
+
+    fn bids(&self, alloc: Global, caller: &Ident, auction: &Ident) -> Result<Bids, OutOfMemory>
+        ensures { IfOk result (λ lines. lines ≡ bid_lines (bids self.now.history) (cancels self.now.history) caller.now auction.now) }
+    {
+        bid_lines(
+            alloc,
+            &self.tables.bids,
+            &self.tables.cancels,
+            caller,
+            auction,
+        )
+    }
+
+    fn holdings(&self, alloc: Global, caller: &Ident) -> Result<Holdings, OutOfMemory>
+        requires { is_registered (registrations self.now.history) caller.now ≡ true }
+        ensures { IfOk result (λ lines. AreHoldings self.now.history caller.now lines) }
+    {
+        holdings_lines(alloc, &self.tables, caller)
+    }
+
+    fn redemption(&self, alloc: Global, cusip: &Cusip) -> Result<Redemption, OutOfMemory>
+        requires { has_bill (announcements self.now.history) cusip.now.bytes ≡ true }
+        ensures { IfOk result (λ lines. IsRedemption self.now.history cusip.now lines) }
+    {
+        redemption_lines(alloc, &self.tables, cusip)
+    }
+
+    // The book of an announced auction.
+    fn book(&self, auction: &Ident) -> &Book
+        requires { is_some (announcement_of (announcements self.now.history) auction.now) ≡ true }
+        ensures { (a : Announcement) → announcement_of (announcements self.now.history) auction.now ≡ Some a → AreBooked (bidding_in self.now.history a) result.now.lines }
+    {
+        book_of(&self.tables, auction).unwrap()
+    }
+
     fn verdict(&self, submitter: &Ident, number: u64, moment: Moment, message: &Message) -> Verdict
-        requires { is_served message.now ≡ true }
         ensures { result ≡ verdict_on self.now.history submitter.now number moment message.now }
     {
         if !self.is_caller(submitter) {
@@ -237,7 +399,8 @@ impl Host {
 
     // The first refusal of the message's own table whose cause holds.
     fn refusal(&self, sender: &Ident, moment: Moment, message: &Message) -> Option<Refusal>
-        requires { is_served message.now ≡ true }
+        requires caller { is_caller (registrations self.now.history) sender.now ≡ true }
+        requires permitted { is_permitted sender.now message.now ≡ true }
         ensures { result ≡ refusal_in (rows_of self.now.history sender.now moment message.now) }
     {
         match message {
@@ -266,11 +429,18 @@ impl Host {
             } => self.position(sender, moment, auction, bidder),
             Message::Publish { auction } => self.publish(moment, auction),
             Message::Settle { auction } => self.settle(moment, auction),
-            // The caller rules these out.
-            Message::Transfer { .. }
-            | Message::Pledge { .. }
-            | Message::Release { .. }
-            | Message::Redeem { .. } => None,
+            Message::Transfer { cusip, to, amount } => {
+                self.transfer(sender, moment, cusip, to, *amount)
+            }
+            Message::Pledge { cusip, to, amount } => {
+                self.pledge(sender, moment, cusip, to, *amount)
+            }
+            Message::Release {
+                holder,
+                pledge,
+                amount,
+            } => self.release(sender, holder, *pledge, *amount),
+            Message::Redeem { cusip } => self.redeem(moment, cusip),
         }
     }
 
@@ -294,13 +464,7 @@ impl Host {
     {
         let terms = terms_of(&self.tables.auctions, auction);
         let enrolled = is_enrolled(&self.tables.bidders, bidder, sender);
-        let own = own_of(
-            &self.tables.bids,
-            &self.tables.cancels,
-            &self.tables.reports,
-            auction,
-            bidder,
-        );
+        let own = own_of(&self.tables, auction, bidder);
         bid_refusal(terms, enrolled, &own, moment, rate, amount)
     }
 
@@ -348,5 +512,82 @@ impl Host {
         let published = has_name(&self.tables.published, auction);
         let settled = has_name(&self.tables.settled, auction);
         settle_refusal(terms, published, settled, moment)
+    }
+
+    fn transfer(
+        &self,
+        sender: &Ident,
+        moment: Moment,
+        cusip: &Cusip,
+        to: &Ident,
+        amount: Dollars,
+    ) -> Option<Refusal>
+        requires { is_registered (registrations self.now.history) sender.now ≡ true }
+        ensures { result ≡ refusal_in (par_rows self.now.history sender.now moment cusip.now to.now amount.value) }
+    {
+        let terms = bill_terms(&self.tables.auctions, cusip);
+        let known = has_submitter(&self.tables.submitters, to);
+        let own = is_same(to, sender);
+        let redeemed = has_bill(&self.tables.redeemed, cusip);
+        let free = free_par(
+            &self.tables.accounts,
+            &self.tables.submitters,
+            &self.tables.auctions,
+            sender,
+            cusip,
+        );
+        transfer_refusal(terms, known, own, redeemed, free, moment, amount)
+    }
+
+    fn pledge(
+        &self,
+        sender: &Ident,
+        moment: Moment,
+        cusip: &Cusip,
+        to: &Ident,
+        amount: Dollars,
+    ) -> Option<Refusal>
+        requires { is_registered (registrations self.now.history) sender.now ≡ true }
+        ensures { result ≡ refusal_in (rows_of self.now.history sender.now moment (message.Pledge cusip.now to.now amount)) }
+    {
+        let as_transfer = self.transfer(sender, moment, cusip, to, amount);
+        let open_marks = open_pledges(&self.tables.accounts, &self.tables.submitters, sender);
+        pledge_refusal(as_transfer, open_marks)
+    }
+
+    fn release(
+        &self,
+        sender: &Ident,
+        holder: &Ident,
+        number: u64,
+        amount: Dollars,
+    ) -> Option<Refusal>
+        requires { is_registered (registrations self.now.history) sender.now ≡ true }
+        ensures { (moment : Moment) → result ≡ refusal_in (rows_of self.now.history sender.now moment (message.Release holder.now number amount)) }
+    {
+        let found = find_pledge(
+            &self.tables.accounts,
+            &self.tables.submitters,
+            holder,
+            number,
+        );
+        let caller = holder_number(&self.tables.submitters, sender);
+        release_refusal(found, caller, amount)
+    }
+
+    fn redeem(&self, moment: Moment, cusip: &Cusip) -> Option<Refusal>
+        ensures { (sender : List ℕ) → result ≡ refusal_in (rows_of self.now.history sender moment (message.Redeem cusip.now)) }
+    {
+        let terms = bill_terms(&self.tables.auctions, cusip);
+        let redeemed = has_bill(&self.tables.redeemed, cusip);
+        let unsettled = unsettled_terms(&self.tables.auctions, &self.tables.settled, cusip);
+        redeem_refusal(
+            &self.days,
+            &self.tables.calendar,
+            terms,
+            redeemed,
+            unsettled,
+            moment,
+        )
     }
 }

@@ -1,15 +1,15 @@
 //! Names, compared.
 ghost use Rattle.std.specs.Prelude.{◌≡◌};
-ghost use Rattle.std.specs.List.{list_any};
 ghost use Rattle.tb_history.specs.Entries.{is_same};
 ghost use Rattle.tb_history.specs.Entries as entries;
 ghost use Rattle.tb_history.specs.Roster.{is_named};
 
-use crate::table::Table;
+use crate::keys::ByName;
+use tb_index::Keyed;
 use tb_units::Ident;
 
 /// Names of auctions, in the order in which they were published or settled.
-pub type Names = Table<Ident>;
+pub type Names = Keyed<Ident, ByName>;
 
 /// Whether two names are one.
 pub fn is_same(one: &Ident, other: &Ident) -> bool
@@ -30,5 +30,5 @@ pub fn is_operator(name: &Ident) -> bool
 pub fn has_name(names: &Names, auction: &Ident) -> bool
     ensures { result ≡ is_named names.now.list auction.now }
 {
-    names.rows().iter().any(|name| is_same(name, auction))
+    names.has(auction)
 }

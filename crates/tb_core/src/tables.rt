@@ -1,27 +1,49 @@
 //! The tables of the host together.
-ghost use Rattle.std.specs.Prelude.{◌≡◌, ℕ, ◌+◌, ◌≤◌, ◌<◌, [], OnOk};
-ghost use Rattle.tb_core.specs.House.{AreSame, HasEntered, HasRoom, IsInOrder};
+ghost use Rattle.std.specs.Prelude.{◌≡◌, ℕ, ◌+◌, ◌≤◌, ◌<◌, ◌^◌, ◌↔◌, true, List, Some, [], length, OnOk};
+ghost use Rattle.tb_core.specs.Rooms.{HasRoomAhead, behind, settles};
+ghost use Rattle.tb_core.specs.Settling.{HasScratch};
+ghost use Rattle.tb_core.specs.Shelving.{TakesMessage};
+ghost use Rattle.tb_movements.specs.Told.{IsTold};
+ghost use Rattle.tb_holdings.specs.Book.{TakesRoom};
+ghost use Rattle.tb_message.specs.declared.message.Entry.{Entry};
+ghost use Rattle.tb_history.specs.Roster.{announcement_of, announcements};
+ghost use Rattle.tb_core.specs.Auctions.{announced_in};
+ghost use Rattle.tb_core.specs.Accounting.{IsReady, TellsNext};
+ghost use Rattle.tb_core.specs.Crediting.{HasSettleRoom, movement_in, settled_in};
+ghost use Rattle.tb_core.specs.House.{AreFew, AreSame, AreTied, HasEntered, HasRoom, HasRows, IsInOrder, KeepsRows};
 
-use crate::auctions::Auctions;
+use crate::accounts::{account, bill_number, reserve_accounts};
+use crate::ahead::{count_announced, has_settlement, have_places, reserve_places};
+use crate::auctions::{Auctions, terms_of};
 use crate::bidding::{Bids, Cancels, Reports};
+use crate::calendar::Calendar;
+use crate::crediting::credit_awards;
 use crate::entering::{
-    enter_auction, enter_bid, enter_bidder, enter_cancel, enter_holiday, enter_published,
-    enter_redeemed, enter_report, enter_settled, enter_submitter,
+    enter_auction, enter_bid, enter_bidder, enter_calendar, enter_cancel, enter_holiday,
+    enter_published, enter_redeemed, enter_report, enter_settled, enter_submitter,
 };
 use crate::names::Names;
 use crate::roster::{Bidders, Bills, Holidays, Submitters};
-use crate::table::Table;
+use crate::scratch::Scratch;
+use crate::settling::cut_auction;
+use crate::shelving::enter_line;
 use std::alloc::Global;
-use tb_message::Message;
-use tb_terms::EasternDays;
+use tb_holdings::Accounts;
+use tb_index::{Counted, Keyed, TwiceKeyed};
+use tb_message::{Entry, Message};
+use tb_movements::empty_book;
+use tb_shelf::Shelf;
+use tb_terms::{EasternDays, Terms};
 use tb_units::{Ident, Moment, OutOfMemory};
 
-/// What the history says of each kind, in its order, and the moment of its last entry.
+/// What the history says of each kind, in its order, the books of its live bids, and the moment of its last entry; and what a
+/// settlement works in.
 #[derive(Drop)]
 pub struct Tables {
     pub submitters: Submitters,
     pub bidders: Bidders,
     pub holidays: Holidays,
+    pub calendar: Calendar,
     pub auctions: Auctions,
     pub bids: Bids,
     pub cancels: Cancels,
@@ -29,55 +51,184 @@ pub struct Tables {
     pub published: Names,
     pub settled: Names,
     pub redeemed: Bills,
+    pub shelf: Shelf,
+    pub scratch: Scratch,
+    pub accounts: Accounts,
     pub last: Moment,
 }
 
 impl Tables {
     /// Empty tables, which take no memory.
     pub fn new(alloc: Global) -> Tables
-        ensures roster { (result.submitters.list ≡ []) × (result.bidders.list ≡ []) × (result.holidays.list ≡ []) }
+        ensures roster { (result.submitters.list ≡ []) × (result.bidders.list ≡ []) × (result.holidays.list ≡ []) × (result.calendar.list ≡ []) }
         ensures auctions { (result.auctions.list ≡ []) × (result.published.list ≡ []) × (result.settled.list ≡ []) × (result.redeemed.list ≡ []) }
         ensures bids { (result.bids.list ≡ []) × (result.cancels.list ≡ []) × (result.reports.list ≡ []) }
+        ensures shelf { (result.shelf.books ≡ []) × (result.scratch.lasts ≡ 0) }
+        ensures accounts { IsTold [] result.accounts }
         ensures last { result.last.seconds ≡ 946702800 }
     {
         Tables {
-            submitters: Table::new(alloc),
-            bidders: Table::new(alloc),
-            holidays: Table::new(alloc),
-            auctions: Table::new(alloc),
-            bids: Table::new(alloc),
-            cancels: Table::new(alloc),
-            reports: Table::new(alloc),
-            published: Table::new(alloc),
-            settled: Table::new(alloc),
-            redeemed: Table::new(alloc),
+            submitters: TwiceKeyed::new(alloc),
+            bidders: Keyed::new(alloc),
+            holidays: Keyed::new(alloc),
+            calendar: Calendar::new(alloc),
+            auctions: TwiceKeyed::new(alloc),
+            bids: Counted::new(alloc),
+            cancels: Keyed::new(alloc),
+            reports: Keyed::new(alloc),
+            published: Keyed::new(alloc),
+            settled: Keyed::new(alloc),
+            redeemed: Keyed::new(alloc),
+            shelf: Shelf::new(alloc),
+            scratch: Scratch::new(alloc),
+            accounts: empty_book(alloc),
             last: Moment {
                 seconds: Moment::FIRST,
             },
         }
     }
 
-    /// Makes so many adds sure in each table.
-    pub fn reserve(&mut self, more: usize) -> Result<(), OutOfMemory>
+    // Makes so many adds sure in each table, and so many places in each book that stands ready.
+    fn reserve_rows(&mut self, more: usize) -> Result<(), OutOfMemory>
         ensures spare { OnOk result (HasRoom more self.new) }
-        // The rows stay, and no room is lost, whatever the result.
         ensures same { AreSame self.old self.new }
         ensures room { (room : ℕ) → HasRoom room self.old → HasRoom room self.new }
+        ensures scratch { self.new.scratch ≡ self.old.scratch }
     {
         self.submitters.reserve(more)?;
         self.bidders.reserve(more)?;
         self.holidays.reserve(more)?;
+        self.calendar.reserve(more)?;
         self.auctions.reserve(more)?;
         self.bids.reserve(more)?;
         self.cancels.reserve(more)?;
         self.reports.reserve(more)?;
         self.published.reserve(more)?;
         self.settled.reserve(more)?;
-        self.redeemed.reserve(more)
+        self.redeemed.reserve(more)?;
+        reserve_accounts(&mut self.accounts, self.bidders.rows().len(), more)?;
+        self.shelf.prepare(0, more as u64)
     }
 
-    /// Enters what a message of a sender under its number says.
-    pub fn enter(
+    // Takes the room that books and settlements need for the messages of these entries, and then for this one.
+    fn reserve_ahead(&mut self, ahead: &[Entry], message: &Message) -> Result<(), OutOfMemory>
+        requires { HasScratch (length self.old.bids.list) (length self.old.bidders.list) self.old.scratch }
+        ensures ahead { OnOk result (HasRoomAhead self.new.shelf self.new.scratch.lasts (behind ahead.now message.now)) }
+        ensures same { AreSame self.old self.new }
+        ensures room { (room : ℕ) → HasRoom room self.old → HasRoom room self.new }
+        ensures scratch { HasScratch (length self.new.bids.list) (length self.new.bidders.list) self.new.scratch }
+    {
+        let more = ahead.len() + 1;
+        self.shelf
+            .prepare(count_announced(ahead, message), more as u64)?;
+        reserve_places(&mut self.shelf, ahead, message, more as u64)?;
+        if has_settlement(ahead, message) {
+            let bids = self.bids.rows().len();
+            let bidders = self.bidders.rows().len();
+            self.scratch.reserve(bids, bidders, more)?;
+        }
+        Ok(())
+    }
+
+    /// Takes the room for the messages of these entries, and then for this one.
+    pub fn reserve(&mut self, ahead: &[Entry], message: &Message) -> Result<(), OutOfMemory>
+        requires { HasScratch (length self.old.bids.list) (length self.old.bidders.list) self.old.scratch }
+        ensures rows { OnOk result (HasRoom (length ahead.now + 1) self.new) }
+        ensures ahead { OnOk result (HasRoomAhead self.new.shelf self.new.scratch.lasts (behind ahead.now message.now)) }
+        // The rows stay, and no room is lost, whatever the result.
+        ensures same { AreSame self.old self.new }
+        ensures room { (room : ℕ) → HasRoom room self.old → HasRoom room self.new }
+        ensures scratch { HasScratch (length self.new.bids.list) (length self.new.bidders.list) self.new.scratch }
+    {
+        self.reserve_rows(ahead.len() + 1)?;
+        self.reserve_ahead(ahead, message)
+    }
+
+    /// Whether books and settlements have the room for the messages of these entries, and then for this one.
+    pub fn has_room_ahead(&self, ahead: &[Entry], message: &Message) -> bool
+        ensures { (result ≡ true) ↔ HasRoomAhead self.now.shelf self.now.scratch.lasts (behind ahead.now message.now) }
+    {
+        if count_announced(ahead, message) > self.shelf.ready() {
+            return false;
+        }
+        let more = ahead.len() + 1;
+        if !have_places(&self.shelf, ahead, message, more as u64) {
+            return false;
+        }
+        if has_settlement(ahead, message) {
+            return more <= self.scratch.lasts;
+        }
+        true
+    }
+
+    // Credits what is awarded in the announced auction of these terms, which is cut by its book.
+    fn settle_by(&mut self, terms: &Terms)
+        requires tied { (history : List Entry) × AreTied history self.old × (announcement_of (announcements history) terms.now.announcement.auction ≡ Some terms.now.announcement) }
+        requires room { HasSettleRoom self.old }
+        requires accounts { length self.old.bidders.list ≤ self.old.accounts.spare_accounts }
+        requires numbered { AreFew self.old }
+        requires ready { IsReady (settled_in self.old (Some terms.now.announcement)) self.old.accounts }
+        ensures keeps { KeepsRows self.old self.new }
+        ensures told { TellsNext (settled_in self.old (Some terms.now.announcement)) self.old.accounts self.new.accounts }
+        ensures room { TakesRoom (length self.old.bidders.list) 0 0 self.old.accounts self.new.accounts }
+    {
+        if let Some(book) = self.shelf.book(&terms.announcement.auction) {
+            let outcome = cut_auction(&mut self.scratch, &self.bidders, &self.reports, terms, book);
+            let security = bill_number(&self.auctions, &terms.announcement.cusip);
+            credit_awards(
+                &mut self.accounts,
+                &self.submitters,
+                self.bidders.rows(),
+                security,
+                &outcome,
+                &self.scratch.recognised,
+                book,
+            );
+        }
+    }
+
+    // Credits what is awarded in the auction.
+    fn settle(&mut self, auction: &Ident)
+        requires tied { (history : List Entry) × AreTied history self.old }
+        requires room { HasSettleRoom self.old }
+        requires accounts { length self.old.bidders.list ≤ self.old.accounts.spare_accounts }
+        requires numbered { AreFew self.old }
+        requires ready { IsReady (settled_in self.old (announcement_of (announced_in self.old.auctions.list) auction.now)) self.old.accounts }
+        ensures keeps { KeepsRows self.old self.new }
+        ensures told { TellsNext (settled_in self.old (announcement_of (announced_in self.old.auctions.list) auction.now)) self.old.accounts self.new.accounts }
+        ensures room { TakesRoom (length self.old.bidders.list) 0 0 self.old.accounts self.new.accounts }
+    {
+        if let Some(terms) = terms_of(&self.auctions, auction) {
+            self.settle_by(&terms);
+        }
+    }
+
+    // Moves what a message of a sender under its number moves.
+    fn move_par(&mut self, sender: &Ident, number: u64, message: &Message)
+        requires tied { (history : List Entry) × AreTied history self.old }
+        requires room { HasRoom 1 self.old }
+        requires settling { settles message.now ≡ true → HasSettleRoom self.old }
+        requires numbered { AreFew self.old }
+        requires ready { IsReady (movement_in self.old sender.now number message.now) self.old.accounts }
+        ensures keeps { KeepsRows self.old self.new }
+        ensures told { TellsNext (movement_in self.old sender.now number message.now) self.old.accounts self.new.accounts }
+        ensures room { TakesRoom (length self.old.bidders.list + 1) 1 1 self.old.accounts self.new.accounts }
+    {
+        match message {
+            Message::Settle { auction } => self.settle(auction),
+            _ => account(
+                &mut self.accounts,
+                &self.submitters,
+                &self.auctions,
+                sender,
+                number,
+                message,
+            ),
+        }
+    }
+
+    // Adds the rows of a message of a sender under its number.
+    fn enter_rows(
         &mut self,
         days: &EasternDays,
         sender: &Ident,
@@ -85,15 +236,28 @@ impl Tables {
         moment: Moment,
         message: &Message,
     )
-        requires room { HasRoom 1 self.old }
+        requires room { HasRows 1 self.old }
         requires order { IsInOrder message.now }
+        requires few { length self.old.bidders.list < 2 ^ 32 }
+        requires takes { TakesMessage self.old.bidders.list sender.now number message.now self.old.shelf }
         ensures entered { HasEntered sender.now number message.now self.old self.new }
-        ensures room { (room : ℕ) → HasRoom (room + 1) self.old → HasRoom room self.new }
+        ensures room { (room : ℕ) → HasRows (room + 1) self.old → HasRows room self.new }
+        ensures accounts { self.new.accounts ≡ self.old.accounts }
         ensures last { self.new.last ≡ moment }
     {
+        enter_line(
+            &mut self.shelf,
+            &self.bidders,
+            &self.bids,
+            sender,
+            number,
+            message,
+        );
+        self.scratch.take();
         enter_submitter(&mut self.submitters, message);
         enter_bidder(&mut self.bidders, message);
         enter_holiday(&mut self.holidays, message);
+        enter_calendar(&mut self.calendar, message);
         enter_auction(&mut self.auctions, days, message);
         enter_bid(&mut self.bids, sender, number, message);
         enter_cancel(&mut self.cancels, sender, message);
@@ -102,5 +266,31 @@ impl Tables {
         enter_settled(&mut self.settled, message);
         enter_redeemed(&mut self.redeemed, message);
         self.last = moment;
+    }
+
+    /// Enters what a message of a sender under its number says, and moves what it moves.
+    pub fn enter(
+        &mut self,
+        days: &EasternDays,
+        sender: &Ident,
+        number: u64,
+        moment: Moment,
+        message: &Message,
+    )
+        requires tied { (history : List Entry) × AreTied history self.old }
+        requires room { HasRoom 1 self.old }
+        requires order { IsInOrder message.now }
+        requires few { length self.old.bidders.list < 2 ^ 32 }
+        requires takes { TakesMessage self.old.bidders.list sender.now number message.now self.old.shelf }
+        requires settling { settles message.now ≡ true → HasSettleRoom self.old }
+        requires numbered { AreFew self.old }
+        requires ready { IsReady (movement_in self.old sender.now number message.now) self.old.accounts }
+        ensures entered { HasEntered sender.now number message.now self.old self.new }
+        ensures told { TellsNext (movement_in self.old sender.now number message.now) self.old.accounts self.new.accounts }
+        ensures room { (room : ℕ) → HasRoom (room + 1) self.old → HasRoom room self.new }
+        ensures last { self.new.last ≡ moment }
+    {
+        self.move_par(sender, number, message);
+        self.enter_rows(days, sender, number, moment, message);
     }
 }

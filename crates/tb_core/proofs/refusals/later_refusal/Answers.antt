@@ -1,11 +1,10 @@
-use Rattle.std.proofs.Common.{◌≡◌, ◌∙◌, sym, ap, Some, None, Option}
+use Rattle.std.proofs.Common.{◌∙◌, sym, ap, Option}
 use Rattle.tb_terms.specs.declared.announcement.Announcement.{Announcement}
-use Rattle.tb_terms.specs.declared.refusal.Refusal.{Refusal}
 use Rattle.tb_terms.specs.Rows.{refusal_in}
 use Rattle.tb_terms.proofs.RowLemmas.{refusal_in-append, refusal_in-front}
 use Rattle.tb_history.specs.Roster.{bill_of}
 use Rattle.tb_history.specs.Tables.{maturity_rows}
-use Rattle.tb_core.specs.Auctions.{announced_in, announcement_in}
+use Rattle.tb_core.specs.Auctions.{announced_in}
 use Rattle.tb_core.specs.Announced.{last_rows}
 use Rattle.tb_core.proofs.refusals.later_refusal.Goals as goal
 

@@ -4,11 +4,11 @@ use Rattle.tb_message.specs.declared.message.Message.TheVariants as message
 use Rattle.tb_terms.specs.Rows.{refusal_in}
 use Rattle.tb_history.specs.Tables.{rows_of}
 use Rattle.tb_core.specs.House.{House}
-use Rattle.tb_core.proofs.RowLemmas.{tied_bid, tied_par, HasLooked}
+use Rattle.tb_core.proofs.RowLemmas.{tied_bid}
 use Rattle.tb_core.proofs.host.Host.bid.Goals as goal
 
 pub own_of-own-requires : goal.own_of-own-requires
-own_of-own-requires c = tied_par c.self.inside.entries.list c.self.inside.tables c.self.invariant.tied
+own_of-own-requires c = (c.self.inside.entries.list, c.self.invariant.tied)
 
 pub returns : goal.returns
 returns c =

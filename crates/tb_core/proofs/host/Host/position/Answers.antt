@@ -4,7 +4,7 @@ use Rattle.tb_message.specs.declared.message.Message.TheVariants as message
 use Rattle.tb_terms.specs.Rows.{refusal_in}
 use Rattle.tb_history.specs.Tables.{rows_of}
 use Rattle.tb_core.specs.House.{House}
-use Rattle.tb_core.proofs.RowLemmas.{tied_position, HasLooked}
+use Rattle.tb_core.proofs.RowLemmas.{tied_position}
 use Rattle.tb_core.proofs.host.Host.position.Goals as goal
 
 pub returns : goal.returns

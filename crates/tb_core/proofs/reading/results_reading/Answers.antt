@@ -1,0 +1,28 @@
+-- The book is of the auction's bidding.
+use Rattle.std.proofs.Common.{◌∙◌}
+use Rattle.std.proofs.lemmas.Result.{IfOk-weaker}
+use Rattle.tb_history.specs.Holdings.{bidding_in}
+use Rattle.tb_core.proofs.BiddenLemmas.{IsAuctionOf-book}
+use Rattle.tb_core.proofs.HouseLemmas.{few-bidders}
+use Rattle.tb_core.proofs.SettleLemmas.{distinct-bidders}
+use Rattle.tb_core.proofs.reading.results_reading.Goals as goal
+
+pub positions_in-requires : goal.positions_in-requires
+positions_in-requires c = record {
+  few = few-bidders c.requires.0 c.args.tables.now c.requires.1.tied;
+  distinct = distinct-bidders c.requires.0 c.args.tables.now c.requires.1.tied;
+}
+
+pub results-requires : goal.results-requires
+results-requires c = (
+  bidding_in c.requires.0 c.args.terms.now.announcement,
+  IsAuctionOf-book c.requires.0 c.args.tables.now c.args.terms.now c.args.book.now.lines c.deref.result.now c.requires.1
+      (c.deref.ensures.value ∙ c.in_ok-positions.ensures),
+)
+
+pub returns : goal.returns
+returns c =
+    IfOk-weaker c.results.result _ _
+    (λ results are history is. are (bidding_in history c.args.terms.now.announcement)
+    (IsAuctionOf-book history c.args.tables.now c.args.terms.now c.args.book.now.lines c.deref.result.now is
+    (c.deref.ensures.value ∙ c.in_ok-positions.ensures))) c.results.ensures

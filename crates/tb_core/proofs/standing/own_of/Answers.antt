@@ -1,0 +1,22 @@
+-- The book's sums are those of the live bids.
+use Rattle.std.proofs.Common.{◌∙◌}
+use Rattle.tb_core.proofs.HouseLemmas.{few-bidders}
+use Rattle.tb_core.proofs.OwnLemmas.{tied-competitive, tied-noncompetitive}
+use Rattle.tb_core.proofs.StandingLemmas.{capped-is}
+use Rattle.tb_core.proofs.standing.own_of.Goals as goal
+
+pub number_of-number-requires : goal.number_of-number-requires
+number_of-number-requires c = few-bidders c.requires.0 c.args.tables.now c.requires.1
+
+pub returns : goal.returns
+returns c =
+    capped-is c.sums_of.result.0.value c.sums_of.result.1.value c.few_bids-accepted.result c.has_report-reported.result
+    c.args.tables.now.bids.list c.args.tables.now.cancels.list c.args.tables.now.reports.list c.args.auction.now
+    c.args.bidder.now
+    (c.sums_of.ensures.competitive
+    ∙ tied-competitive c.requires.0 c.args.tables.now c.requires.1 c.args.auction.now c.args.bidder.now
+    c.number_of-number.result c.number_of-number.ensures)
+    (c.sums_of.ensures.noncompetitive
+    ∙ tied-noncompetitive c.requires.0 c.args.tables.now c.requires.1 c.args.auction.now c.args.bidder.now
+    c.number_of-number.result c.number_of-number.ensures)
+    c.few_bids-accepted.ensures c.has_report-reported.ensures

@@ -1,0 +1,51 @@
+-- What a message moves, by the tables, and the room of a settlement in them.
+use Rattle.std.specs.Prelude.{ℕ, ◌≤◌, List, [], Option, Some, None, length, map, vec_capacity}
+use Rattle.std.specs.List.{position_or_len}
+use Rattle.tb_terms.specs.declared.announcement.Announcement.{Announcement}
+use Rattle.tb_message.specs.declared.message.Message.{Message}
+use Rattle.tb_message.specs.declared.message.Message.TheVariants as message
+use Rattle.tb_movements.specs.Movements.{Credit, Movement, Settled}
+use Rattle.tb_history.specs.declared.roster.Registration.{Registration}
+use Rattle.tb_history.specs.declared.roster.Enrolment.{Enrolment}
+use Rattle.tb_history.specs.Entries.{is_same}
+use Rattle.tb_history.specs.Roster.{announcement_of}
+use Rattle.tb_history.specs.Awarded.{Bidding, bidding_of, awarded}
+use Rattle.tb_history.specs.Moves.{movement_by}
+use Rattle.tb_core.specs.declared.tables.Tables.{Tables}
+use Rattle.tb_core.specs.Auctions.{announced_in}
+use Rattle.tb_core.specs.Accounting.{numbers_in}
+
+-- a bidder's award, for its participant
+abbrev pub credit_for : List Registration → Bidding → Enrolment → Credit
+credit_for submitters bidding e = record {
+  holder = position_or_len (λ (r : Registration). is_same r.submitter e.submitter) submitters;
+  par = awarded bidding e.bidder;
+}
+
+-- those of some bidders
+abbrev pub credits_for : List Registration → Bidding → List Enrolment → List Credit
+credits_for submitters bidding bidders = map (credit_for submitters bidding) bidders
+
+-- the bidding of an auction
+abbrev pub bidding_on : Tables → Announcement → Bidding
+bidding_on tables a = bidding_of tables.bidders.list tables.bids.list tables.cancels.list tables.reports.list a
+
+-- what a settlement of the auction that is found moves
+abbrev pub settled_in : Tables → Option Announcement → Option Movement
+settled_in tables None = None
+settled_in tables (Some a) =
+    Some (Settled ((numbers_in tables.submitters.list tables.auctions.list).security a.cusip.bytes)
+    (credits_for tables.submitters.list (bidding_on tables a) tables.bidders.list))
+
+-- what the message of a sender under a number moves: no other movement than a settlement's depends on what stands before it
+abbrev pub movement_in : Tables → List ℕ → ℕ → Message → Option Movement
+movement_in tables sender number (message.Settle auction) =
+    settled_in tables (announcement_of (announced_in tables.auctions.list) auction)
+movement_in tables sender number other =
+    movement_by (numbers_in tables.submitters.list tables.auctions.list) [] sender number other
+
+-- there is room to cut an auction
+pub record HasSettleRoom (tables : Tables) : Type 0 where
+  pub lines : length tables.bids.list ≤ tables.scratch.recognised.line_room
+  pub bidders : length tables.bidders.list ≤ tables.scratch.recognised.bidder_room
+  pub positions : length tables.bidders.list ≤ vec_capacity tables.scratch.positions

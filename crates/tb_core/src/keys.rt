@@ -1,0 +1,167 @@
+//! By what the rows of the host are found and counted.
+use tb_history::{Bid, Cancel, Enrolment, Registration, Report};
+use tb_index::KeyOf;
+use tb_message::Entry;
+use tb_terms::{Cusip, Terms};
+use tb_units::{Day, Ident};
+
+/// By the name that a row stands under: that of a submitter, of a bidder, of an auction.
+pub struct ByName;
+
+/// By a submitter's key.
+pub struct ByKey;
+
+/// By a submitter and the number of its message; a bid and its cancel by the auction too.
+pub struct ByNumber;
+
+/// By the submitter.
+pub struct BySubmitter;
+
+/// By an auction and a bidder in it.
+pub struct ByBidder;
+
+/// By the CUSIP.
+pub struct ByBill;
+
+/// By the day.
+pub struct ByDay;
+
+impl KeyOf<Ident> for ByName {
+    type Key = Ident;
+
+    ghost key_of = { λ name. name };
+
+    fn key_of(name: &Ident) -> Ident {
+        *name
+    }
+}
+
+impl KeyOf<Registration> for ByName {
+    type Key = Ident;
+
+    ghost key_of = { λ registration. registration.submitter };
+
+    fn key_of(registration: &Registration) -> Ident {
+        registration.submitter
+    }
+}
+
+impl KeyOf<Registration> for ByKey {
+    type Key = Ident;
+
+    ghost key_of = { λ registration. registration.key };
+
+    fn key_of(registration: &Registration) -> Ident {
+        registration.key
+    }
+}
+
+impl KeyOf<Enrolment> for ByName {
+    type Key = Ident;
+
+    ghost key_of = { λ enrolment. enrolment.bidder };
+
+    fn key_of(enrolment: &Enrolment) -> Ident {
+        enrolment.bidder
+    }
+}
+
+impl KeyOf<Terms> for ByName {
+    type Key = Ident;
+
+    ghost key_of = { λ terms. terms.announcement.auction };
+
+    fn key_of(terms: &Terms) -> Ident {
+        terms.announcement.auction
+    }
+}
+
+impl KeyOf<Terms> for ByBill {
+    type Key = [u8; 9];
+
+    ghost key_of = { λ terms. terms.announcement.cusip.bytes };
+
+    fn key_of(terms: &Terms) -> [u8; 9] {
+        terms.announcement.cusip.bytes
+    }
+}
+
+impl KeyOf<Cusip> for ByBill {
+    type Key = [u8; 9];
+
+    ghost key_of = { λ cusip. cusip.bytes };
+
+    fn key_of(cusip: &Cusip) -> [u8; 9] {
+        cusip.bytes
+    }
+}
+
+impl KeyOf<Day> for ByDay {
+    type Key = u32;
+
+    ghost key_of = { λ day. day.number };
+
+    fn key_of(day: &Day) -> u32 {
+        day.number
+    }
+}
+
+impl KeyOf<Entry> for ByNumber {
+    type Key = (Ident, u64);
+
+    ghost key_of = { λ entry. (entry.submitter, entry.number) };
+
+    fn key_of(entry: &Entry) -> (Ident, u64) {
+        (entry.submitter, entry.number)
+    }
+}
+
+impl KeyOf<Entry> for BySubmitter {
+    type Key = Ident;
+
+    ghost key_of = { λ entry. entry.submitter };
+
+    fn key_of(entry: &Entry) -> Ident {
+        entry.submitter
+    }
+}
+
+impl KeyOf<Bid> for ByNumber {
+    type Key = (Ident, Ident, u64);
+
+    ghost key_of = { λ bid. (bid.submitter, bid.auction, bid.number) };
+
+    fn key_of(bid: &Bid) -> (Ident, Ident, u64) {
+        (bid.submitter, bid.auction, bid.number)
+    }
+}
+
+impl KeyOf<Bid> for ByBidder {
+    type Key = (Ident, Ident);
+
+    ghost key_of = { λ bid. (bid.auction, bid.bidder) };
+
+    fn key_of(bid: &Bid) -> (Ident, Ident) {
+        (bid.auction, bid.bidder)
+    }
+}
+
+impl KeyOf<Cancel> for ByNumber {
+    type Key = (Ident, Ident, u64);
+
+    ghost key_of = { λ cancel. (cancel.submitter, cancel.auction, cancel.bid) };
+
+    fn key_of(cancel: &Cancel) -> (Ident, Ident, u64) {
+        (cancel.submitter, cancel.auction, cancel.bid)
+    }
+}
+
+impl KeyOf<Report> for ByBidder {
+    type Key = (Ident, Ident);
+
+    ghost key_of = { λ report. (report.auction, report.bidder) };
+
+    fn key_of(report: &Report) -> (Ident, Ident) {
+        (report.auction, report.bidder)
+    }
+}

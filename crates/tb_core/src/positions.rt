@@ -1,0 +1,28 @@
+//! The reported positions of an auction's bidders, for a reading.
+ghost use Rattle.std.specs.Prelude.{◌≡◌, ◌<◌, ◌^◌, length, IfOk};
+ghost use Rattle.tb_history.specs.Readings.{AreDistinct};
+ghost use Rattle.tb_core.specs.Settling.{positions_by};
+
+use crate::bidding::Reports;
+use crate::roster::Bidders;
+use crate::settling::fill_positions;
+use std::alloc::Global;
+use tb_units::{Ident, OutOfMemory};
+
+/// The last reported position of each bidder in the auction, in whole dollars, at the bidder's place in the order of
+/// enrolment. It is 0 where none is reported.
+pub fn positions_in(
+    alloc: Global,
+    bidders: &Bidders,
+    reports: &Reports,
+    auction: &Ident,
+) -> Result<Vec<i64>, OutOfMemory>
+    requires few { length bidders.now.list < 2 ^ 32 }
+    requires distinct { AreDistinct bidders.now.list }
+    ensures { IfOk result (λ positions. positions.items ≡ positions_by reports.now.list auction.now bidders.now.list) }
+{
+    let mut positions = Vec::new(alloc);
+    positions.reserve(bidders.rows().len())?;
+    fill_positions(&mut positions, bidders, reports, auction);
+    Ok(positions)
+}

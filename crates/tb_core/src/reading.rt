@@ -1,0 +1,95 @@
+//! What queries are told, by the tables.
+ghost use Rattle.std.specs.Prelude.{◌≡◌, ◌&&◌, List, IfOk};
+ghost use Rattle.tb_message.specs.declared.message.Entry.{Entry};
+ghost use Rattle.tb_history.specs.Entries.{is_same};
+ghost use Rattle.tb_history.specs.Holdings.{bidding_in};
+ghost use Rattle.tb_history.specs.Readings.{AreAwards, AreResults, bid_line, bid_lines};
+ghost use Rattle.tb_core.specs.Bidden.{IsAuctionOf};
+
+use crate::bidding::{Bids, Cancels, is_live};
+use crate::names::is_same;
+use crate::positions::positions_in;
+use crate::tables::Tables;
+use std::alloc::Global;
+use tb_book::Book;
+use tb_history::{Awards, Bid, BidLine, Listing, Results};
+use tb_results::{awards, results};
+use tb_terms::Terms;
+use tb_units::{Ident, OutOfMemory};
+
+fn line_of(bid: &Bid, cancels: &Cancels) -> BidLine
+    ensures { result ≡ bid_line cancels.now.list bid.now }
+{
+    BidLine {
+        number: bid.number,
+        bidder: bid.bidder,
+        rate: bid.rate,
+        amount: bid.amount,
+        live: is_live(cancels, bid),
+    }
+}
+
+fn is_asked(bid: &Bid, submitter: &Ident, auction: &Ident) -> bool
+    ensures { result ≡ (is_same bid.now.submitter submitter.now && is_same bid.now.auction auction.now) }
+{
+    is_same(&bid.submitter, submitter) && is_same(&bid.auction, auction)
+}
+
+/// The submitter's bids in the auction, in the order of acceptance.
+pub fn bid_lines(
+    alloc: Global,
+    bids: &Bids,
+    cancels: &Cancels,
+    submitter: &Ident,
+    auction: &Ident,
+) -> Result<tb_history::Bids, OutOfMemory>
+    ensures { IfOk result (λ lines. lines ≡ bid_lines bids.now.list cancels.now.list submitter.now auction.now) }
+{
+    let mut lines = Listing::new(alloc);
+    for bid in bids.rows() {
+        if is_asked(bid, submitter, auction) {
+            lines.push(line_of(bid, cancels))?;
+        }
+    }
+    Ok(lines)
+}
+
+/// The results of the auction of these terms, by the book of its live bids.
+pub fn results_reading(
+    alloc: Global,
+    tables: &Tables,
+    terms: &Terms,
+    book: &Book,
+) -> Result<Results, OutOfMemory>
+    requires { (history : List Entry) × IsAuctionOf history tables.now terms.now book.now.lines }
+    ensures { IfOk result (λ results. (history : List Entry) → IsAuctionOf history tables.now terms.now book.now.lines
+        → AreResults (bidding_in history terms.now.announcement) results) }
+{
+    let auction = terms.announcement.auction;
+    let positions = positions_in(alloc, &tables.bidders, &tables.reports, &auction)?;
+    results(alloc, terms, book, &positions)
+}
+
+/// The awards of the caller's bidders in the auction of these terms, by the book of its live bids.
+pub fn awards_reading(
+    alloc: Global,
+    tables: &Tables,
+    terms: &Terms,
+    book: &Book,
+    caller: &Ident,
+) -> Result<Awards, OutOfMemory>
+    requires { (history : List Entry) × IsAuctionOf history tables.now terms.now book.now.lines }
+    ensures { IfOk result (λ lines. (history : List Entry) → IsAuctionOf history tables.now terms.now book.now.lines
+        → AreAwards history terms.now.announcement caller.now lines) }
+{
+    let auction = terms.announcement.auction;
+    let positions = positions_in(alloc, &tables.bidders, &tables.reports, &auction)?;
+    awards(
+        alloc,
+        terms,
+        book,
+        &positions,
+        tables.bidders.rows(),
+        caller,
+    )
+}
