@@ -5,13 +5,16 @@
 //! plain program would do. It prints both rates.
 #![tactic(auto)]
 
+ghost use Rattle.std.specs.Prelude.{◌≡◌, None};
+ghost use Rattle.tb_journal.specs.Places.{StandsAt};
+
 use std::fs::{File, OpenOptions};
 use std::os::unix::fs::FileExt;
 use std::path::PathBuf;
 use std::time::Instant;
 use std::{env, fs, io};
-use tb_disk::FileDisk;
-use tb_journal::Journal;
+use tb_disk::{Disk, FileDisk};
+use tb_journal::{Journal, Window};
 
 const PAYLOAD: &[u8] = b"a payload as long as the entry of a bid: 46 ..";
 
@@ -33,6 +36,21 @@ fn is_added(journal: &mut Journal<FileDisk>, payload: &[u8]) -> bool {
         return false;
     }
     journal.append(payload).is_ok()
+}
+
+// How many payloads there are, up to where the disk fails.
+fn payloads<D: Disk>(journal: &mut Journal<D>) -> u64
+    requires sure { journal.old.doubt ≡ None }
+    requires first { StandsAt (D.disk journal.old.disk) journal.old.gate 16 }
+{
+    let mut window = Window { bytes: [0; 32768] };
+    let mut count = 0u64;
+    let mut place = 16;
+    'frames: while let Ok(Some((_size, next))) = journal.next_frame(place, &mut window) {
+        count = count.saturating_add(1);
+        place = next;
+    }
+    count
 }
 
 // What a plain program would do for a payload at a place.
@@ -82,7 +100,7 @@ fn main(rt: HostRuntime) -> io::Result<()> {
         None => None,
     };
     match Journal::open(rt.alloc(), FileDisk::new(open_empty(&rt, &path)?)) {
-        Ok((mut journal, _frames)) => match asked {
+        Ok(mut journal) => match asked {
             Some(count) => {
                 let file = open_empty(&rt, &beside)?;
                 race(&rt, &mut journal, &file, count)?;
@@ -93,7 +111,7 @@ fn main(rt: HostRuntime) -> io::Result<()> {
                     is_added(&mut journal, PAYLOAD);
                 }
                 match Journal::open(rt.alloc(), journal.into_disk()) {
-                    Ok((_journal, frames)) => println!(rt; "{} payloads", frames.count())?,
+                    Ok(mut journal) => println!(rt; "{} payloads", payloads(&mut journal))?,
                     Err((_disk, fault)) => println!(rt; "not opened: {fault:?}")?,
                 }
             }

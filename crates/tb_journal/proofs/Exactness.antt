@@ -1,10 +1,15 @@
 -- Of the answers that speak of a file one at most is true.
-use Rattle.std.proofs.Common.{◌≡◌, ℕ, List, refl, sym, ◌∙◌, ap, Ok, Err, Some, None, Option, IfSome}
+use Rattle.std.proofs.Common.{◌≡◌, ℕ, List, ◌≤◌, [], length, refl, sym, ◌∙◌, ap, arith, length-append, Ok, Err, Some, None, Option, IfSome}
 use Rattle.tb_disk.specs.Past.{Past, contents_of}
 use Rattle.tb_disk.specs.Disks.{DiskState}
 use Rattle.tb_journal.specs.Journal.{Told}
 use Rattle.tb_journal.specs.Image.{StandsFor, IsNoJournal, IsDamaged}
-use Rattle.tb_journal.specs.Answers.{Answer, IsTrueOf, SpeaksOfFile, IsExact}
+use Rattle.tb_journal.specs.Frames.{header, frames}
+use Rattle.tb_journal.specs.Opening.{Finds}
+use Rattle.tb_journal.specs.Places.{IsPlace, StandsAt}
+use Rattle.tb_journal.proofs.Gates.{length-header}
+use Rattle.tb_journal.proofs.ToldLemmas.{told_before, told_after}
+use Rattle.tb_journal.specs.Answers.{Answer, IsTrueOf, SpeaksOfFile, IsExact, IsExactAt}
 use Rattle.tb_journal.specs.declared.fault.JournalFault.TheVariants.{DiskFault, NotAJournal, Damaged, OutOfMemory}
 use Rattle.tb_journal.proofs.Spelling.{StandsFor-one, StandsFor-journal, StandsFor-whole, IsDamaged-journal, IsDamaged-one}
 
@@ -68,3 +73,29 @@ exact_told answer P old new is_true told = go old.past refl
     go None now = tt
     go (Some past) now = (let first = told.told past now in IsExact-true (contents_of past) answer
         (is_true past first.0 first.2))
+
+-- where the gate stands behind the payloads that were found, that is exact
+pub exact_at : (gate : ℕ) (P : Past → Past → Type 0) (old new : DiskState)
+    → ((before now : Past) → P before now → Finds gate before now) → Told old new P
+    → IfSome old.past (λ past. IsExactAt gate (contents_of past))
+exact_at gate P old new finds told = told_before P (λ past. IsExactAt gate (contents_of past)) old new
+    (λ before now is. (let found = finds before now is in record {
+      payloads = found.0;
+      place = found.2.place;
+      exact = IsExact-true (contents_of before) (Ok found.0) found.1;
+    })) told
+
+-- the first frame stands behind the header, or the gate does
+pub first_place : (gate : ℕ) (P : Past → Past → Type 0) (old new : DiskState) → 16 ≤ gate
+    → ((before now : Past) → P before now → Finds gate before now) → Told old new P → StandsAt new gate 16
+first_place gate P old new behind finds told = record {
+  within = behind;
+  told = told_after P (IsPlace gate 16) old new
+      (λ before now is. (let found = finds before now is in record {
+        payloads = found.0;
+        holds = found.2;
+        count = 0;
+        within = omega arith;
+        is = omega (arith, length-append header (frames []), length-header);
+      })) told;
+}

@@ -4,7 +4,7 @@ pub mod Calls
 pub mod Spelling
 pub mod Settling
 pub mod Reading
+pub mod Walking
 pub mod OpeningLemmas
 pub mod SinceLemmas
-pub mod Placing
 pub mod Exactness

@@ -1,16 +1,17 @@
 -- What the device calls of an opening make of its disk.
-use Rattle.std.proofs.Common.{◌≡◌, ◌⊎◌, inl, inr, ℕ, ◌+◌, ◌<◌, ◌≤◌, List, [], ◌∷◌, ◌++◌, length, drop, refl, sym, ◌∙◌, ap, subst, arith, length-append, length-drop, Err, codes}
+use Rattle.std.proofs.Common.{◌≡◌, ◌⊎◌, inl, inr, ℕ, ◌+◌, ◌<◌, ◌≤◌, List, [], ◌∷◌, ◌++◌, length, drop, refl, sym, ◌∙◌, ap, subst, arith, length-append, length-drop, Err, IfSome, codes}
 use Rattle.std.proofs.lemmas.List.{append-nil}
 use Rattle.tb_disk.specs.Steps.{Wrote, Tore, Synced, Torn}
 use Rattle.tb_disk.specs.Past.{Past, Then, contents_of, MayLeave, Follows}
-use Rattle.tb_disk.specs.Disks.{DiskState, Takes, Fails}
+use Rattle.tb_disk.specs.Disks.{DiskState, Takes, Fails, HasLength}
 use Rattle.tb_disk.proofs.Moments.{Leaves-start, Leaves-step}
 use Rattle.tb_journal.specs.Frames.{header, frames, front}
 use Rattle.tb_journal.specs.Image.{IsFramed, StandsFor}
 use Rattle.tb_journal.specs.Journal.{Holds, Told, SyncsOrNot}
-use Rattle.tb_journal.specs.Opening.{StandsAsWell, Opens, IsHarmless, empty_journal, made_past, MadeInPart}
+use Rattle.tb_journal.specs.Opening.{StandsAsWell, Measures, Finds, Opens, IsHarmless, empty_journal, made_past, MadeInPart}
+use Rattle.tb_journal.specs.Places.{EndsAt}
 use Rattle.tb_journal.proofs.Gates.{length-header, IsFramed-stands}
-use Rattle.tb_journal.proofs.ToldLemmas.{Told-both, Told-weaker, told_step, still_silent}
+use Rattle.tb_journal.proofs.ToldLemmas.{Told-both, Told-weaker, told_after, told_known, told_step, still_silent}
 use Rattle.tb_journal.specs.Answers.{IsTrueOf, LeavesRefused}
 use Rattle.tb_journal.specs.declared.fault.JournalFault.{JournalFault}
 use Rattle.tb_journal.specs.declared.fault.JournalFault.TheVariants.{DiskFault, NotAJournal, Damaged, OutOfMemory}
@@ -150,25 +151,14 @@ made before mid now synced short is =
       subst (λ (past : Past). IsHarmless before past) (sym whole) (made_harmless before short),
     )
 
--- the journal is read
-pub found : (payloads : List (List ℕ)) (gate : ℕ) (before now : Past) (bytes : List ℕ) → now ≡ Then Synced before
-    → bytes ≡ contents_of before → length (front payloads) ≡ gate → IsFramed payloads bytes → Holds payloads gate now
-found payloads gate before now bytes synced same place file = subst (λ (past : Past). Holds payloads gate past)
-    (sym synced) (read_holds payloads gate before place (subst (λ (list : List ℕ). IsFramed payloads list) same file))
-
 -- the bytes of an empty journal, as they are written
 pub empty_is : codes "TBHOSTJOURNAL001\0" ≡ empty_journal
 unfolding header
 empty_is = refl
 
--- what reading did
-abbrev pub Reads : List ℕ → Past → Past → Type 0
-Reads bytes before now = (now ≡ Then Synced before) × (bytes ≡ contents_of before)
-
--- what an opening that found payloads did, and one that didn't
-abbrev pub Finds : List (List ℕ) → ℕ → Past → Past → Type 0
-Finds payloads gate before now = StandsFor payloads (contents_of before) × Holds payloads gate now
-    × IsHarmless before now
+-- what an opening that found payloads did
+abbrev pub FindsThem : ℕ → Past → Past → Type 0
+FindsThem gate before now = Finds gate before now × IsHarmless before now
 
 -- what an opening that was refused did
 abbrev pub Refuses : JournalFault → Past → Past → Type 0
@@ -190,48 +180,69 @@ leaves_synced (Damaged place) before now synced = synced
 leaves_synced DiskFault before now synced = tt
 leaves_synced OutOfMemory before now synced = tt
 
--- the disk couldn't be read
-pub reading_fails : (fault : JournalFault) (old new : DiskState) → (fault ≡ DiskFault) ⊎ (fault ≡ OutOfMemory)
+-- the disk couldn't be measured
+pub measuring_fails : (fault : JournalFault) (old new : DiskState) → fault ≡ DiskFault
     → Told old new SyncsOrNot → Told old new (Refuses fault)
-reading_fails fault old new is = Told-weaker SyncsOrNot (Refuses fault) old new
-    (λ before now part. refuses_disk fault before now is (read_fails before now part))
+measuring_fails fault old new is = Told-weaker SyncsOrNot (Refuses fault) old new
+    (λ before now part. refuses_disk fault before now (inl is) (read_fails before now part))
 
 -- an empty journal couldn't be made
-pub find_making_fails : (fault : JournalFault) (bytes : List ℕ) (old mid new : DiskState) → fault ≡ DiskFault
-    → length bytes ≤ 17 → Told old mid (Reads bytes) → Told mid new MadeInPart → Told old new (Refuses fault)
-find_making_fails fault bytes old mid new is short = Told-both (Reads bytes) MadeInPart (Refuses fault) old mid new
-    (λ before mid now reads part. refuses_disk fault before now (inl is)
-    (making_fails before mid now reads.0 (subst (λ (list : List ℕ). length list ≤ 17) reads.1 short) part))
+pub find_making_fails : (fault : JournalFault) (size : ℕ) (old mid new : DiskState) → fault ≡ DiskFault
+    → size ≤ 17 → Told old mid (Measures size) → Told mid new MadeInPart → Told old new (Refuses fault)
+find_making_fails fault size old mid new is short = Told-both (Measures size) MadeInPart (Refuses fault) old mid new
+    (λ before mid now measures part. refuses_disk fault before now (inl is)
+    (making_fails before mid now measures.0 (omega (arith, short, measures.1)) part))
 
 -- an empty journal was made
-pub find_made : (bytes : List ℕ) (old mid new : DiskState) → length bytes ≤ 17 → Told old mid (Reads bytes)
-    → Told mid new (λ before now. now ≡ made_past before) → Told old new (Finds [] 16)
-find_made bytes old mid new short = Told-both (Reads bytes) (λ before now. now ≡ made_past before)
-    (Finds [] 16) old mid new
-    (λ before mid now reads is. (let within = subst (λ (list : List ℕ). length list ≤ 17) reads.1 short in
-    let both = made before mid now reads.0 within is in (inl (within, refl), both.0, both.1)))
+pub find_made : (size : ℕ) (old mid new : DiskState) → size ≤ 17 → Told old mid (Measures size)
+    → Told mid new (λ before now. now ≡ made_past before) → Told old new (FindsThem 16)
+find_made size old mid new short = Told-both (Measures size) (λ before now. now ≡ made_past before)
+    (FindsThem 16) old mid new
+    (λ before mid now measures is. (
+    let within : length (contents_of before) ≤ 17 = omega (arith, short, measures.1) in
+    let both = made before mid now measures.0 within is in (([], inl (within, refl), both.0), both.1)))
+
+-- what the file is after it was measured
+pub has_length : (size : ℕ) (old new : DiskState) → Told old new (Measures size) → HasLength new size
+has_length size old new measures = told_after (Measures size) (λ past. size ≡ length (contents_of past)) old new
+    (λ before now told. told.1 ∙ ap (λ (past : Past). length (contents_of past)) (sym told.0)) measures
+
+-- what a file that was only read tells
+pub told_kept : (P : Past → Past → Type 0) (old mid new : DiskState) → new.past ≡ mid.past → Told old mid P
+    → Told old new P
+told_kept P old mid new same told = record {
+  silent = λ none. same ∙ told.silent none;
+  told = λ before is. (let first = told.told before is in (first.0, same ∙ first.1, first.2));
+}
 
 -- a journal was found
-pub find_found : (payloads : List (List ℕ)) (gate : ℕ) (bytes : List ℕ) (old new : DiskState)
-    → IsFramed payloads bytes × (length (front payloads) ≡ gate) → Told old new (Reads bytes)
-    → Told old new (Finds payloads gate)
-find_found payloads gate bytes old new framed = Told-weaker (Reads bytes) (Finds payloads gate) old new
-    (λ before now reads. (
-      IsFramed-stands payloads (contents_of before)
-          (subst (λ (list : List ℕ). IsFramed payloads list) reads.1 framed.0),
-      found payloads gate before now bytes reads.0 reads.1 framed.1 framed.0,
-      read_fails before now (inr reads.0),
-    ))
+pub find_found : (gate size : ℕ) (old mid new : DiskState) → new.past ≡ mid.past → Told old mid (Measures size)
+    → IfSome mid.past (λ past. EndsAt gate (contents_of past)) → Told old new (FindsThem gate)
+find_found gate size old mid new same measures ends = told_kept (FindsThem gate) old mid new same
+    (told_known (Measures size) (λ past. EndsAt gate (contents_of past)) (FindsThem gate) old mid
+    (λ before now told known. (
+    let file : IsFramed known.payloads (contents_of before) =
+    subst (λ (past : Past). IsFramed known.payloads (contents_of past)) told.0 known.framed in (
+      (
+        known.payloads,
+        IsFramed-stands known.payloads (contents_of before) file,
+        subst (λ (past : Past). Holds known.payloads gate past) (sym told.0)
+            (read_holds known.payloads gate before known.place file),
+      ),
+      read_fails before now (inr told.0),
+    ))) measures ends)
 
 -- the file was refused
-pub find_refused : (fault : JournalFault) (bytes : List ℕ) (old new : DiskState) → IsTrueOf bytes (Err fault)
-    → Told old new (Reads bytes) → Told old new (Refuses fault)
-find_refused fault bytes old new is_true = Told-weaker (Reads bytes) (Refuses fault) old new
-    (λ before now reads. (
-      subst (λ (list : List ℕ). IsTrueOf list (Err fault)) reads.1 is_true,
-      leaves_synced fault before now reads.0,
-      read_fails before now (inr reads.0),
-    ))
+pub find_refused : (fault : JournalFault) (size : ℕ) (old mid new : DiskState) → new.past ≡ mid.past
+    → Told old mid (Measures size) → IfSome mid.past (λ past. IsTrueOf (contents_of past) (Err fault))
+    → Told old new (Refuses fault)
+find_refused fault size old mid new same measures refused = told_kept (Refuses fault) old mid new same
+    (told_known (Measures size) (λ past. IsTrueOf (contents_of past) (Err fault)) (Refuses fault) old mid
+    (λ before now told known. (
+      subst (λ (past : Past). IsTrueOf (contents_of past) (Err fault)) told.0 known,
+      leaves_synced fault before now told.0,
+      read_fails before now (inr told.0),
+    )) measures refused)
 
 -- an empty journal was written, and not synced
 pub making_sync_fails : (old mid new : DiskState) → Takes (Wrote 0 empty_journal) old mid → Fails mid new
@@ -247,19 +258,20 @@ making_sync_fails old mid new writes fails = record {
 }
 
 -- the steps of an opening that made an empty journal
-pub opens_made : (bytes : List ℕ) (old mid new : DiskState) → length bytes ≤ 17 → Told old mid (Reads bytes)
+pub opens_made : (size : ℕ) (old mid new : DiskState) → size ≤ 17 → Told old mid (Measures size)
     → Told mid new (λ before now. now ≡ made_past before) → Told old new Opens
-opens_made bytes old mid new short = Told-both (Reads bytes) (λ before now. now ≡ made_past before) Opens old mid new
-    (λ before between now reads is. record {
-      kept = λ long. absurd (omega (arith, long, short, ap length reads.1));
-      made = λ _. is ∙ ap made_past reads.0;
+opens_made size old mid new short = Told-both (Measures size) (λ before now. now ≡ made_past before) Opens old mid new
+    (λ before between now measures is. record {
+      kept = λ long. absurd (omega (arith, long, short, measures.1));
+      made = λ _. is ∙ ap made_past measures.0;
     })
 
 -- the steps of an opening that found a journal
-pub opens_found : (bytes : List ℕ) (old new : DiskState) → 17 < length bytes → Told old new (Reads bytes)
+pub opens_found : (size : ℕ) (old mid new : DiskState) → 17 < size → new.past ≡ mid.past → Told old mid (Measures size)
     → Told old new Opens
-opens_found bytes old new long = Told-weaker (Reads bytes) Opens old new
-    (λ before now reads. record {
-      kept = λ _. reads.0;
-      made = λ short. absurd (omega (arith, long, short, ap length reads.1));
-    })
+opens_found size old mid new long same measures = told_kept Opens old mid new same
+    (Told-weaker (Measures size) Opens old mid
+    (λ before now told. record {
+      kept = λ _. told.0;
+      made = λ short. absurd (omega (arith, long, short, told.1));
+    }) measures)

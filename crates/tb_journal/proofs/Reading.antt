@@ -8,23 +8,16 @@ use Rattle.tb_journal.specs.Image.{IsFramed, IsNoFrame, IsDamaged}
 use Rattle.tb_journal.proofs.Gates.{front_push, length-front_push, length-header, ArePayloads-push}
 use Rattle.tb_journal.proofs.Spelling.{length-framed}
 
--- four bytes of length, and so many bytes behind them, are a frame
-pub frame_found : (head tail : List ℕ) (size : ℕ) → length head ≡ 4 → ((index : ℕ) → get_or head index 0 < 256)
-    → size ≡ from_be_bytes w32 head → size ≤ length tail → head ++ tail ≡ framed (take size tail) ++ drop size tail
-unfolding framed
-frame_found head tail size four bytes says fits =
-    let long : length (take size tail) ≡ size = omega (arith, length-take size tail) in
-    let spelled : head ≡ to_be_bytes w32 (length (take size tail)) =
-    sym (ap (λ (number : ℕ). to_be_bytes w32 number) long ∙ be_bytes_4 head size four bytes says) in
-    ap (λ (list : List ℕ). head ++ list) (sym (take-append-drop size tail))
-    ∙ (ap (λ (list : List ℕ). list ++ (take size tail ++ drop size tail)) spelled
-    ∙ sym (append_assoc (to_be_bytes w32 (length (take size tail))) (take size tail) (drop size tail)))
-
 -- up to this place the file is the header and these frames
 pub record IsReadTo (payloads : List (List ℕ)) (place : ℕ) (file : List ℕ) : Type 0 where
   pub sizes : ArePayloads payloads
   pub at : length (front payloads) ≡ place
   pub is : file ≡ front payloads ++ drop place file
+
+-- up to this place the file is the header and some frames
+pub record IsReadUpTo (place : ℕ) (file : List ℕ) : Type 0 where
+  pub payloads : List (List ℕ)
+  pub read : IsReadTo payloads place file
 
 -- behind the header no frame is read yet
 pub read_none : (file : List ℕ) → take 16 file ≡ header → IsReadTo [] 16 file

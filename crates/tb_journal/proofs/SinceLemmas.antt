@@ -9,6 +9,7 @@ use Rattle.tb_disk.proofs.Moments.{Leaves-start, Leaves-both, Leaves-weaker}
 use Rattle.tb_journal.specs.Frames.{front}
 use Rattle.tb_journal.specs.Image.{StandsFor}
 use Rattle.tb_journal.specs.Journal.{Told, WithOrWithout, Holds, InDoubt, KeepsAt, Adds, Doubts, StaysInDoubt, LeavesInDoubt, SyncsOrNot}
+use Rattle.tb_journal.specs.Opening.{Finds}
 use Rattle.tb_journal.specs.Journals.{StandsForBeginning, SinceOpening}
 use Rattle.tb_journal.proofs.ToldLemmas.{Told-both, Told-weaker, told_after, told_still}
 use Rattle.tb_journal.proofs.Calls.{held_stays}
@@ -116,11 +117,13 @@ abbrev pub Knows : DiskState → DiskState → ℕ → Option ℕ → Type 0
 Knows opened disk gate doubt = Told opened disk (SinceOpening gate doubt)
 
 -- a journal that was just opened
-pub knows_opened : (P : Past → Past → Type 0) (payloads : List (List ℕ)) (gate : ℕ) (old disk : DiskState)
-    → ((before now : Past) → P before now → Holds payloads gate now) → Told old disk P → Knows disk disk gate None
-knows_opened P payloads gate old disk holds told =
-    told_still (SinceOpening gate None) (Holds payloads gate) disk (since-opened payloads gate)
-    (told_after P (Holds payloads gate) old disk holds told)
+pub knows_opened : (P : Past → Past → Type 0) (gate : ℕ) (old disk : DiskState)
+    → ((before now : Past) → P before now → Finds gate before now) → Told old disk P → Knows disk disk gate None
+knows_opened P gate old disk finds told =
+    told_still (SinceOpening gate None) (λ now. (payloads : List (List ℕ)) × Holds payloads gate now) disk
+    (λ now known. since-opened known.0 gate now known.1)
+    (told_after P (λ now. (payloads : List (List ℕ)) × Holds payloads gate now) old disk
+    (λ before now is. (let found = finds before now is in (found.0, found.2))) told)
 
 -- a payload was added
 pub knows_added : (payload : List ℕ) (gate next : ℕ) (opened old new : DiskState) → Knows opened old gate None

@@ -26,7 +26,7 @@ length_in-framed payload rest is =
     (payload ++ rest) 4 refl) ∙ from_be_bytes-to_be_bytes_4 (length payload) (fits payload is))
 
 -- behind the length stands the payload
-drop-framed : (payload rest : List ℕ) → drop 4 (framed payload ++ rest) ≡ payload ++ rest
+pub drop-framed : (payload rest : List ℕ) → drop 4 (framed payload ++ rest) ≡ payload ++ rest
 unfolding framed
 drop-framed payload rest = ap (λ (list : List ℕ). drop 4 list)
     (append_assoc (to_be_bytes w32 (length payload)) payload rest)

@@ -91,6 +91,31 @@ told_given P Q R old new follows told known = record {
       );
 }
 
+-- what follows of one thing that is known
+pub known_of : (P Q : Past → Type 0) (past : Option Past) → ((now : Past) → P now → Q now) → IfSome past P
+    → IfSome past Q
+known_of P Q None follows known = tt
+known_of P Q (Some now) follows known = follows now known
+
+-- what follows of two
+pub known_both : (P Q R : Past → Type 0) (past : Option Past) → ((now : Past) → P now → Q now → R now) → IfSome past P
+    → IfSome past Q → IfSome past R
+known_both P Q R None follows one other = tt
+known_both P Q R (Some now) follows one other = follows now one other
+
+-- what a call did, where something is known after it
+pub told_known : (P : Past → Past → Type 0) (Q : Past → Type 0) (R : Past → Past → Type 0) (old new : DiskState)
+    → ((before now : Past) → P before now → Q now → R before now) → Told old new P → IfSome new.past Q
+    → Told old new R
+told_known P Q R old new follows told known = record {
+  silent = told.silent;
+  told = λ before is. (
+      let first = told.told before is in
+      let q : Q first.0 = subst (λ (past : Option Past). IfSome past Q) first.1 known in
+      (first.0, first.1, follows before first.0 first.2 q)
+      );
+}
+
 -- where nothing happens, what is known is known
 pub told_still : (P : Past → Past → Type 0) (Q : Past → Type 0) (disk : DiskState)
     → ((now : Past) → Q now → P now now) → IfSome disk.past Q → Told disk disk P

@@ -1,7 +1,8 @@
 -- What an opening may answer.
-use Rattle.std.specs.Prelude.{◌≡◌, ◌≢◌, ℕ, List, Result, Ok, Err}
+use Rattle.std.specs.Prelude.{◌≡◌, ◌≢◌, ℕ, List, length, Result, Ok, Err}
 use Rattle.tb_disk.specs.Steps.{Synced}
 use Rattle.tb_disk.specs.Past.{Past, Then}
+use Rattle.tb_journal.specs.Frames.{front}
 use Rattle.tb_journal.specs.Image.{StandsFor, IsNoJournal, IsDamaged}
 use Rattle.tb_journal.specs.declared.fault.JournalFault.{JournalFault}
 use Rattle.tb_journal.specs.declared.fault.JournalFault.TheVariants.{DiskFault, NotAJournal, Damaged, OutOfMemory}
@@ -27,6 +28,12 @@ SpeaksOfFile answer = (answer ≢ Err DiskFault) × (answer ≢ Err OutOfMemory)
 pub record IsExact (file : List ℕ) (answer : Answer) : Type 0 where
   pub is_true : IsTrueOf file answer
   pub only : (other : Answer) → IsTrueOf file other → SpeaksOfFile other → SpeaksOfFile answer → answer ≡ other
+
+-- the gate stands at this place behind the payloads that were found, and that these were found is exact
+pub record IsExactAt (gate : ℕ) (file : List ℕ) : Type 0 where
+  pub payloads : List (List ℕ)
+  pub place : length (front payloads) ≡ gate
+  pub exact : IsExact file (Ok payloads)
 
 -- a file that is no journal, or damaged, was put on the disk and nothing else: its contents are as they were
 abbrev pub LeavesRefused : JournalFault → Past → Past → Type 0

@@ -3,5 +3,5 @@ pub mod Image
 pub mod Journal
 pub mod Journals
 pub mod Opening
-pub mod Payloads
+pub mod Places
 pub mod Answers

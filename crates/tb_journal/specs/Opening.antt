@@ -4,10 +4,19 @@ use Rattle.tb_disk.specs.Steps.{Wrote, Tore, Synced, Torn}
 use Rattle.tb_disk.specs.Past.{Past, Then, contents_of, MayLeave, Leaves}
 use Rattle.tb_journal.specs.Frames.{header, closed_gate, empty_size}
 use Rattle.tb_journal.specs.Image.{StandsFor}
+use Rattle.tb_journal.specs.Journal.{Holds}
 
 -- what the old file stood for, the new one stands for too
 abbrev pub StandsAsWell : List ℕ → List ℕ → Type 0
 StandsAsWell old new = (payloads : List (List ℕ)) → StandsFor payloads old → StandsFor payloads new
+
+-- all was put on the disk, and this is its length
+abbrev pub Measures : ℕ → Past → Past → Type 0
+Measures size before now = (now ≡ Then Synced before) × (size ≡ length (contents_of before))
+
+-- the file stood for payloads, and the disk holds them with a gate at this place
+abbrev pub Finds : ℕ → Past → Past → Type 0
+Finds gate before now = (payloads : List (List ℕ)) × StandsFor payloads (contents_of before) × Holds payloads gate now
 
 -- an empty journal: the header and a closed gate
 abbrev pub empty_journal : List ℕ

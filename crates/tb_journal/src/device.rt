@@ -1,13 +1,15 @@
 //! The device calls of a journal: two put a frame behind the gate, two open the gate, two look at it.
-ghost use Rattle.std.specs.Prelude.{◌≡◌, ◌+◌, ◌<◌, ◌≤◌, ◌↔◌, ◌^◌, ℕ, List, [], ◌∷◌, ◌++◌, length, slice_index, vec_capacity, IfOk, OnOk, OnErr, IsTrue};
+ghost use Rattle.std.specs.Prelude.{◌≡◌, ◌⊎◌, ◌+◌, ◌<◌, ◌≤◌, ◌↔◌, ◌^◌, ℕ, List, [], ◌∷◌, ◌++◌, length, drop, slice_index, vec_capacity, IfOk, OnOk, OnErr, IfSome, IfNone, IsTrue};
 ghost use Rattle.tb_link.specs.Counts.{Rose, NeverFalls};
 ghost use Rattle.tb_disk.specs.Steps.{Synced};
 ghost use Rattle.tb_disk.specs.Past.{Then, contents_of};
 ghost use Rattle.tb_disk.specs.Disks.{Reaches};
 ghost use Rattle.tb_journal.specs.Frames.{IsPayload, framed};
+ghost use Rattle.tb_journal.specs.Image.{length_in};
+ghost use Rattle.tb_journal.specs.Places.{IsPlace, GivesFrame, StandsBetween};
 ghost use Rattle.tb_journal.specs.Journal.{Told, Stages, Doubts, Counts, MaybeCounts, WritesInPart, SyncsOrNot, staged_past, opened_past};
 
-use crate::frames::{CLOSED, OPEN};
+use crate::frames::{CLOSED, FRAME_HEAD, OPEN, Window, payload_size};
 use tb_disk::Disk;
 use tb_link::Failed;
 
@@ -73,6 +75,53 @@ pub fn open_gate<D: Disk>(disk: &mut D, gate: u64) -> Result<(), Failed>
     // The gate byte comes last: a crash before it leaves the old payloads.
     disk.write_at(gate, &[OPEN])?;
     disk.sync()
+}
+
+/// Reads the payload of the frame at a place before the gate, and gives its length and the place behind the frame. One that
+/// reads as none is given as no bytes that end at the gate.
+pub fn read_frame<D: Disk>(
+    disk: &mut D,
+    place: u64,
+    gate: u64,
+    into: &mut Window,
+) -> Result<(usize, u64), Failed>
+    requires before { place < gate }
+    requires place { IfSome (D.disk disk.old).past (IsPlace gate place) }
+    ensures frame { IfOk result (λ found. IfSome (D.disk disk.old).past
+        (GivesFrame gate place into.new.bytes found.0 found.1)) }
+    ensures between { IfOk result (λ found. StandsBetween gate place found.0 found.1 × (found.1 ≤ gate)) }
+    ensures kept { (D.disk disk.new).past ≡ (D.disk disk.old).past }
+    ensures fault { OnErr result (Rose (D.disk disk.old).faults (D.disk disk.new).faults) }
+    ensures no_fault { OnOk result ((D.disk disk.new).faults ≡ (D.disk disk.old).faults) }
+    ensures count { NeverFalls (D.disk disk.old).faults (D.disk disk.new).faults }
+{
+    let mut head = [CLOSED; FRAME_HEAD];
+    let count = disk.read(place, &mut head)?;
+    let Some(size) = payload_within(&head, count, gate - place) else {
+        return Ok((0, gate));
+    };
+    let count = disk.read(place + FRAME_HEAD as u64, &mut into.bytes[..size])?;
+    if count < size {
+        return Ok((0, gate));
+    }
+    Ok((size, place + (FRAME_HEAD + size) as u64))
+}
+
+// How long a payload is, by so many bytes of the head of its frame: none where these say no length of a payload, or one that
+// needs more than the room.
+fn payload_within(head: &[u8; 5], count: usize, room: u64) -> Option<usize>
+    requires { count ≤ 5 }
+    ensures found { IfSome result (λ size. (count ≡ 5) × (size ≡ length_in (drop 1 head.now)) × (1 ≤ size) × (size ≤ 32768) × (5 + size ≤ room)) }
+    ensures none { IfNone result ((count < 5) ⊎ (length_in (drop 1 head.now) < 1) ⊎ (32768 < length_in (drop 1 head.now)) ⊎ (room < 5 + length_in (drop 1 head.now))) }
+{
+    if count < FRAME_HEAD {
+        return None;
+    }
+    let size = payload_size(&head[1..])?;
+    if (FRAME_HEAD + size) as u64 > room {
+        return None;
+    }
+    Some(size)
 }
 
 /// Syncs, and says whether the gate byte is 1.

@@ -1,5 +1,5 @@
 //! The journal between its calls.
-ghost use Rattle.std.specs.Prelude.{◌≡◌, ◌+◌, ◌<◌, ◌≤◌, ◌↔◌, ◌^◌, ℕ, length, slice_index, vec_capacity, None, Some, if◌then◌else◌, IfSome, IsSome, IfOk, OnOk, OnErr, IsTrue};
+ghost use Rattle.std.specs.Prelude.{◌≡◌, ◌+◌, ◌<◌, ◌≤◌, ◌↔◌, ◌^◌, ℕ, length, slice_index, vec_capacity, None, Some, if◌then◌else◌, IfSome, IsSome, IsNone, IfOk, OnOk, OnErr, IsTrue};
 ghost use Rattle.tb_link.specs.Counts.{Rose, NeverFalls};
 ghost use Rattle.tb_disk.specs.Steps.{Synced};
 ghost use Rattle.tb_disk.specs.Past.{Then, contents_of};
@@ -7,10 +7,11 @@ ghost use Rattle.tb_disk.specs.Disks.{Reaches};
 ghost use Rattle.tb_journal.specs.Frames.{IsPayload};
 ghost use Rattle.tb_journal.specs.Journal.{Told, Adds, Doubts, Stays, LeavesOldOrNew, Settles, StaysInDoubt, LeavesInDoubt, AddsInPart, SyncsOrNot, staged_past, opened_past};
 ghost use Rattle.tb_journal.specs.Journals.{SinceOpening, IsJournal};
+ghost use Rattle.tb_journal.specs.Places.{StandsAt, GivesFrame, StandsBetween};
 
-use crate::device::{gate_is_open, open_gate, stage};
+use crate::device::{gate_is_open, open_gate, read_frame, stage};
 use crate::fault::DiskFault;
-use crate::frames::{FRAME_HEAD, LONGEST_PAYLOAD};
+use crate::frames::{FRAME_HEAD, LONGEST_PAYLOAD, Window};
 use std::marker::Model;
 use std::snapshot::Snapshot;
 use tb_disk::Disk;
@@ -110,6 +111,38 @@ impl<D: Disk> Journal<D> {
         ensures { result ≡ self.now.gate }
     {
         self.gate
+    }
+
+    /// Reads the payload of the frame at a place into the window, and gives its length and the place behind the frame. At
+    /// the standing gate there is none.
+    ///
+    /// Where the disk doesn't tell its contents a frame may read otherwise than it was opened. One that reads as none is
+    /// given as no bytes that end at the gate.
+    pub fn next_frame(
+        &mut self,
+        place: u64,
+        into: &mut Window,
+    ) -> Result<Option<(usize, u64)>, DiskFault>
+        requires sure { self.old.doubt ≡ None }
+        requires place { StandsAt (D.disk self.old.disk) self.old.gate place }
+        ensures end { IfOk result (λ found. IsNone found ↔ (place ≡ self.old.gate)) }
+        ensures frame { IfOk result (λ found. IfSome found (λ frame. IfSome (D.disk self.old.disk).past
+            (GivesFrame self.old.gate place into.new.bytes frame.0 frame.1))) }
+        ensures between { IfOk result (λ found. IfSome found (λ frame. StandsBetween self.old.gate place frame.0 frame.1)) }
+        ensures next { IfOk result (λ found. IfSome found (λ frame. StandsAt (D.disk self.new.disk) self.new.gate frame.1)) }
+        ensures kept { (D.disk self.new.disk).past ≡ (D.disk self.old.disk).past }
+        ensures same { (self.new.gate ≡ self.old.gate) × (self.new.doubt ≡ self.old.doubt) × (self.new.opened ≡ self.old.opened) }
+        ensures fault { OnErr result (Rose (D.disk self.old.disk).faults (D.disk self.new.disk).faults) }
+        ensures no_fault { OnOk result ((D.disk self.new.disk).faults ≡ (D.disk self.old.disk).faults) }
+        ensures count { NeverFalls (D.disk self.old.disk).faults (D.disk self.new.disk).faults }
+    {
+        if place == self.gate {
+            return Ok(None);
+        }
+        match read_frame(&mut self.disk, place, self.gate, into) {
+            Ok(found) => Ok(Some(found)),
+            Err(Failed) => Err(DiskFault),
+        }
     }
 
     /// Adds a payload. Once it has returned Ok, each crash leaves the payload. After a fault the payload may count or

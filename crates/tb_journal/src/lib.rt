@@ -10,5 +10,5 @@ mod opening;
 mod tests;
 
 pub use fault::{DiskFault, JournalFault};
-pub use frames::Frames;
+pub use frames::Window;
 pub use journal::Journal;

@@ -1,8 +1,11 @@
+ghost use Rattle.std.specs.Prelude.{◌≡◌, None};
+ghost use Rattle.tb_journal.specs.Places.{StandsAt};
+
 use super::*;
 use std::alloc::Global;
 use std::process::Abort;
 use std::test::Fail;
-use tb_disk::MemoryDisk;
+use tb_disk::{Disk, MemoryDisk};
 
 const HEADER: &[u8] = b"TBHOSTJOURNAL001";
 
@@ -37,20 +40,44 @@ fn settle(rt: &impl Abort, journal: &mut Journal<MemoryDisk>) -> Result<bool, Di
     journal.resolve()
 }
 
-// The payloads that a file stands for, one after another, each with its place.
+// The payloads of a journal, one after another, each with its place.
+fn payloads_of<D: Disk>(
+    rt: &impl Abort,
+    alloc: Global,
+    journal: &mut Journal<D>,
+) -> Result<Vec<u8>, Fail>
+    requires sure { journal.old.doubt ≡ None }
+    requires first { StandsAt (D.disk journal.old.disk) journal.old.gate 16 }
+{
+    let mut text = Vec::new(alloc);
+    let mut window = Window { bytes: [0; 32768] };
+    let mut place = 16;
+    'frames: for _ in 0..10 {
+        let Ok(found) = journal.next_frame(place, &mut window) else {
+            assert!(rt; false, "the disk failed");
+            return Ok(text);
+        };
+        let Some((size, behind)) = found else {
+            return Ok(text);
+        };
+        text.push((place % 256) as u8)?;
+        text.extend_from_slice(&window.bytes[..size])?;
+        place = behind;
+    }
+    assert!(rt; false, "no end");
+    Ok(text)
+}
+
+// The payloads that a file stands for.
 fn payloads_in(rt: &impl Abort, alloc: Global, file: &[u8]) -> Result<Vec<u8>, Fail> {
     let disk = disk_of(rt, alloc, file, Vec::new(alloc), 0)?;
-    let mut text = Vec::new(alloc);
     match Journal::open(alloc, disk) {
-        Ok((_journal, frames)) => {
-            for index in 0..frames.count() {
-                text.push((frames.place(index) % 256) as u8)?;
-                text.extend_from_slice(frames.payload(index))?;
-            }
+        Ok(mut journal) => payloads_of(rt, alloc, &mut journal),
+        Err((_disk, fault)) => {
+            assert!(rt; false, "{fault:?}");
+            Ok(Vec::new(alloc))
         }
-        Err((_disk, fault)) => assert!(rt; false, "{fault:?}"),
     }
-    Ok(text)
 }
 
 #[test]
@@ -66,7 +93,7 @@ fn files_are_opened(rt: HostRuntime) -> Result<(), Fail> {
     ] {
         let disk = disk_of(&rt, alloc, file, Vec::new(alloc), 0)?;
         match Journal::open(alloc, disk) {
-            Ok((journal, _frames)) => {
+            Ok(journal) => {
                 assert_eq!(rt; journal.into_disk().contents(), after);
             }
             Err((_disk, fault)) => assert!(rt; false, "{fault:?}"),
@@ -126,7 +153,7 @@ fn a_journal_has_the_bytes_of_its_format(rt: HostRuntime) -> Result<(), Fail> {
         .as_slice();
     assert_eq!(rt; file.len(), 55);
     let disk = disk_of(&rt, alloc, b"", Vec::new(alloc), 0)?;
-    let Ok((mut journal, _frames)) = Journal::open(alloc, disk) else {
+    let Ok(mut journal) = Journal::open(alloc, disk) else {
         return Ok(assert!(rt; false, "not opened"));
     };
     assert_eq!(rt; add(&rt, &mut journal, payload), Ok(()));
@@ -142,24 +169,24 @@ fn a_journal_has_the_bytes_of_its_format(rt: HostRuntime) -> Result<(), Fail> {
     Ok(())
 }
 
-// Opening an empty disk takes the calls 0 to 4: a sync, the length, a read, a write and a sync. Those of the first
-// append are 5 to 8, and then come a sync and a read of `resolve`.
+// Opening an empty disk takes the calls 0 to 3: a sync, the length, a write and a sync. Those of the first append are 4 to
+// 7, and then come a sync and a read of `resolve`.
 #[test]
 fn a_payload_in_doubt_is_settled(rt: HostRuntime) -> Result<(), Fail> {
     let alloc = rt.alloc();
     // The calls that fail, the byte that a failed write leaves, whether `resolve` fails once, and whether the payload
     // counts.
     for (first, second, torn, again, want) in [
-        (8, 99, 0, false, true),
-        (8, 9, 0, true, true),
-        (7, 99, 1, false, true),
-        (7, 99, 7, false, false),
-        (7, 9, 7, true, false),
-        (6, 99, 0, false, false),
+        (7, 99, 0, false, true),
+        (7, 8, 0, true, true),
+        (6, 99, 1, false, true),
+        (6, 99, 7, false, false),
+        (6, 8, 7, true, false),
         (5, 99, 0, false, false),
+        (4, 99, 0, false, false),
     ] {
         let disk = disk_of(&rt, alloc, b"", vec![in alloc; first, second]?, torn)?;
-        let Ok((mut journal, _frames)) = Journal::open(alloc, disk) else {
+        let Ok(mut journal) = Journal::open(alloc, disk) else {
             return Ok(assert!(rt; false, "not opened"));
         };
         assert_eq!(rt;
@@ -200,7 +227,7 @@ fn counts(rt: &impl Abort, journal: &mut Journal<MemoryDisk>, payload: &[u8]) ->
 fn keeps_what_counts(rt: &impl Abort, alloc: Global, fails: Vec<u64>) -> Result<(), Fail> {
     let disk = disk_of(rt, alloc, b"", fails, 7)?;
     match Journal::open(alloc, disk) {
-        Ok((mut journal, _frames)) => {
+        Ok(mut journal) => {
             let mut want = Vec::new(alloc);
             for payload in [b"abc".as_slice(), b"de"] {
                 let place = (journal.gate() % 256) as u8;
@@ -243,7 +270,7 @@ const BLOCK: &[u8] = b"\0\0\0\x02ab\0";
 fn a_crash_leaves_the_old_list_or_the_new(rt: HostRuntime) -> Result<(), Fail> {
     let alloc = rt.alloc();
     let disk = disk_of(&rt, alloc, HEADER, Vec::new(alloc), 0)?;
-    let Ok((mut journal, _frames)) = Journal::open(alloc, disk) else {
+    let Ok(mut journal) = Journal::open(alloc, disk) else {
         return Ok(assert!(rt; false, "not opened"));
     };
     assert_eq!(rt; add(&rt, &mut journal, b"ab"), Ok(()));
@@ -293,14 +320,15 @@ fn the_longest_payload_is_kept(rt: HostRuntime) -> Result<(), Fail> {
     let alloc = rt.alloc();
     let payload = longest_payload(alloc)?;
     let disk = MemoryDisk::new(alloc, b"", 40_000, 80_000, Vec::new(alloc), 0)?;
-    let Ok((mut journal, _frames)) = Journal::open(alloc, disk) else {
+    let Ok(mut journal) = Journal::open(alloc, disk) else {
         return Ok(assert!(rt; false, "not opened"));
     };
     assert_eq!(rt; add(&rt, &mut journal, &payload), Ok(()));
-    let Ok((_journal, frames)) = Journal::open(alloc, journal.into_disk()) else {
+    let Ok(mut journal) = Journal::open(alloc, journal.into_disk()) else {
         return Ok(assert!(rt; false, "not opened again"));
     };
-    assert!(rt; frames.count() == 1);
-    assert_eq!(rt; frames.payload(0), payload.as_slice());
+    let mut want = vec![in alloc; 16]?;
+    want.extend_from_slice(&payload)?;
+    assert_eq!(rt; payloads_of(&rt, alloc, &mut journal)?, want);
     Ok(())
 }

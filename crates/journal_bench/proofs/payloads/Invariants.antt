@@ -1,0 +1,13 @@
+-- one of the journal's frames stands at the place, or its gate
+use Rattle.std.proofs.Common.{◌≡◌, ◌-◌, None}
+use Rattle.tb_journal.specs.Places.{StandsAt}
+use Rattle.journal_bench.proofs.payloads.Given as goal
+
+abbrev pub invariant-frames : goal.invariant-frames
+invariant-frames g l = record {
+  sure : l.journal.doubt ≡ None;
+  stands : StandsAt (g.D.Disk.disk l.journal.disk) l.journal.gate l.place;
+}
+
+abbrev pub decreases-frames : goal.decreases-frames
+decreases-frames g l = l.journal.gate - l.place

@@ -1,0 +1,18 @@
+-- The file is read up to this place.
+use Rattle.std.proofs.Common.{◌≡◌, ◌≤◌, ◌-◌, IfSome}
+use Rattle.tb_disk.specs.Past.{contents_of}
+use Rattle.tb_link.specs.Counts.{NeverFalls}
+use Rattle.tb_journal.proofs.Reading.{IsReadUpTo}
+use Rattle.tb_journal.proofs.opening.find_gate.Given as goal
+
+abbrev pub invariant-frames : goal.invariant-frames
+invariant-frames g l = record {
+  kept : (g.D.Disk.disk l.disk).past ≡ (g.D.Disk.disk l.fn.disk).past;
+  no_fault : (g.D.Disk.disk l.disk).faults ≡ (g.D.Disk.disk l.fn.disk).faults;
+  behind : 16 ≤ l.place;
+  within : l.place ≤ l.size;
+  so_far : IfSome (g.D.Disk.disk l.fn.disk).past (λ past. IsReadUpTo l.place (contents_of past));
+}
+
+abbrev pub decreases-frames : goal.decreases-frames
+decreases-frames g l = l.size - l.place
