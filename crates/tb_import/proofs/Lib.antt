@@ -1,0 +1,6 @@
+pub mod ExportLemmas
+pub mod FieldLemmas
+pub mod OneTableLemmas
+pub mod ReadLemmas
+pub mod RowLemmas
+pub mod TableLemmas

@@ -1,0 +1,194 @@
+//! Tests of the public calls: tables that were written by hand, and tables at the limits.
+use crate::*;
+use std::alloc::{AllocError, Global};
+use std::process::Abort;
+use std::test::Fail;
+use tb_history::{AwardLine, Awards, HoldingLine, Holdings};
+use tb_message::Message;
+use tb_terms::Cusip;
+use tb_units::{Cents, Dollars, Ident, Rate};
+
+fn bid(rt: &impl Abort, rate: Option<Rate>) -> Message {
+    Message::Bid {
+        auction: Ident::read("bill13").expect(rt, "a name"),
+        bidder: Ident::read("fund1").expect(rt, "a name"),
+        rate,
+        amount: Dollars { value: 100 },
+    }
+}
+
+// The two bids of the tables below.
+fn are_both(rt: &impl Abort, bids: &[(u64, Message)]) {
+    let both = [(7, bid(rt, Some(Rate { steps: 860 }))), (8, bid(rt, None))];
+    assert_eq!(rt; bids, both.as_slice());
+}
+
+// The first bad record of a table, or 0 where all records are good.
+fn first_bad<R: AllocGlobal + Abort>(rt: &R, table: &[u8]) -> u64 {
+    match read_bids(rt.alloc(), table) {
+        Ok(_) => 0,
+        Err(ImportFault::BadRecord(place)) => place,
+        Err(ImportFault::OutOfMemory) => panic!(rt; "memory"),
+    }
+}
+
+#[test]
+fn equal_rows_count_once(rt: HostRuntime) {
+    let table =
+        b"number,auction,bidder,rate,amount\n7,bill13,fund1,4.300,100\n7,bill13,fund1,4.3,100\n8,bill13,fund1,,100\n";
+    let bids = read_bids(rt.alloc(), table).expect(&rt, "a table");
+    are_both(&rt, bids.as_slice());
+}
+
+#[test]
+fn quotes_line_ends_and_marks_are_read(rt: HostRuntime) {
+    let table =
+        b"\xEF\xBB\xBF\"number\",auction,bidder,rate,amount\r\n\r\n7,\"bill13\",fund1,\"4.300\",100\r\n\n8,bill13,fund1,,100";
+    let bids = read_bids(rt.alloc(), table).expect(&rt, "a table");
+    are_both(&rt, bids.as_slice());
+}
+
+#[test]
+fn the_first_bad_record_is_told(rt: HostRuntime) {
+    assert_eq!(rt; first_bad(&rt, b""), 1);
+    assert_eq!(rt; first_bad(&rt, b"\n\r\n"), 1);
+    assert_eq!(rt; first_bad(&rt, b"7,bill13,fund1,4.300,100\n"), 1);
+    assert_eq!(rt; first_bad(&rt, b"number,auction,bidder,rate\n"), 1);
+    assert_eq!(rt; first_bad(&rt, b"number,auction,bidder,rate,amount"), 0);
+    assert_eq!(rt;
+        first_bad(
+            &rt,
+            b"number,auction,bidder,rate,amount\n\n\n7,bill13,fund1,4.300\n"
+        ),
+        2
+    );
+    assert_eq!(rt;
+        first_bad(
+            &rt,
+            b"number,auction,bidder,rate,amount\n7,bill13,fund1,4.300,100,1\n"
+        ),
+        2
+    );
+    for row in [
+        "0,bill13,fund1,4.300,100",
+        "1000000000000001,bill13,fund1,4.300,100",
+        "07,bill13,fund1,4.300,100",
+        "7,Bill13,fund1,4.300,100",
+        "7,bill13,,4.300,100",
+        "7,bill13,fund1,4.301,100",
+        "7,bill13,fund1, ,100",
+        "7,bill13,fund1,4.300,1000000000001",
+        "7,bill13,fund1,4.300,",
+        "7,bill13,fund1,4.300,+100",
+    ] {
+        let table = format!(in rt.alloc();
+            "number,auction,bidder,rate,amount\n7,bill13,fund1,4.300,0\n{row}\n8,,,,\n"
+        );
+        let table = table.expect(&rt, "memory");
+        assert_eq!(rt; first_bad(&rt, table.as_bytes()), 3, "{row}");
+    }
+}
+
+#[test]
+fn a_field_that_is_no_text_is_bad(rt: HostRuntime) {
+    assert_eq!(rt;
+        first_bad(
+            &rt,
+            b"number,auction,bidder,rate,amount\n7,bill13,fund1,\xFF,100\n"
+        ),
+        2
+    );
+}
+
+#[test]
+fn short_records_are_read_whole(rt: HostRuntime) -> Result<(), Fail> {
+    let mut table = String::new(rt.alloc());
+    table.push_str("number,auction,bidder,rate,amount\n")?;
+    for number in 1..131_073u64 {
+        let row = format!(in rt.alloc(); "{number},a,b,,0\n")?;
+        table.push_str(row.as_str())?;
+    }
+    let bids = read_bids(rt.alloc(), table.as_bytes()).expect(&rt, "a table");
+    assert_eq!(rt; bids.len(), 131_072);
+    let last = bids.last().map(|bid| bid.0);
+    assert_eq!(rt; last, Some(131_072));
+    Ok(())
+}
+
+#[test]
+fn record_1000001_is_one_too_many(rt: HostRuntime) -> Result<(), Fail> {
+    let mut table = Vec::new(rt.alloc());
+    table.extend_from_slice(b"number,auction,bidder,rate,amount\n")?;
+    for _ in 0..999_999u64 {
+        table.extend_from_slice(b"1,a,b,,0\n")?;
+    }
+    let bids = read_bids(rt.alloc(), table.as_slice()).expect(&rt, "a table");
+    assert_eq!(rt; bids.len(), 1);
+    table.extend_from_slice(b"1,a,b,,0\n")?;
+    assert_eq!(rt; first_bad(&rt, table.as_slice()), 1_000_001);
+    Ok(())
+}
+
+// A table of so many bytes whose record 2 is bad, so that what follows isn't read.
+fn of_size(alloc: Global, size: usize) -> Result<Vec<u8>, AllocError> {
+    let mut table = vec![in alloc; 0; size]?;
+    let front = b"number,auction,bidder,rate,amount\n7\n";
+    for (place, byte) in front.iter().enumerate() {
+        if place < table.len() {
+            table[place] = *byte;
+        }
+    }
+    Ok(table)
+}
+
+#[test]
+fn a_table_has_at_most_134217728_bytes(rt: HostRuntime) -> Result<(), Fail> {
+    let longest = of_size(rt.alloc(), 134_217_728)?;
+    assert_eq!(rt; first_bad(&rt, longest.as_slice()), 2);
+    let longer = of_size(rt.alloc(), 134_217_729)?;
+    assert_eq!(rt; first_bad(&rt, longer.as_slice()), 1);
+    Ok(())
+}
+
+#[test]
+fn awards_are_exported(rt: HostRuntime) {
+    let mut awards = Awards::new(rt.alloc());
+    let bytes = export_awards(rt.alloc(), &awards).expect(&rt, "memory");
+    assert_eq!(rt; bytes.as_slice(), b"bidder,amount,payment\n".as_slice());
+    for (bidder, amount, payment) in [
+        ("fund1", 20_000_000_000, 1_978_412_778_000),
+        ("fund2", 0, 0),
+    ] {
+        let line = AwardLine {
+            bidder: Ident::read(bidder).expect(&rt, "a name"),
+            amount: Dollars { value: amount },
+            payment: Cents { value: payment },
+        };
+        awards.push(line).expect(&rt, "memory");
+    }
+    let bytes = export_awards(rt.alloc(), &awards).expect(&rt, "memory");
+    assert_eq!(rt;
+        bytes.as_slice(),
+        b"bidder,amount,payment\nfund1,20000000000,19784127780.00\nfund2,0,0.00\n".as_slice()
+    );
+}
+
+#[test]
+fn holdings_are_exported(rt: HostRuntime) {
+    let mut holdings = Holdings::new(rt.alloc());
+    for bytes in [b"912797AB3", b"AA,\"B\"\r\nC"] {
+        let line = HoldingLine {
+            cusip: Cusip { bytes: *bytes },
+            held: Dollars { value: 200 },
+            pledged: Dollars { value: 200 },
+            free: Dollars { value: 0 },
+        };
+        holdings.push(line).expect(&rt, "memory");
+    }
+    let bytes = export_holdings(rt.alloc(), &holdings).expect(&rt, "memory");
+    // What no CUSIP has stands in quotes, as RFC 4180 writes it.
+    assert_eq!(rt;
+        bytes.as_slice(),
+        b"cusip,held,pledged,free\n912797AB3,200,200,0\n\"AA,\"\"B\"\"\r\nC\",200,200,0\n".as_slice()
+    );
+}
