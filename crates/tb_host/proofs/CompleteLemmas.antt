@@ -7,16 +7,13 @@ use Rattle.std.specs.Prelude.{Some, Bool}
 use Rattle.std.specs.Str.Lines.{lines}
 use Rattle.tb_host.specs.BookLines.{Spells}
 use Rattle.tb_host.specs.Told.{WhereTold}
-use Rattle.tb_host.specs.Books.{Adds, AreEntries, Book, IsBadFirst, IsBadLine, IsBadNext, IsEntry, HasBadLine, HasBook, IsFront, empty_book, most_lines}
+use Rattle.tb_host.specs.Books.{Adds, AreEntries, Book, IsBadFirst, IsBadLine, IsBadNext, IsEntry, HasBadLine, HasBook, IsFront, empty_book}
+use Rattle.tb_host.specs.LineEnds.{most_lines}
 use Rattle.tb_host.specs.AwardRun.{AwardEnds, Printed, PrintedPrefix}
-use Rattle.tb_host.specs.Commands.{AreAward, AreCommand, AreWordsOf}
 use Rattle.tb_host.specs.Endings.{status_of}
-use Rattle.tb_host.specs.HostRun.{CommandEnds, EndsAs, Reports, TellsBadLine}
 use Rattle.tb_host.specs.declared.book_line.BookLine.TheVariants as kind
 use Rattle.tb_host.specs.declared.book_line.Entry.{Entry}
 use Rattle.tb_host.specs.declared.book_line.Offering.{Offering}
-use Rattle.tb_host.specs.declared.command.Command.{Command}
-use Rattle.tb_host.specs.declared.command.Command.TheVariants as command
 use Rattle.tb_host.specs.declared.ending.Ending.{Ending}
 use Rattle.tb_host.specs.declared.ending.Ending.TheVariants as ending
 use Rattle.tb_host.proofs.NumberingLemmas.{adds-one}
@@ -154,7 +151,7 @@ prefix_book : (full : Bool) (input : SourceState) (out out' : SinkState) (text :
 prefix_book full input out out' text printed told = let p = (printed text told).run in (p.offering, p.book, p.begins)
 
 -- a book is answered
-award_complete : (full : Bool) (ended : Ending) (input input' : SourceState) (out out' : SinkState) (text : List ℕ)
+pub award_complete : (full : Bool) (ended : Ending) (input input' : SourceState) (out out' : SinkState) (text : List ℕ)
     → AwardEnds full ended input input' out out'
     → input.left ≡ Some text
     → HasBook (lines text)
@@ -171,41 +168,8 @@ award_complete full ending.WriteFault input input' out out' text ends told book 
     absurd (no_write ends.0)
 award_complete full ending.OutOfMemory input input' out out' text ends told book no_read no_write = inr refl
 
--- the same of any command
-command_complete : (chosen : Command) (ended : Ending) (input input' : SourceState) (out out' : SinkState)
-    (text : List ℕ)
-    → EndsAs chosen ended input input' out out'
-    → input.left ≡ Some text
-    → HasBook (lines text)
-    → ¬ (Rose input.faults input'.faults)
-    → ¬ (Rose out.faults out'.faults)
-    → (status_of ended ≡ 0) ⊎ (status_of ended ≡ 9)
-command_complete (command.Award full) ended input input' out out' text ends told book no_read no_write =
-    award_complete full ended input input' out out' text ends told book no_read no_write
-
--- the same of the words of a run
-pub complete : (ended : Ending) (words : List (List ℕ)) (input input' : SourceState) (out out' : SinkState)
-    (text : List ℕ)
-    → CommandEnds words ended input input' out out'
-    → AreCommand words
-    → input.left ≡ Some text
-    → HasBook (lines text)
-    → ¬ (Rose input.faults input'.faults)
-    → ¬ (Rose out.faults out'.faults)
-    → (status_of ended ≡ 0) ⊎ (status_of ended ≡ 9)
-complete ending.Done words input input' out out' text ends command told book no_read no_write =
-    command_complete ends.0 ending.Done input input' out out' text ends.2 told book no_read no_write
-complete ending.Usage words input input' out out' text ends command told book no_read no_write = absurd (ends command)
-complete (ending.BadInput number) words input input' out out' text ends command told book no_read no_write =
-    command_complete ends.0 (ending.BadInput number) input input' out out' text ends.2 told book no_read no_write
-complete ending.ReadFault words input input' out out' text ends command told book no_read no_write =
-    command_complete ends.0 ending.ReadFault input input' out out' text ends.2 told book no_read no_write
-complete ending.WriteFault words input input' out out' text ends command told book no_read no_write =
-    command_complete ends.0 ending.WriteFault input input' out out' text ends.2 told book no_read no_write
-complete ending.OutOfMemory words input input' out out' text ends command told book no_read no_write = inr refl
-
 -- an input outside the grammar is refused
-award_refused : (full : Bool) (ended : Ending) (input input' : SourceState) (out out' : SinkState) (text : List ℕ)
+pub award_refused : (full : Bool) (ended : Ending) (input input' : SourceState) (out out' : SinkState) (text : List ℕ)
     → AwardEnds full ended input input' out out'
     → input.left ≡ Some text
     → HasBadLine (lines text)
@@ -219,83 +183,3 @@ award_refused full ending.ReadFault input input' out out' text ends told bad no_
 award_refused full ending.WriteFault input input' out out' text ends told bad no_read =
     absurd (HasBook-good (lines text) (prefix_book full input out out' text ends.1 told) bad)
 award_refused full ending.OutOfMemory input input' out out' text ends told bad no_read = inr refl
-
--- the same of any command
-command_refused : (chosen : Command) (ended : Ending) (input input' : SourceState) (out out' : SinkState)
-    (text : List ℕ)
-    → EndsAs chosen ended input input' out out'
-    → input.left ≡ Some text
-    → HasBadLine (lines text)
-    → ¬ (Rose input.faults input'.faults)
-    → (status_of ended ≡ 3) ⊎ (status_of ended ≡ 9)
-command_refused (command.Award full) ended input input' out out' text ends told bad no_read =
-    award_refused full ended input input' out out' text ends told bad no_read
-
--- the same of the words of a run
-pub refused : (ended : Ending) (words : List (List ℕ)) (input input' : SourceState) (out out' : SinkState)
-    (text : List ℕ)
-    → CommandEnds words ended input input' out out'
-    → AreCommand words
-    → input.left ≡ Some text
-    → HasBadLine (lines text)
-    → ¬ (Rose input.faults input'.faults)
-    → (status_of ended ≡ 3) ⊎ (status_of ended ≡ 9)
-refused ending.Done words input input' out out' text ends command told bad no_read =
-    command_refused ends.0 ending.Done input input' out out' text ends.2 told bad no_read
-refused ending.Usage words input input' out out' text ends command told bad no_read = absurd (ends command)
-refused (ending.BadInput number) words input input' out out' text ends command told bad no_read = inl refl
-refused ending.ReadFault words input input' out out' text ends command told bad no_read =
-    command_refused ends.0 ending.ReadFault input input' out out' text ends.2 told bad no_read
-refused ending.WriteFault words input input' out out' text ends command told bad no_read =
-    command_refused ends.0 ending.WriteFault input input' out out' text ends.2 told bad no_read
-refused ending.OutOfMemory words input input' out out' text ends command told bad no_read = inr refl
-
--- a command that ends at a bad line ends at the first
-bad_line : (chosen : Command) (number : ℕ) (input input' : SourceState) (out out' : SinkState)
-    → EndsAs chosen (ending.BadInput number) input input' out out'
-    → WhereTold input.left (λ text. IsBadLine number (lines text))
-bad_line (command.Award full) number input input' out out' ends = ends.1
-
--- at status 3 the line's number is told
-pub tells-bad-line : (ended : Ending) (words : List (List ℕ)) (input input' : SourceState)
-    (out out' err err' : SinkState)
-    → status_of ended ≡ 3
-    → CommandEnds words ended input input' out out'
-    → Reports ended err err'
-    → TellsBadLine input.left err err'
-tells-bad-line ending.Done words input input' out out' err err' is ends told = absurd (omega (arith, is))
-tells-bad-line ending.Usage words input input' out out' err err' is ends told = absurd (omega (arith, is))
-tells-bad-line (ending.BadInput number) words input input' out out' err err' is ends told =
-    (number, told, bad_line ends.0 number input input' out out' ends.2)
-tells-bad-line ending.ReadFault words input input' out out' err err' is ends told = absurd (omega (arith, is))
-tells-bad-line ending.WriteFault words input input' out out' err err' is ends told = absurd (omega (arith, is))
-tells-bad-line ending.OutOfMemory words input input' out out' err err' is ends told = absurd (omega (arith, is))
-
--- a command that ends at a failed write has printed a prefix
-prefix_of : (chosen : Command) (words : List (List ℕ)) (input input' : SourceState) (out out' : SinkState)
-    → AreWordsOf chosen words
-    → EndsAs chosen ending.WriteFault input input' out out'
-    → (full : Bool) × AreAward full words × WhereTold input.left (PrintedPrefix full out out')
-prefix_of (command.Award full) words input input' out out' are ends = (full, are, ends.1)
-
--- at status 5 the output has taken a prefix
-pub prefix-taken : (ended : Ending) (words : List (List ℕ)) (input input' : SourceState) (out out' : SinkState)
-    → status_of ended ≡ 5
-    → CommandEnds words ended input input' out out'
-    → (full : Bool) × AreAward full words × WhereTold input.left (PrintedPrefix full out out')
-prefix-taken ending.Done words input input' out out' is ends = absurd (omega (arith, is))
-prefix-taken ending.Usage words input input' out out' is ends = absurd (omega (arith, is))
-prefix-taken (ending.BadInput number) words input input' out out' is ends = absurd (omega (arith, is))
-prefix-taken ending.ReadFault words input input' out out' is ends = absurd (omega (arith, is))
-prefix-taken ending.WriteFault words input input' out out' is ends =
-    prefix_of ends.0 words input input' out out' ends.1 ends.2
-prefix-taken ending.OutOfMemory words input input' out out' is ends = absurd (omega (arith, is))
-
--- status 0 is that of a command that did all
-pub done-at_0 : (ended : Ending) → status_of ended ≡ 0 → ended ≡ ending.Done
-done-at_0 ending.Done is = refl
-done-at_0 ending.Usage is = absurd (omega (arith, is))
-done-at_0 (ending.BadInput number) is = absurd (omega (arith, is))
-done-at_0 ending.ReadFault is = absurd (omega (arith, is))
-done-at_0 ending.WriteFault is = absurd (omega (arith, is))
-done-at_0 ending.OutOfMemory is = absurd (omega (arith, is))

@@ -16,3 +16,14 @@ pub mod TextLemmas
 pub mod CompleteLemmas
 pub mod UniqueLemmas
 pub mod OneTextLemmas
+mod ScriptLineLemmas
+mod ScriptLemmas
+mod ScriptStepLemmas
+mod CommandLemmas
+mod EndingLemmas
+mod HostLemmas
+mod ScriptLawLemmas
+mod OneRunLemmas
+mod SubmitLemmas
+mod HostCommandLemmas
+mod AnswerLemmas

@@ -29,14 +29,14 @@ lines-cut front rest none =
     ∙ lines_of_parts-cons front (slice_split is_line_feed rest)
     (rw (length-slice_split is_line_feed rest) (omega arith))
 
--- where the first line feed stands
-pub first_is : (text : List ℕ) (end : ℕ)
-    → position is_line_feed text ≡ Some end
-    → (position_or_len is_line_feed text ≡ end) × (end < length text)
-first_is text end found =
-    let parts = cond_some (nat_lt (position_or_len is_line_feed text) (length text))
-    (position_or_len is_line_feed text) end found in
-    let below : position_or_len is_line_feed text < length text = ltb-true _ _ parts.0 in
+-- where the first byte that passes stands
+pub position-some : (passes : ℕ → Bool) (text : List ℕ) (end : ℕ)
+    → position passes text ≡ Some end
+    → (position_or_len passes text ≡ end) × (end < length text)
+position-some passes text end found =
+    let parts = cond_some (nat_lt (position_or_len passes text) (length text))
+    (position_or_len passes text) end found in
+    let below : position_or_len passes text < length text = ltb-true _ _ parts.0 in
     (parts.1, subst (λ (n : ℕ). n < length text) parts.1 below)
 
 -- an answer that is none comes of a test that failed
@@ -44,10 +44,22 @@ some-of : (b : Bool) (n : ℕ) → cond b (Some n) None ≡ None → b ≡ false
 some-of true n is = cc
 some-of false n is = refl
 
+-- where no byte passes the first is at the end
+pub position-none : (passes : ℕ → Bool) (text : List ℕ)
+    → position passes text ≡ None
+    → length text ≤ position_or_len passes text
+position-none passes text none = ltb-false _ _
+    (some-of (nat_lt (position_or_len passes text) (length text)) (position_or_len passes text) none)
+
+-- where the first line feed stands
+pub first_is : (text : List ℕ) (end : ℕ)
+    → position is_line_feed text ≡ Some end
+    → (position_or_len is_line_feed text ≡ end) × (end < length text)
+first_is text end found = position-some is_line_feed text end found
+
 -- where there is no line feed the first is at the end
 none_is : (text : List ℕ) → position is_line_feed text ≡ None → length text ≤ position_or_len is_line_feed text
-none_is text none = ltb-false _ _
-    (some-of (nat_lt (position_or_len is_line_feed text) (length text)) (position_or_len is_line_feed text) none)
+none_is text none = position-none is_line_feed text none
 
 -- before the first line feed there is none
 none_before : (text : List ℕ) (n : ℕ)

@@ -7,7 +7,8 @@ use Rattle.tb_link.specs.Sources.{SourceState, before_left}
 use Rattle.tb_host.specs.BookLines.{Spells, Says}
 use Rattle.tb_host.specs.Fields.{fields}
 use Rattle.tb_host.specs.SoundLines.{IsLine, IsSoundOffering}
-use Rattle.tb_host.specs.Books.{Adds, AreEntries, Book, GetsNumber, GoesOn, IsBadFirst, IsBadLine, IsBadNext, BeginsWithBook, IsEntry, empty_book, most_lines, name_of}
+use Rattle.tb_host.specs.Books.{Adds, AreEntries, Book, GetsNumber, GoesOn, IsBadFirst, IsBadLine, IsBadNext, BeginsWithBook, IsEntry, empty_book, name_of}
+use Rattle.tb_host.specs.LineEnds.{most_lines}
 use Rattle.tb_host.specs.BookReading.{ReadsLine, HasNoLine, HasEntries, EndsEntries, StopsEntries}
 use Rattle.tb_host.specs.Told.{WhereTold}
 use Rattle.tb_host.specs.Reads.{ReadsBookAlone, ReadsNoMore}

@@ -1,7 +1,8 @@
 -- A text has one book at its beginning at most, or one line outside the grammar.
 use Rattle.std.proofs.Common.{◌≡◌, ℕ, ◌+◌, ◌≤◌, List, [], ◌∷◌, ◌++◌, length, sym, subst, ◌∙◌, refl, arith, inl, inr}
 use Rattle.tb_host.specs.BookLines.{Spells}
-use Rattle.tb_host.specs.Books.{AreEntries, BeginsWithBook, Book, IsBadLine, IsBadNext, IsEntry, IsFront, empty_book, most_lines}
+use Rattle.tb_host.specs.Books.{AreEntries, BeginsWithBook, Book, IsBadLine, IsBadNext, IsEntry, IsFront, empty_book}
+use Rattle.tb_host.specs.LineEnds.{most_lines}
 use Rattle.tb_host.specs.declared.book_line.BookLine.TheVariants as kind
 use Rattle.tb_host.specs.declared.book_line.Offering.{Offering}
 use Rattle.tb_host.proofs.CompleteLemmas.{entry_one, first_good, goes_on, offering_one}

@@ -2,7 +2,8 @@
 use Rattle.std.specs.Prelude.{◌≡◌, ℕ, ◌+◌, ◌<◌, ◌≤◌, List, [], ◌∷◌, ◌++◌, length, Option, Some}
 use Rattle.std.specs.Str.Lines.{lines}
 use Rattle.tb_host.specs.BookLines.{Spells}
-use Rattle.tb_host.specs.Books.{AreEntries, Book, empty_book, IsBadNext, most_lines}
+use Rattle.tb_host.specs.Books.{AreEntries, Book, empty_book, IsBadNext}
+use Rattle.tb_host.specs.LineEnds.{most_lines}
 use Rattle.tb_host.specs.declared.book_line.BookLine.{BookLine}
 use Rattle.tb_host.specs.declared.book_line.BookLine.TheVariants as kind
 use Rattle.tb_host.specs.declared.book_line.Offering.{Offering}

@@ -4,14 +4,12 @@ use Rattle.std.specs.List.{list_any}
 use Rattle.tb_units.specs.declared.rate.Rate.{Rate}
 use Rattle.tb_price.specs.Prices.{HasPrice}
 use Rattle.tb_host.specs.BookLines.{Spells}
+use Rattle.tb_host.specs.Grammars.{LeavesGrammar}
+use Rattle.tb_host.specs.LineEnds.{most_lines}
 use Rattle.tb_host.specs.declared.book_line.BookLine.TheVariants as kind
 use Rattle.tb_host.specs.declared.book_line.Offering.{Offering}
 use Rattle.tb_host.specs.declared.book_line.Entry.{Entry}
 use Rattle.tb_host.specs.declared.book_line.Entry.TheVariants as entry
-
--- lines of a book, at most
-abbrev pub most_lines : ℕ
-most_lines = 1000000
 
 -- the name of an entry's bidder
 abbrev pub name_of : Entry → List ℕ
@@ -128,8 +126,7 @@ IsBadFirst (text ∷ texts) = (offering : Offering) → ¬ (Spells text (kind.Of
 
 -- behind so many lines with this offering and this book no line stands, or one too many, or one that may not
 abbrev pub IsBadNext : Offering → Book → ℕ → List (List ℕ) → Type 0
-IsBadNext offering book count [] = Unit {0}
-IsBadNext offering book count (text ∷ texts) = (most_lines ≤ count) ⊎ ¬ (GoesOn offering book text)
+IsBadNext offering book count rest = LeavesGrammar (GoesOn offering book) count rest
 
 -- the line of this number is the first outside the grammar, and stands behind the front of a book
 pub record StopsBehindFront (number : ℕ) (lines : List (List ℕ)) : Type 0 where

@@ -4,6 +4,7 @@ pub mod Words
 pub mod BookLines
 pub mod LineEnds
 pub mod Lines
+pub mod Grammars
 pub mod Books
 pub mod BookReading
 pub mod Reads
@@ -16,4 +17,11 @@ pub mod AwardTexts
 pub mod Commands
 pub mod Endings
 pub mod AwardRun
+pub mod ScriptLines
+pub mod Replies
+pub mod Answers
+pub mod ScriptRun
+pub mod Scripts
+pub mod RunEnds
+pub mod ScriptSteps
 pub mod HostRun

@@ -1,4 +1,4 @@
--- Where lines end, and how long they may be.
+-- Where lines end, how long they may be, and how many.
 use Rattle.std.specs.Prelude.{ℕ, ◌<◌, ◌≤◌, ◌==◌, List, length, Bool}
 use Rattle.tb_units.specs.Bytes.{line_feed}
 use Rattle.tb_host.specs.declared.line_end.NextLine.{NextLine}
@@ -7,6 +7,10 @@ use Rattle.tb_host.specs.declared.line_end.NextLine.TheVariants as next
 -- bytes that a line may have, without its line feed and the one carriage return before that
 abbrev pub longest_line : ℕ
 longest_line = 8192
+
+-- lines of a book or of a script, at most
+abbrev pub most_lines : ℕ
+most_lines = 1000000
 
 -- the byte that ends a line
 abbrev pub is_line_feed : ℕ → Bool

@@ -1,8 +1,10 @@
 -- How many reads there were of a text.
 use Rattle.std.specs.Prelude.{◌≡◌, ℕ, ◌+◌, ◌≤◌, ◌⊎◌, List, [], ◌∷◌, ◌++◌, length, Option, Some}
+use Rattle.std.specs.List.{AllByRecursion}
 use Rattle.std.specs.Str.Lines.{lines}
 use Rattle.tb_host.specs.BookLines.{Spells}
 use Rattle.tb_host.specs.Books.{Book, IsFront}
+use Rattle.tb_host.specs.ScriptLines.{IsAsk, IsEnd}
 use Rattle.tb_host.specs.declared.book_line.BookLine.TheVariants as kind
 use Rattle.tb_host.specs.declared.book_line.Offering.{Offering}
 
@@ -34,3 +36,16 @@ pub record ReadsBookAlone (before after : ℕ) (text : List ℕ) : Type 0 where
   pub book : Book
   pub front_is : IsFront front offering book
   pub end : Spells last kind.End
+
+-- a text was read up to the line feed of the line that ends its script, and nothing behind that
+pub record ReadsScriptAlone (before after : ℕ) (text : List ℕ) : Type 0 where
+  pub taken : List ℕ
+  pub rest : List ℕ
+  pub text_is : text ≡ taken ++ rest
+  pub reads : AreReads before after taken rest
+  -- the line that ends the script is the last of what was taken
+  pub asking : List (List ℕ)
+  pub last : List ℕ
+  pub lines_are : lines text ≡ asking ++ last ∷ lines rest
+  pub ask : AllByRecursion IsAsk asking
+  pub end : IsEnd last

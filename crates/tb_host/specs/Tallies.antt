@@ -3,7 +3,8 @@ use Rattle.std.specs.Prelude.{◌≡◌, ℕ, pos, ◌*◌, ◌^◌, ◌<◌, �
 use Rattle.std.specs.Str.Lines.{lines}
 use Rattle.tb_units.specs.declared.lines.RateLine.{RateLine}
 use Rattle.tb_award.specs.Recognition.{bid_in}
-use Rattle.tb_host.specs.Books.{Book, Numbered, BeginsWithBook, most_lines, has_entry, is_competitive, is_noncompetitive}
+use Rattle.tb_host.specs.Books.{Book, Numbered, BeginsWithBook, has_entry, is_competitive, is_noncompetitive}
+use Rattle.tb_host.specs.LineEnds.{most_lines}
 use Rattle.tb_host.specs.Bids.{bid_at, noncompetitive_in, noncompetitive_of, position_of}
 use Rattle.tb_host.specs.BookReading.{EndsEntries}
 use Rattle.tb_host.specs.Told.{WhereTold}

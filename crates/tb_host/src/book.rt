@@ -2,7 +2,8 @@
 ghost use Rattle.std.specs.Prelude.{◌≡◌, ◌≢◌, ◌<◌, ℕ, length, Err, IfOk, OnOk, IsErrOf};
 ghost use Rattle.std.specs.Str.Lines.{lines};
 ghost use Rattle.tb_link.specs.Counts.{NeverFalls, Rose};
-ghost use Rattle.tb_host.specs.Books.{Adds, Book, IsBadLine, empty_book, most_lines};
+ghost use Rattle.tb_host.specs.Books.{Adds, Book, IsBadLine, empty_book};
+ghost use Rattle.tb_host.specs.LineEnds.{most_lines};
 ghost use Rattle.tb_host.specs.BookReading.{ReadsLine, HasNoLine, StopsEntries};
 ghost use Rattle.tb_host.specs.Told.{WhereTold};
 ghost use Rattle.tb_host.specs.Lines.{ahead};
@@ -15,14 +16,11 @@ ghost use Rattle.tb_host.specs.declared.book.BookFault.TheVariants as fault;
 
 use crate::book_line::{BookLine, Entry};
 use crate::input::{InputFault, LineReader};
-use crate::line_end::NextLine;
+use crate::line_end::{MOST_LINES, NextLine};
 use crate::read_line::read_book_line;
 use crate::text_book::{AddFault, TextBook};
 use std::alloc::Global;
 use tb_link::Source;
-
-/// Lines of a book, at most.
-const MOST_LINES: u64 = 1_000_000;
 
 /// Why no book was read.
 #[derive(Clone, Copy, Debug, PartialEq, Eq)]

@@ -71,6 +71,10 @@ impl LineReader {
             (ReadsNoMore (I.source input.old).reads (I.source input.new).reads (ahead self.new (I.source input.new))) }
         ensures no_fault { OnOk result ((I.source input.new).faults ≡ (I.source input.old).faults) }
         ensures fault { IsErrOf result InputFault.Read → Rose (I.source input.old).faults (I.source input.new).faults }
+        // Where a read failed, no line was whole, and what was taken is kept.
+        ensures failed { IsErrOf result InputFault.Read
+            → (ahead self.new (I.source input.new) ≡ ahead self.old (I.source input.old))
+            × (position is_line_feed (unread self.new) ≡ None) }
         ensures count { NeverFalls (I.source input.old).faults (I.source input.new).faults }
     {
         loop {
@@ -109,6 +113,8 @@ impl LineReader {
         ensures one_read { OnOk result ((I.source input.new).reads ≤ (I.source input.old).reads + 1) }
         ensures no_fault { OnOk result ((I.source input.new).faults ≡ (I.source input.old).faults) }
         ensures fault { IsErrOf result InputFault.Read → Rose (I.source input.old).faults (I.source input.new).faults }
+        ensures failed { IsErrOf result InputFault.Read → (unread self.new ≡ unread self.old)
+            × ((I.source input.new).left ≡ (I.source input.old).left) }
         ensures count { NeverFalls (I.source input.old).faults (I.source input.new).faults }
     {
         let mut piece = [0; PIECE];

@@ -1,6 +1,7 @@
 //! The commands of the host, and the call that chooses among them.
 #![tactic(auto)]
 
+mod answer;
 mod auction_text;
 mod award_command;
 mod book;
@@ -13,6 +14,11 @@ mod input;
 mod laws;
 mod line_end;
 mod read_line;
+mod reply;
+mod run_command;
+#[cfg(test)]
+mod run_tests;
+mod script_line;
 #[cfg(test)]
 mod tests;
 mod text_book;
@@ -20,4 +26,4 @@ mod way;
 mod word;
 
 pub use host::host_main;
-pub use laws::{one_book_or_bad_line, one_text};
+pub use laws::{one_book_or_bad_line, one_run, one_script_or_bad_line, one_text};

@@ -6,6 +6,9 @@ ghost use Rattle.tb_host.specs.LineEnds.{is_line_feed, FitsLine};
 /// The longest line, without its line feed and the one carriage return before that.
 pub const LONGEST_LINE: usize = 8192;
 
+/// Lines of a book or of a script, at most.
+pub const MOST_LINES: u64 = 1_000_000;
+
 /// What stands next in the input.
 #[derive(Clone, Copy, Debug, PartialEq, Eq)]
 pub enum NextLine {

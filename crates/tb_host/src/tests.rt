@@ -1,4 +1,4 @@
-//! Whole runs of `award`: texts, statuses, and reads and writes that fail.
+//! Whole runs: texts, statuses, and reads and writes that fail.
 use super::*;
 use std::alloc::Global;
 use std::test::Fail;
@@ -113,18 +113,19 @@ const WORKED: [(&str, &str); 5] = [
     ),
 ];
 
-const ROOM: usize = 300;
+/// Bytes that a sink has room for.
+const ROOM: usize = 40_000;
 
 /// How a run ended, and what its sinks have taken.
 #[derive(Drop)]
-struct Ended {
-    status: u8,
-    out: TextSink,
-    err: TextSink,
+pub struct Ended {
+    pub status: u8,
+    pub out: TextSink,
+    pub err: TextSink,
 }
 
 /// Runs the host. The reads and writes of these numbers fail.
-fn run(
+pub fn run(
     alloc: Global,
     words: &[&str],
     text: &str,

@@ -1,7 +1,8 @@
 //! What is kept of a text book of bids while it is read.
 ghost use Rattle.std.specs.Prelude.{◌≡◌, ℕ, ◌^◌, ◌<◌, ◌≤◌, ◌++◌, ◌∷◌, [], ◌↔◌, length, IfOk, OnOk, IsErrOf, IsTrue};
 ghost use Rattle.tb_units.specs.declared.lines.RateLine.{RateLine};
-ghost use Rattle.tb_host.specs.Books.{Adds, Book, GetsNumber, IsOneWay, IsPriced, empty_book, most_lines, with_entry};
+ghost use Rattle.tb_host.specs.Books.{Adds, Book, GetsNumber, IsOneWay, IsPriced, empty_book, with_entry};
+ghost use Rattle.tb_host.specs.LineEnds.{most_lines};
 ghost use Rattle.tb_host.specs.SoundLines.{IsLine};
 ghost use Rattle.tb_host.specs.Tallies.{IsTally};
 ghost use Rattle.tb_host.specs.declared.book_line.BookLine.TheVariants as kind;

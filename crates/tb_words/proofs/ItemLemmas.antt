@@ -11,7 +11,8 @@ unfolding items_from
 items_of-nil = refl
 
 -- a word with no hyphen in front is a positional word
-pub items_of-place : (word : Text) (words : List Text) → is_dashed word ≡ false → items_of (word ∷ words) ≡ place word ∷ items_of words
+pub items_of-place : (word : Text) (words : List Text) → is_dashed word ≡ false
+    → items_of (word ∷ words) ≡ place word ∷ items_of words
 unfolding items_from
 items_of-place word words plain = rw (plain) refl
 

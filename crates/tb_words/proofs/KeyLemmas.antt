@@ -36,9 +36,11 @@ pub key_says : (text : Text) (caller : Key) → key_of text ≡ Some caller → 
 key_says text caller read = elim (cases_Bool (bytes_eq (take 3 text) (codes "op:"))) [
   | inl marked ↦ elim (cases_Bool (is_name (drop 3 text))) [
     | inl named ↦
-        let same : key.Operator (drop 3 text) ≡ caller = ap (λ found. unwrap_or found caller) (rw (marked, named) at read) in
+        let same : key.Operator (drop 3 text) ≡ caller =
+        ap (λ found. unwrap_or found caller) (rw (marked, named) at read) in
         let front : take 3 text ≡ codes "op:" = (bytes_eq-Decides _ _).0 marked in
-        subst (λ k. IsKey k × (text ≡ key_text k)) same (named, sym (take-append-drop 3 text) ∙ ap (λ t. t ++ drop 3 text) front)
+        subst (λ k. IsKey k × (text ≡ key_text k)) same
+        (named, sym (take-append-drop 3 text) ∙ ap (λ t. t ++ drop 3 text) front)
     | inr other ↦ let bad = rw (marked, other) at read in cc (bad)
   ]
   | inr plain ↦ elim (cases_Bool (is_name text)) [
@@ -50,7 +52,8 @@ key_says text caller read = elim (cases_Bool (bytes_eq (take 3 text) (codes "op:
 ]
 
 -- the key that a text is read as
-pub key_some : (text : Text) (read : Option Key) → read ≡ key_of text → IfSome read (λ caller. IsKey caller × (text ≡ key_text caller))
+pub key_some : (text : Text) (read : Option Key) → read ≡ key_of text
+    → IfSome read (λ caller. IsKey caller × (text ≡ key_text caller))
 key_some text None is = tt
 key_some text (Some caller) is = key_says text caller (sym is)
 

@@ -11,6 +11,8 @@ use Rattle.tb_words.specs.declared.shape.Options.TheVariants as options
 use Rattle.tb_words.specs.declared.shape.Shape.{Shape}
 use Rattle.tb_words.specs.Items.{Text, Item, place, option, csv, bare, items_of, places_in, is_csv, is_known}
 use Rattle.tb_words.specs.Lines.{times}
+use Rattle.tb_words.specs.Commands.{Spells, name_of}
+use Rattle.tb_words.specs.declared.command.Command.{Command}
 
 -- an item as it is read
 abbrev pub item_of : declared.Item → Item
@@ -65,3 +67,8 @@ pub record HasPlacesAlone (words : List Text) (items : List Item) : Type 0 where
   pub places : places_in items ≡ words
   pub switch : count_by is_csv items ≡ 0
   pub no_more : list_all (is_known []) items ≡ true
+
+-- behind this name these words are the command, or no command of this name has them
+abbrev pub IsReadAs : Text → List Text → Option Command → Type 0
+IsReadAs name words (Some command) = (name_of command ≡ name) × Spells command (items_of words)
+IsReadAs name words None = (command : Command) → name_of command ≡ name → ¬ (Spells command (items_of words))

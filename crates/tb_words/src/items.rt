@@ -55,7 +55,8 @@ impl<'a> Items<'a> {
     #[tactic(auto, unfolding(crate::specs::Items::items_from))]
     // The option of this name, whose value is the next word.
     fn with_value(&mut self, name: &'a str) -> Item<'a>
-        ensures { items_from (Some name.entry.now) (map string_bytes self.old.words.now) ≡ item_of result ∷ items_left self.new }
+        ensures { items_from (Some name.entry.now) (map string_bytes self.old.words.now)
+            ≡ item_of result ∷ items_left self.new }
     {
         let Some((value, words)) = self.words.split_first() else {
             return Item::Bare;

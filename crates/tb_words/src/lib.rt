@@ -4,6 +4,7 @@
 mod clap_reader;
 mod command;
 mod items;
+mod laws;
 mod plain;
 mod shape;
 #[cfg(test)]
@@ -11,4 +12,5 @@ mod tests;
 mod words;
 
 pub use command::{Command, WordsFault};
+pub use laws::one_command;
 pub use words::read_words;

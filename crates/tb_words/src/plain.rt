@@ -2,9 +2,8 @@
 ghost use Rattle.std.specs.Prelude.{◌≡◌, ◌≢◌, ◌∷◌, [], map, string_bytes, length, codes, IfSome, IfNone};
 ghost use Rattle.tb_message.specs.declared.query.Query.{Query};
 ghost use Rattle.tb_words.specs.declared.command.Command.{Command};
-ghost use Rattle.tb_words.specs.Items.{Text, items_of};
-ghost use Rattle.tb_words.specs.Commands.{AreWordsOf, IsQuery, Spells, has_table, name_of, query_words};
-ghost use Rattle.tb_words.specs.Parts.{texts_of};
+ghost use Rattle.tb_words.specs.Commands.{AreWordsOf, IsQuery, has_table, query_words};
+ghost use Rattle.tb_words.specs.Parts.{IsReadAs, texts_of};
 
 use crate::command::Command;
 use crate::shape::{
@@ -25,8 +24,7 @@ pub(crate) fn plain_command(words: &[String]) -> Option<Command>
 
 // The command of this name, with the words behind it.
 fn read_named(name: &str, words: &[String]) -> Option<Command>
-    ensures command { IfSome result (λ command. (name_of command ≡ name.now) × Spells command (items_of (map string_bytes words.now))) }
-    ensures none { IfNone result ((command : Command) → name_of command ≡ name.now → ¬ (Spells command (items_of (map string_bytes words.now)))) }
+    ensures { IsReadAs name.now (map string_bytes words.now) result }
 {
     if name == "award" {
         award(words)
@@ -46,8 +44,7 @@ fn read_named(name: &str, words: &[String]) -> Option<Command>
 }
 
 fn award(words: &[String]) -> Option<Command>
-    ensures command { IfSome result (λ command. (name_of command ≡ codes "award") × Spells command (items_of (map string_bytes words.now))) }
-    ensures none { IfNone result ((command : Command) → name_of command ≡ codes "award" → ¬ (Spells command (items_of (map string_bytes words.now)))) }
+    ensures { IsReadAs (codes "award") (map string_bytes words.now) result }
 {
     match places_alone(words)? {
         Places::Nothing => Some(Command::Award { full: false }),
@@ -57,8 +54,7 @@ fn award(words: &[String]) -> Option<Command>
 }
 
 fn run(words: &[String]) -> Option<Command>
-    ensures command { IfSome result (λ command. (name_of command ≡ codes "run") × Spells command (items_of (map string_bytes words.now))) }
-    ensures none { IfNone result ((command : Command) → name_of command ≡ codes "run" → ¬ (Spells command (items_of (map string_bytes words.now)))) }
+    ensures { IsReadAs (codes "run") (map string_bytes words.now) result }
 {
     if !has_options_alone(words, Options::Operator) {
         return None;
@@ -68,8 +64,7 @@ fn run(words: &[String]) -> Option<Command>
 }
 
 fn serve(words: &[String]) -> Option<Command>
-    ensures command { IfSome result (λ command. (name_of command ≡ codes "serve") × Spells command (items_of (map string_bytes words.now))) }
-    ensures none { IfNone result ((command : Command) → name_of command ≡ codes "serve" → ¬ (Spells command (items_of (map string_bytes words.now)))) }
+    ensures { IsReadAs (codes "serve") (map string_bytes words.now) result }
 {
     if !has_options_alone(words, Options::Serving) {
         return None;
@@ -87,8 +82,7 @@ fn serve(words: &[String]) -> Option<Command>
 }
 
 fn import(words: &[String]) -> Option<Command>
-    ensures command { IfSome result (λ command. (name_of command ≡ codes "import") × Spells command (items_of (map string_bytes words.now))) }
-    ensures none { IfNone result ((command : Command) → name_of command ≡ codes "import" → ¬ (Spells command (items_of (map string_bytes words.now)))) }
+    ensures { IsReadAs (codes "import") (map string_bytes words.now) result }
 {
     if !has_options_alone(words, Options::Keyed) {
         return None;
@@ -99,8 +93,7 @@ fn import(words: &[String]) -> Option<Command>
 }
 
 fn report(words: &[String]) -> Option<Command>
-    ensures command { IfSome result (λ command. (name_of command ≡ codes "report") × Spells command (items_of (map string_bytes words.now))) }
-    ensures none { IfNone result ((command : Command) → name_of command ≡ codes "report" → ¬ (Spells command (items_of (map string_bytes words.now)))) }
+    ensures { IsReadAs (codes "report") (map string_bytes words.now) result }
 {
     let shape = read_shape(words, Options::Keyed)?;
     let query = asked(shape.places)?;
@@ -118,8 +111,7 @@ fn report(words: &[String]) -> Option<Command>
 }
 
 fn trial(words: &[String]) -> Option<Command>
-    ensures command { IfSome result (λ command. (name_of command ≡ codes "trial") × Spells command (items_of (map string_bytes words.now))) }
-    ensures none { IfNone result ((command : Command) → name_of command ≡ codes "trial" → ¬ (Spells command (items_of (map string_bytes words.now)))) }
+    ensures { IsReadAs (codes "trial") (map string_bytes words.now) result }
 {
     let Places::Two(seed, count) = places_alone(words)? else {
         return None;
@@ -155,7 +147,8 @@ pub(crate) fn asked(places: Places<'_>) -> Option<Query>
 // The query of this kind on an auction.
 fn asked_of(kind: &str, auction: Ident) -> Option<Query>
     ensures query { IfSome result (λ query. kind.now ∷ auction ∷ [] ≡ query_words query) }
-    ensures none { IfNone result ((query : Query) → kind.now ≢ codes "redemption" → kind.now ∷ auction ∷ [] ≢ query_words query) }
+    ensures none { IfNone result ((query : Query) → kind.now ≢ codes "redemption"
+        → kind.now ∷ auction ∷ [] ≢ query_words query) }
 {
     if kind == "terms" {
         Some(Query::Terms(auction))

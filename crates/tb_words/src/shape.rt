@@ -123,7 +123,8 @@ fn has_only(words: &[String], options: Options) -> bool
 
 /// The only value under an option's name.
 fn only<'a>(words: &'a [String], name: &str) -> Option<&'a str>
-    ensures { option_map (λ value. value.now) result ≡ only_of (values_in name.now (items_of (map string_bytes words.now))) }
+    ensures { option_map (λ value. value.now) result
+        ≡ only_of (values_in name.now (items_of (map string_bytes words.now))) }
 {
     let mut only = None;
     for item in (Items { words }) {
@@ -141,7 +142,8 @@ fn only<'a>(words: &'a [String], name: &str) -> Option<&'a str>
 
 /// The positional words and the switch of a line that has these options and no others.
 pub(crate) fn read_shape<'a>(words: &'a [String], options: Options) -> Option<Shape<'a>>
-    ensures shape { IfSome result (λ shape. IsShapeOf shape (names_of options) (items_of (map string_bytes words.now))) }
+    ensures shape { IfSome result (λ shape.
+        IsShapeOf shape (names_of options) (items_of (map string_bytes words.now))) }
     ensures none { IfNone result ((line : Line) → length line.places ≤ 2 → option_names line ≡ names_of options
         → ¬ (Says line (items_of (map string_bytes words.now)))) }
 {
@@ -156,7 +158,8 @@ pub(crate) fn read_shape<'a>(words: &'a [String], options: Options) -> Option<Sh
 /// Whether a line has these options alone.
 pub(crate) fn has_options_alone(words: &[String], options: Options) -> bool
     ensures alone { result ≡ true → HasOptionsAlone (names_of options) (items_of (map string_bytes words.now)) }
-    ensures more { result ≡ false → (line : Line) → line.places ≡ [] → line.csv ≡ false → option_names line ≡ names_of options
+    ensures more { result ≡ false → (line : Line) → line.places ≡ [] → line.csv ≡ false
+        → option_names line ≡ names_of options
         → ¬ (Says line (items_of (map string_bytes words.now))) }
 {
     match read_shape(words, options) {

@@ -13,6 +13,7 @@ use tb_units::OutOfMemory;
 pub fn read_words(alloc: Global, words: &[String]) -> Result<Command, WordsFault>
     ensures command { IfOk result (λ command. AreWordsOf command (map string_bytes words.now)) }
     ensures usage { (result ≡ Err WordsFault.Usage) ↔ ¬ (AreCommand (map string_bytes words.now)) }
+    ensures memory { result ≡ Err WordsFault.OutOfMemory → AreCommand (map string_bytes words.now) }
 {
     match plain_command(words) {
         None => Err(WordsFault::Usage),

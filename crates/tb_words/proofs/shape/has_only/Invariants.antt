@@ -9,4 +9,5 @@ abbrev pub invariant-loop-item : goal.invariant-loop-item
 invariant-loop-item l =
     (goal.iterator-loop-item).can_next l.item-iterator
     × (goal.iterator-loop-item).is_finite l.item-iterator
-    × (list_all (is_known (names_of l.fn.options)) (items_of (map string_bytes l.fn.words)) ≡ list_all (is_known (names_of l.fn.options)) (items_left l.item-iterator))
+    × (list_all (is_known (names_of l.fn.options)) (items_of (map string_bytes l.fn.words))
+    ≡ list_all (is_known (names_of l.fn.options)) (items_left l.item-iterator))

@@ -10,4 +10,5 @@ abbrev pub invariant-loop-item : goal.invariant-loop-item
 invariant-loop-item l =
     (goal.iterator-loop-item).can_next l.item-iterator
     × (goal.iterator-loop-item).is_finite l.item-iterator
-    × (values_in l.fn.name (items_of (map string_bytes l.fn.words)) ≡ cons_option (option_map (λ value. value.now) l.only) (values_in l.fn.name (items_left l.item-iterator)))
+    × (values_in l.fn.name (items_of (map string_bytes l.fn.words))
+    ≡ cons_option (option_map (λ value. value.now) l.only) (values_in l.fn.name (items_left l.item-iterator)))

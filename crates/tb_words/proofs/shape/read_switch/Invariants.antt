@@ -10,4 +10,5 @@ abbrev pub invariant-loop-item : goal.invariant-loop-item
 invariant-loop-item l =
     (goal.iterator-loop-item).can_next l.item-iterator
     × (goal.iterator-loop-item).is_finite l.item-iterator
-    × (count_by is_csv (items_of (map string_bytes l.fn.words)) ≡ times l.csv + count_by is_csv (items_left l.item-iterator))
+    × (count_by is_csv (items_of (map string_bytes l.fn.words))
+    ≡ times l.csv + count_by is_csv (items_left l.item-iterator))

@@ -7,7 +7,8 @@ use Rattle.tb_words.proofs.items.ItemsIterator.next.Goals as goal
 
 pub returns-in-None-clause-steps : goal.returns-in-None-clause-steps
 returns-in-None-clause-steps c =
-    let words : map string_bytes c.args.self.now.words.now ≡ c.as_str-word.result.now ∷ map string_bytes c.in_ok-word.words.now = search rules in
+    let words : map string_bytes c.args.self.now.words.now
+    ≡ c.as_str-word.result.now ∷ map string_bytes c.in_ok-word.words.now = search rules in
     let dashed : is_dashed c.as_str-word.result.now ≡ true = search rules in
     let other : bytes_eq c.as_str-word.result.now (codes "--csv") ≡ false = search rules in
     let plain : list_any is_equals c.as_str-word.result.now ≡ false =
@@ -16,7 +17,8 @@ returns-in-None-clause-steps c =
 
 pub returns-in-None-clause-goes : goal.returns-in-None-clause-goes
 returns-in-None-clause-goes c =
-    let words : map string_bytes c.args.self.now.words.now ≡ c.as_str-word.result.now ∷ map string_bytes c.in_ok-word.words.now = search rules in
+    let words : map string_bytes c.args.self.now.words.now
+    ≡ c.as_str-word.result.now ∷ map string_bytes c.in_ok-word.words.now = search rules in
     let dashed : is_dashed c.as_str-word.result.now ≡ true = search rules in
     let other : bytes_eq c.as_str-word.result.now (codes "--csv") ≡ false = search rules in
     let plain : list_any is_equals c.as_str-word.result.now ≡ false =

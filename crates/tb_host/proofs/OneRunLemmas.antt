@@ -1,0 +1,261 @@
+-- Lines have one run from a history.
+use Rattle.std.proofs.Common.{◌≡◌, ◌≢◌, ℕ, List, [], ◌∷◌, ◌++◌, sym, subst, ap, ◌∙◌, refl}
+use Rattle.std.specs.Prelude.{Option, Some, None, Result, Ok, Err}
+use Rattle.std.specs.Fmt.{decimal}
+use Rattle.tb_units.specs.Bytes.{blank}
+use Rattle.tb_units.specs.declared.moment.Moment.{Moment}
+use Rattle.tb_terms.specs.declared.announcement.Announcement.{Announcement}
+use Rattle.tb_terms.specs.declared.cusip.Cusip.{Cusip}
+use Rattle.tb_terms.specs.declared.refusal.Refusal.{Refusal}
+use Rattle.tb_terms.specs.declared.refusal.Refusal.TheVariants as refusal
+use Rattle.tb_message.specs.Keys.{key_of}
+use Rattle.tb_message.specs.Requests.{AnswerOf, FaultOf, request_in}
+use Rattle.tb_message.specs.declared.key.Key.{Key}
+use Rattle.tb_message.specs.declared.message.Entry.{Entry}
+use Rattle.tb_message.specs.declared.query.Query.{Query}
+use Rattle.tb_message.specs.declared.query.Query.TheVariants as query
+use Rattle.tb_message.specs.declared.query.ReadFault.{ReadFault}
+use Rattle.tb_message.specs.declared.query.ReadFault.TheVariants as fault
+use Rattle.tb_message.specs.declared.query.Request.{Request}
+use Rattle.tb_message.specs.declared.query.Request.TheVariants as request
+use Rattle.tb_message.proofs.OneRequest.{one_asked}
+use Rattle.tb_history.specs.Answer.{caller_of, query_refusal}
+use Rattle.tb_history.specs.Readings.{IsReading, AreResults, AreAwards}
+use Rattle.tb_history.specs.Holdings.{bidding_in}
+use Rattle.tb_history.specs.Roster.{registrations}
+use Rattle.tb_history.specs.declared.reading.Reading.{Reading}
+use Rattle.tb_history.specs.declared.reading.Reading.TheVariants as reading
+use Rattle.tb_history.specs.declared.readings.AwardLine.{AwardLine}
+use Rattle.tb_history.specs.declared.readings.Results.{Results}
+use Rattle.tb_history.proofs.ReadingLemmas.{AreResults-one, AreAwardLines-one, AreHoldingLines-one, ArePaidLines-one}
+use Rattle.std.specs.List.{after_first, before_first}
+use Rattle.tb_host.specs.Fields.{is_blank}
+use Rattle.tb_host.specs.Replies.{Asks, IsAnswered, IsReply, IsTold, reading_text, refusal_of, refused}
+use Rattle.tb_host.specs.ScriptLines.{SpellsAsk}
+use Rattle.tb_host.specs.ScriptRun.{IsActedOn, IsRun}
+use Rattle.tb_host.proofs.ScriptLineLemmas.{NoBlank, NoBlank-key, NoBlank-moment, after_first-word, before_first-word, moment-one}
+
+-- a word, a space and more are told by the whole
+words_one : (word other rest rest' : List ℕ)
+    → NoBlank word
+    → NoBlank other
+    → word ++ blank ∷ rest ≡ other ++ blank ∷ rest'
+    → (word ≡ other) × (rest ≡ rest')
+words_one word other rest rest' none none' is = (
+  sym (before_first-word word rest none) ∙ (ap (before_first is_blank) is ∙ before_first-word other rest' none'),
+  sym (after_first-word word rest none) ∙ (ap (after_first is_blank) is ∙ after_first-word other rest' none'),
+)
+
+-- what a line asks
+record SameAsk (moment moment' : Moment) (key key' : Key) (json json' : List ℕ) : Type 0 where
+  pub moments : moment ≡ moment'
+  pub keys : key ≡ key'
+  pub texts : json ≡ json'
+
+-- a line asks one thing
+ask-one : (text : List ℕ) (moment moment' : Moment) (key key' : Key) (json json' : List ℕ)
+    → SpellsAsk text moment key json
+    → SpellsAsk text moment' key' json'
+    → SameAsk moment moment' key key' json json'
+ask-one text moment moment' key key' json json' one other =
+    let front = words_one (decimal moment.seconds) (decimal moment'.seconds) (one.word ++ blank ∷ json)
+    (other.word ++ blank ∷ json') (NoBlank-moment moment) (NoBlank-moment moment') (sym one.written ∙ other.written) in
+    let back = words_one one.word other.word json json' (NoBlank-key one.word key one.key_is)
+    (NoBlank-key other.word key' other.key_is) front.1 in
+    let keys : Some key ≡ Some key' = sym one.key_is ∙ (ap key_of back.0 ∙ other.key_is) in
+    record { moments = moment-one moment moment' front.0; keys = cc; texts = back.1 }
+
+-- a text that is no request doesn't ask one
+no_request : (json : List ℕ) (asked : Request) (at_fault : ReadFault) (why : Refusal)
+    → AnswerOf json (Ok asked)
+    → FaultOf json at_fault
+    → refusal_of at_fault ≡ Some why
+    → ⊥
+no_request json asked fault.BadJson why is faulty told = faulty is.0 is.1
+no_request json asked (fault.BadShape member) why is faulty told =
+    let said : Some is.0 ≡ Some faulty.0 = sym is.1.1 ∙ faulty.1.1 in
+    let same : is.0 ≡ faulty.0 = cc in
+    let asks = sym is.2 ∙ (ap request_in same ∙ faulty.2) in
+    absurd (cc)
+no_request json asked fault.OutOfMemory why is faulty told = absurd (cc)
+
+-- a text that is no request has one reason
+reasons_one : (json : List ℕ) (one other : ReadFault) (why why' : Refusal)
+    → FaultOf json one
+    → FaultOf json other
+    → refusal_of one ≡ Some why
+    → refusal_of other ≡ Some why'
+    → why ≡ why'
+reasons_one json fault.BadJson fault.BadJson why why' is is' told told' = cc
+reasons_one json fault.BadJson (fault.BadShape member) why why' is is' told told' = absurd (is is'.0 is'.1)
+reasons_one json (fault.BadShape member) fault.BadJson why why' is is' told told' = absurd (is' is.0 is.1)
+reasons_one json (fault.BadShape member) (fault.BadShape member') why why' is is' told told' =
+    let said : Some is.0 ≡ Some is'.0 = sym is.1.1 ∙ is'.1.1 in
+    let same : is.0 ≡ is'.0 = cc in
+    let fails = sym is.2 ∙ (ap request_in same ∙ is'.2) in
+    cc
+reasons_one json fault.OutOfMemory other why why' is is' told told' = absurd (cc)
+reasons_one json fault.BadJson fault.OutOfMemory why why' is is' told told' = absurd (cc)
+reasons_one json (fault.BadShape member) fault.OutOfMemory why why' is is' told told' = absurd (cc)
+
+-- a text asks one thing
+asks-one : (json : List ℕ) (one other : Result Request Refusal) → Asks json one → Asks json other → one ≡ other
+asks-one json (Ok one) (Ok other) is is' = ap Ok (one_asked json one other is is')
+asks-one json (Ok one) (Err why) is is' = absurd (no_request json one is'.0 why is is'.1 is'.2)
+asks-one json (Err why) (Ok other) is is' = absurd (no_request json other is.0 why is' is.1 is.2)
+asks-one json (Err why) (Err why') is is' = ap Err (reasons_one json is.0 is'.0 why why' is.1 is'.1 is.2 is'.2)
+
+-- an auction has one announcement
+announced_one : (found : Option Announcement) (one other : Announcement)
+    → found ≡ Some one
+    → found ≡ Some other
+    → one ≡ other
+announced_one found one other is is' = let same : Some one ≡ Some other = sym is ∙ is' in cc
+
+-- an auction's terms are one
+terms_one : (history : List Entry) (caller auction : List ℕ) (one other : Reading)
+    → IsReading history caller (query.Terms auction) one
+    → IsReading history caller (query.Terms auction) other
+    → one ≡ other
+terms_one history caller auction (reading.Terms one) (reading.Terms other) is is' =
+    ap reading.Terms (announced_one _ one other is is')
+terms_one history caller auction (reading.Terms one) other is is' = absurd is'
+terms_one history caller auction one other is is' = absurd is
+
+-- so are its results
+results_one : (history : List Entry) (caller auction : List ℕ) (one other : Reading)
+    → IsReading history caller (query.Results auction) one
+    → IsReading history caller (query.Results auction) other
+    → one ≡ other
+results_one history caller auction (reading.Results one) (reading.Results other) is is' =
+    let same : is.0 ≡ is'.0 = announced_one _ is.0 is'.0 is.1 is'.1 in
+    ap reading.Results
+    (AreResults-one (bidding_in history is'.0) one other
+    (subst (λ (a : Announcement). AreResults (bidding_in history a) one) same is.2) is'.2)
+results_one history caller auction (reading.Results one) other is is' = absurd is'
+results_one history caller auction one other is is' = absurd is
+
+-- so are the caller's awards
+awards_one : (history : List Entry) (caller auction : List ℕ) (one other : Reading)
+    → IsReading history caller (query.Awards auction) one
+    → IsReading history caller (query.Awards auction) other
+    → one ≡ other
+awards_one history caller auction (reading.Awards one) (reading.Awards other) is is' =
+    let same : is.0 ≡ is'.0 = announced_one _ is.0 is'.0 is.1 is'.1 in
+    ap reading.Awards
+    (AreAwardLines-one _ _ one other (subst (λ (a : Announcement). AreAwards history a caller one) same is.2) is'.2)
+awards_one history caller auction (reading.Awards one) other is is' = absurd is'
+awards_one history caller auction one other is is' = absurd is
+
+-- so are its bids
+bids_one : (history : List Entry) (caller auction : List ℕ) (one other : Reading)
+    → IsReading history caller (query.Bids auction) one
+    → IsReading history caller (query.Bids auction) other
+    → one ≡ other
+bids_one history caller auction (reading.Bids one) (reading.Bids other) is is' = ap reading.Bids (is ∙ sym is')
+bids_one history caller auction (reading.Bids one) other is is' = absurd is'
+bids_one history caller auction one other is is' = absurd is
+
+-- so are its holdings
+holdings_one : (history : List Entry) (caller : List ℕ) (one other : Reading)
+    → IsReading history caller query.Holdings one
+    → IsReading history caller query.Holdings other
+    → one ≡ other
+holdings_one history caller (reading.Holdings one) (reading.Holdings other) is is' =
+    ap reading.Holdings (AreHoldingLines-one history caller _ one other is is')
+holdings_one history caller (reading.Holdings one) other is is' = absurd is'
+holdings_one history caller one other is is' = absurd is
+
+-- so is the redemption of a bill
+redemption_one : (history : List Entry) (caller : List ℕ) (bill : Cusip) (one other : Reading)
+    → IsReading history caller (query.Redemption bill) one
+    → IsReading history caller (query.Redemption bill) other
+    → one ≡ other
+redemption_one history caller bill (reading.Redemption one) (reading.Redemption other) is is' =
+    ap reading.Redemption (ArePaidLines-one history bill _ one other is is')
+redemption_one history caller bill (reading.Redemption one) other is is' = absurd is'
+redemption_one history caller bill one other is is' = absurd is
+
+-- a query has one reading
+reading-one : (history : List Entry) (caller : List ℕ) (asked : Query) (one other : Reading)
+    → IsReading history caller asked one
+    → IsReading history caller asked other
+    → one ≡ other
+reading-one history caller (query.Terms auction) one other = terms_one history caller auction one other
+reading-one history caller (query.Results auction) one other = results_one history caller auction one other
+reading-one history caller (query.Awards auction) one other = awards_one history caller auction one other
+reading-one history caller (query.Bids auction) one other = bids_one history caller auction one other
+reading-one history caller query.Holdings one other = holdings_one history caller one other
+reading-one history caller (query.Redemption bill) one other = redemption_one history caller bill one other
+
+-- a query is told one text
+told-one : (history : List Entry) (caller : List ℕ) (asked : Query) (why : Option Refusal) (one other : List ℕ)
+    → IsTold history caller asked why one
+    → IsTold history caller asked why other
+    → one ≡ other
+told-one history caller asked (Some why) one other is is' = is ∙ sym is'
+told-one history caller asked None one other is is' =
+    is.2 ∙ (ap reading_text (reading-one history caller asked is.0 is'.0 is.1 is'.1) ∙ sym is'.2)
+
+-- the reply, and what is added
+pub record SameReply (one other : List ℕ) (added added' : List Entry) : Type 0 where
+  pub replies : one ≡ other
+  pub entries : added ≡ added'
+
+-- what is asked has one reply, and adds one list of entries
+reply-one : (history : List Entry) (caller : List ℕ) (moment : Moment) (asked : Result Request Refusal)
+    (one other : List ℕ) (added added' : List Entry)
+    → IsReply history caller moment asked one added
+    → IsReply history caller moment asked other added'
+    → SameReply one other added added'
+reply-one history caller moment (Ok (request.Message number message)) one other added added' is is' =
+    record { replies = is.0 ∙ sym is'.0; entries = is.1 ∙ sym is'.1 }
+reply-one history caller moment (Ok (request.Query asked)) one other added added' is is' = record {
+  replies = told-one history caller asked (query_refusal history caller asked) one other is.0 is'.0;
+  entries = is.1 ∙ sym is'.1;
+}
+reply-one history caller moment (Err why) one other added added' is is' =
+    record { replies = is.0 ∙ sym is'.0; entries = is.1 ∙ sym is'.1 }
+
+-- so has a text
+answer-one : (history : List Entry) (caller : Option (List ℕ)) (moment : Moment) (json one other : List ℕ)
+    (added added' : List Entry)
+    → IsAnswered history caller moment json one added
+    → IsAnswered history caller moment json other added'
+    → SameReply one other added added'
+answer-one history None moment json one other added added' is is' =
+    record { replies = is.0 ∙ sym is'.0; entries = is.1 ∙ sym is'.1 }
+answer-one history (Some caller) moment json one other added added' is is' =
+    let same = asks-one json is.0 is'.0 is.1 is'.1 in
+    reply-one history caller moment is'.0 one other added added'
+    (subst (λ (asked : Result Request Refusal). IsReply history caller moment asked one added) same is.2) is'.2
+
+-- so has a line
+line-one : (operator : List ℕ) (history : List Entry) (line one other : List ℕ) (added added' : List Entry)
+    → IsActedOn operator history line one added
+    → IsActedOn operator history line other added'
+    → SameReply one other added added'
+line-one operator history line one other added added' is is' =
+    let same = ask-one line is.moment is'.moment is.key is'.key is.json is'.json is.spells is'.spells in
+    let Answered : Moment → Key → List ℕ → Type 0 =
+    λ moment key json. IsAnswered history (caller_of (registrations history) operator key) moment json one added in
+    answer-one history (caller_of (registrations history) operator is'.key) is'.moment is'.json one other added added'
+    (subst (λ (json : List ℕ). Answered is'.moment is'.key json) same.texts
+    (subst (λ (key : Key). Answered is'.moment key is.json) same.keys
+    (subst (λ (moment : Moment). Answered moment is.key is.json) same.moments is.answered))) is'.answered
+
+-- so have lines, from one history
+pub run-one : (operator : List ℕ) (start : List Entry) (lines : List (List ℕ)) (one other : List ℕ)
+    (last last' : List Entry)
+    → IsRun operator start lines one last
+    → IsRun operator start lines other last'
+    → SameReply one other last last'
+run-one operator start [] one other last last' is is' =
+    record { replies = is.0 ∙ sym is'.0; entries = is.1 ∙ sym is'.1 }
+run-one operator start (line ∷ lines) one other last last' is is' =
+    let first = line-one operator start line is.0 is'.0 is.1 is'.1 is.3 is'.3 in
+    let later = run-one operator (start ++ is'.1) lines is.2 is'.2 last last'
+    (subst (λ (added : List Entry). IsRun operator (start ++ added) lines is.2 last) first.entries is.4) is'.4 in
+    let replies : one ≡ other =
+    is.5 ∙ (ap (λ (r : List ℕ). r ++ is.2) first.replies ∙ (ap (λ (r : List ℕ). is'.0 ++ r) later.replies ∙ sym is'.5)) in
+    record { replies = replies; entries = later.entries }

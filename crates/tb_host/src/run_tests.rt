@@ -1,0 +1,394 @@
+//! Runs of scripts. The ordinary auction and the rows of refusals are worked out by hand from the rules.
+use crate::tests::run;
+use std::alloc::Global;
+use std::test::Fail;
+
+const WORDS: [&str; 3] = ["run", "--op", "root"];
+
+/// A bill of 91 days, from its announcement to the awards.
+const ORDINARY: &str =
+    r#"1730700000 op:root {"number":1,"kind":"register","submitter":"dealer1","key":"k1"}
+1730700000 op:root {"number":2,"kind":"enrol","bidder":"fund1","submitter":"dealer1"}
+1730700000 op:root {"number":3,"kind":"announce","auction":"bill13","cusip":"912797AA5","offering":76000000000,"minimum":100,"ceiling":10000000,"floor":1000000000,"threshold":26600000000,"date":"2024-11-04","nc_close":"11:00","c_close":"11:30","issue":"2024-11-07","maturity":"2025-02-06"}
+1730737799 k1 {"number":1,"kind":"bid","auction":"bill13","bidder":"fund1","rate":"4.27","amount":20000000000}
+1730737800 k1 {"number":2,"kind":"bid","auction":"bill13","bidder":"fund1","rate":"4.270","amount":100}
+1730737800 k1 {"number":1,"kind":"bid","auction":"bill13","bidder":"fund1","rate":"4.270","amount":20000000000}
+1730737800 k1 {"number":1,"kind":"bid","auction":"bill13","bidder":"fund1","rate":"4.270","amount":100}
+1730737800 k1 {"kind":"results","auction":"bill13"}
+1730737800 op:root {"number":4,"kind":"publish","auction":"bill13"}
+1730737800 k1 {"kind":"awards","auction":"bill13"}
+1730737800 k1 {"kind":"results","auction":"bill13"}
+end
+"#;
+
+const ORDINARY_REPLIES: &str = "accepted 1 1730700000
+accepted 2 1730700000
+accepted 3 1730700000
+accepted 1 1730737799
+refused 17 Late 1730737800 1730737800
+accepted 1 1730737799
+refused 3 NumberReused
+refused 62 NotPublished
+accepted 4 1730737800
+lines 1
+fund1 20000000000 19784127800.00
+lines 16
+auction bill13
+cusip 912797AA5
+issue 2024-11-07
+maturity 2025-02-06
+days 91
+offering 76000000000
+noncompetitive 0
+competitive 20000000000
+total 20000000000
+high 4.270
+allotted 100.00
+median 4.270
+low 4.270
+price 98.920639
+investment 4.377
+bids at lower rates were accepted in full
+";
+
+/// The operator's messages in front of the bids below.
+const OPENED: &str =
+    r#"1730700000 op:root {"number":1,"kind":"register","submitter":"dealer1","key":"k1"}
+1730700000 op:root {"number":2,"kind":"register","submitter":"dealer2","key":"k2"}
+1730700000 op:root {"number":3,"kind":"enrol","bidder":"a","submitter":"dealer1"}
+1730700000 op:root {"number":4,"kind":"enrol","bidder":"b","submitter":"dealer1"}
+1730700000 op:root {"number":5,"kind":"enrol","bidder":"c","submitter":"dealer2"}
+1730700000 op:root {"number":6,"kind":"announce","auction":"x","cusip":"912797AA5","offering":1000000000,"minimum":100,"ceiling":10000000,"floor":1000000,"threshold":350000000,"date":"2024-11-04","nc_close":"11:00","c_close":"11:30","issue":"2024-11-07","maturity":"2025-02-06"}
+"#;
+
+const OPENED_REPLIES: &str = "accepted 1 1730700000
+accepted 2 1730700000
+accepted 3 1730700000
+accepted 4 1730700000
+accepted 5 1730700000
+accepted 6 1730700000
+";
+
+/// A report where one is due, the noncompetitive ceiling, bids of two kinds and cancels.
+const BID_RULES: [(&str, &str); 11] = [
+    (
+        r#"1730700000 k1 {"number":1,"kind":"bid","auction":"x","bidder":"a","rate":"5.000","amount":350000000}"#,
+        "refused 20 PositionRequired",
+    ),
+    (
+        r#"1730700000 k1 {"number":1,"kind":"position","auction":"x","bidder":"a","position":0}"#,
+        "accepted 1 1730700000",
+    ),
+    (
+        r#"1730700000 k1 {"number":2,"kind":"bid","auction":"x","bidder":"a","rate":"5.000","amount":350000000}"#,
+        "accepted 2 1730700000",
+    ),
+    (
+        r#"1730700000 k1 {"number":3,"kind":"noncompetitive","auction":"x","bidder":"b","amount":10000000}"#,
+        "accepted 3 1730700000",
+    ),
+    (
+        r#"1730700000 k1 {"number":4,"kind":"noncompetitive","auction":"x","bidder":"b","amount":100}"#,
+        "refused 18 NoncompetitiveCeiling",
+    ),
+    (
+        r#"1730700000 k1 {"number":4,"kind":"bid","auction":"x","bidder":"b","rate":"5.000","amount":100}"#,
+        "refused 19 MixedBids",
+    ),
+    (
+        r#"1730700000 k1 {"number":4,"kind":"cancel","auction":"x","bid":3}"#,
+        "accepted 4 1730700000",
+    ),
+    (
+        r#"1730700000 k1 {"number":5,"kind":"bid","auction":"x","bidder":"b","rate":"5.000","amount":100}"#,
+        "accepted 5 1730700000",
+    ),
+    (
+        r#"1730700000 k1 {"number":6,"kind":"cancel","auction":"x","bid":3}"#,
+        "refused 31 AlreadyCancelled",
+    ),
+    // Above 395.600 percent a bill of 91 days has no price.
+    (
+        r#"1730700000 k1 {"number":6,"kind":"bid","auction":"x","bidder":"a","rate":"395.605","amount":100}"#,
+        "refused 16 RateTooHigh",
+    ),
+    (
+        r#"1730700000 k1 {"number":6,"kind":"bid","auction":"x","bidder":"a","rate":"395.600","amount":100}"#,
+        "accepted 6 1730700000",
+    ),
+];
+
+/// A second before each closing, and at it.
+const CLOSINGS: [(&str, &str); 4] = [
+    (
+        r#"1730735999 k1 {"number":1,"kind":"noncompetitive","auction":"x","bidder":"a","amount":100}"#,
+        "accepted 1 1730735999",
+    ),
+    (
+        r#"1730736000 k1 {"number":2,"kind":"noncompetitive","auction":"x","bidder":"a","amount":100}"#,
+        "refused 17 Late 1730736000 1730736000",
+    ),
+    (
+        r#"1730737799 k1 {"number":2,"kind":"bid","auction":"x","bidder":"b","rate":"5.000","amount":100}"#,
+        "accepted 2 1730737799",
+    ),
+    (
+        r#"1730737800 k1 {"number":3,"kind":"bid","auction":"x","bidder":"b","rate":"5.000","amount":100}"#,
+        "refused 17 Late 1730737800 1730737800",
+    ),
+];
+
+/// Texts that are no request, a key that nobody has, and moments that don't go back.
+const READINGS: [(&str, &str); 8] = [
+    ("1730700000 k1 {", "refused 5 BadJson"),
+    ("1730700000 k1 []", "refused 6 BadShape body"),
+    ("1730700000 k1 {}", "refused 6 BadShape number"),
+    (
+        r#"1730700000 k1 {"number":1,"kind":"bid","auction":"x","bidder":"a","rate":"5.322","amount":100}"#,
+        "refused 6 BadShape rate",
+    ),
+    ("1730700000 k9 {", "refused 1 UnknownKey"),
+    ("1730700000 op:boot {}", "refused 1 UnknownKey"),
+    (
+        r#"1730700001 k1 {"number":1,"kind":"bid","auction":"x","bidder":"a","rate":"5.000","amount":100}"#,
+        "accepted 1 1730700001",
+    ),
+    (
+        r#"1730700000 k1 {"number":2,"kind":"bid","auction":"x","bidder":"a","rate":"5.000","amount":100}"#,
+        "accepted 2 1730700001",
+    ),
+];
+
+/// Announcements with one fault each.
+const ANNOUNCEMENTS: [(&str, &str); 6] = [
+    (
+        r#"1730700000 op:root {"number":7,"kind":"announce","auction":"y","cusip":"912797AA4","offering":1000000000,"minimum":100,"ceiling":10000000,"floor":1000000,"threshold":350000000,"date":"2024-11-04","nc_close":"11:00","c_close":"11:30","issue":"2024-11-07","maturity":"2025-02-06"}"#,
+        "refused 41 BadCusip",
+    ),
+    (
+        r#"1730700000 op:root {"number":7,"kind":"announce","auction":"y","cusip":"912797aa5","offering":1000000000,"minimum":100,"ceiling":10000000,"floor":1000000,"threshold":350000000,"date":"2024-11-04","nc_close":"11:00","c_close":"11:30","issue":"2024-11-07","maturity":"2025-02-06"}"#,
+        "refused 41 BadCusip",
+    ),
+    (
+        r#"1730700000 op:root {"number":7,"kind":"announce","auction":"y","cusip":"912797AB3","offering":1000000000,"minimum":100,"ceiling":10000000,"floor":1000000,"threshold":350000000,"date":"2024-11-04","nc_close":"11:00","c_close":"11:30","issue":"2024-11-07","maturity":"2024-11-07"}"#,
+        "refused 42 BadDates",
+    ),
+    (
+        r#"1730700000 op:root {"number":7,"kind":"announce","auction":"y","cusip":"912797AB3","offering":1000100,"minimum":100,"ceiling":10000000,"floor":1000000,"threshold":350000000,"date":"2024-11-04","nc_close":"11:00","c_close":"11:30","issue":"2024-11-07","maturity":"2025-02-06"}"#,
+        "refused 43 BadAmounts",
+    ),
+    (
+        r#"1730700000 op:root {"number":7,"kind":"announce","auction":"y","cusip":"912797AB3","offering":1000000000,"minimum":100,"ceiling":10000000,"floor":1000000,"threshold":350000000,"date":"2024-11-04","nc_close":"11:30","c_close":"11:00","issue":"2024-11-07","maturity":"2025-02-06"}"#,
+        "refused 44 BadClosing",
+    ),
+    (
+        r#"1730700000 op:root {"number":7,"kind":"announce","auction":"y","cusip":"912797AB3","offering":1000000000,"minimum":100,"ceiling":10000000,"floor":1000000,"threshold":350000000,"date":"2024-11-04","nc_close":"11:00","c_close":"11:30","issue":"2024-11-07","maturity":"2025-02-06"}"#,
+        "accepted 7 1730700000",
+    ),
+];
+
+#[test]
+fn an_ordinary_auction_goes_from_its_announcement_to_its_awards(
+    rt: HostRuntime,
+) -> Result<(), Fail> {
+    for piece in [1, 100, ORDINARY.len()] {
+        let run = run(rt.alloc(), &WORDS, ORDINARY, piece, &[], &[])?;
+        assert_eq!(rt;
+            run.out.bytes(),
+            ORDINARY_REPLIES.as_bytes(),
+            "pieces of {piece}"
+        );
+        assert_eq!(rt; run.err.bytes(), b"".as_slice());
+        assert_eq!(rt; run.status, 0);
+    }
+    Ok(())
+}
+
+// The lines behind the operator's, and the end of the script.
+fn script(alloc: Global, cases: &[(&str, &str)]) -> Result<String, Fail> {
+    let mut text = OPENED.to_string(alloc)?;
+    for (line, _) in cases {
+        text.push_str(line)?;
+        text.push('\n')?;
+    }
+    text.push_str("end\n")?;
+    Ok(text)
+}
+
+// The replies to them.
+fn replies(alloc: Global, cases: &[(&str, &str)]) -> Result<String, Fail> {
+    let mut text = OPENED_REPLIES.to_string(alloc)?;
+    for (_, reply) in cases {
+        text.push_str(reply)?;
+        text.push('\n')?;
+    }
+    Ok(text)
+}
+
+#[test]
+fn each_line_has_its_reply(rt: HostRuntime) -> Result<(), Fail> {
+    for cases in [
+        BID_RULES.as_slice(),
+        CLOSINGS.as_slice(),
+        READINGS.as_slice(),
+        ANNOUNCEMENTS.as_slice(),
+    ] {
+        let text = script(rt.alloc(), cases)?;
+        let told = replies(rt.alloc(), cases)?;
+        let run = run(rt.alloc(), &WORDS, text.as_str(), 4096, &[], &[])?;
+        assert_eq!(rt; run.out.bytes(), told.as_str().as_bytes());
+        assert_eq!(rt; run.status, 0);
+    }
+    Ok(())
+}
+
+const FIRST: &str =
+    r#"1730700000 op:root {"number":1,"kind":"register","submitter":"dealer1","key":"k1"}"#;
+
+#[test]
+fn lines_before_a_bad_one_are_acted_on(rt: HostRuntime) -> Result<(), Fail> {
+    for (rest, told) in [
+        ("\nk1 {}\nend\n", "bad input at line 2\n"),
+        ("\n", "bad input at line 2\n"),
+        ("", "bad input at line 2\n"),
+        ("\n1730700000 k1 \nend\n", "bad input at line 2\n"),
+        ("\n1730700000  k1 {}\nend\n", "bad input at line 2\n"),
+        ("\n946702799 k1 {}\nend\n", "bad input at line 2\n"),
+        ("\nend \n", "bad input at line 2\n"),
+        ("\n1730700000 k1 {\n\n", "bad input at line 3\n"),
+    ] {
+        let text = format!(in rt.alloc(); "{FIRST}{rest}")?;
+        let run = run(rt.alloc(), &WORDS, text.as_str(), 7, &[], &[])?;
+        assert_eq!(rt; run.status, 3);
+        assert_eq!(rt; run.err.bytes(), told.as_bytes());
+        assert!(rt;
+            run.out.bytes().starts_with(b"accepted 1 1730700000\n"),
+            "{text}"
+        );
+    }
+    Ok(())
+}
+
+#[test]
+fn a_script_may_be_empty_and_its_last_line_may_lack_the_line_feed(
+    rt: HostRuntime,
+) -> Result<(), Fail> {
+    for text in ["end\n", "end", "end\r\nwhat comes behind", "end\nend\n"] {
+        let run = run(rt.alloc(), &["run", "--op=root"], text, 3, &[], &[])?;
+        assert_eq!(rt; run.status, 0);
+        assert_eq!(rt; run.out.bytes(), b"".as_slice());
+        assert_eq!(rt; run.err.bytes(), b"".as_slice());
+    }
+    Ok(())
+}
+
+#[test]
+fn faulty_words_are_told(rt: HostRuntime) -> Result<(), Fail> {
+    for words in [
+        ["run"].as_slice(),
+        ["run", "--op"].as_slice(),
+        ["run", "--op", "Root"].as_slice(),
+        ["run", "--op", "root", "more"].as_slice(),
+        ["serve", "--op", "root"].as_slice(),
+        ["trial", "1", "1"].as_slice(),
+    ] {
+        let run = run(rt.alloc(), words, "end\n", 3, &[], &[])?;
+        assert_eq!(rt; run.status, 2);
+        assert_eq!(rt; run.out.bytes(), b"".as_slice());
+        assert_eq!(rt; run.err.bytes(), b"usage\n".as_slice());
+    }
+    Ok(())
+}
+
+const TWO: &str =
+    r#"1730700000 op:root {"number":1,"kind":"register","submitter":"dealer1","key":"k1"}
+1730700000 k1 {}
+end
+"#;
+
+#[test]
+fn whole_lines_are_acted_on_where_a_read_fails(rt: HostRuntime) -> Result<(), Fail> {
+    // Each byte is a read: the lines end behind 83, 100 and 104 bytes, and nothing is read behind them.
+    for (read, out) in [
+        (0, ""),
+        (82, ""),
+        (83, "accepted 1 1730700000\n"),
+        (99, "accepted 1 1730700000\n"),
+        (100, "accepted 1 1730700000\nrefused 6 BadShape number\n"),
+        (103, "accepted 1 1730700000\nrefused 6 BadShape number\n"),
+    ] {
+        let run = run(rt.alloc(), &WORDS, TWO, 1, &[read], &[])?;
+        assert_eq!(rt; run.status, 4, "read {read}");
+        assert_eq!(rt; run.out.bytes(), out.as_bytes());
+        assert_eq!(rt; run.err.bytes(), b"read fault\n".as_slice());
+    }
+    let done = run(rt.alloc(), &WORDS, TWO, 1, &[104], &[])?;
+    assert_eq!(rt; done.status, 0);
+    Ok(())
+}
+
+#[test]
+fn a_write_that_fails_ends_the_run(rt: HostRuntime) -> Result<(), Fail> {
+    for (write, out) in [(0, ""), (1, "accepted 1 1730700000\n")] {
+        let failed = run(rt.alloc(), &WORDS, TWO, 64, &[], &[write])?;
+        assert_eq!(rt; failed.status, 5);
+        assert_eq!(rt; failed.out.bytes(), out.as_bytes());
+        assert_eq!(rt; failed.err.bytes(), b"write fault\n".as_slice());
+    }
+    let done = run(rt.alloc(), &WORDS, TWO, 64, &[], &[2])?;
+    assert_eq!(rt; done.status, 0, "each line has one write");
+    Ok(())
+}
+
+// What dealer1 sends before the others' bids, and behind them.
+const BEFORE: &str =
+    r#"1730700001 k1 {"number":1,"kind":"bid","auction":"x","bidder":"a","rate":"5.000","amount":300000000}
+1730700001 k1 {"number":2,"kind":"noncompetitive","auction":"x","bidder":"b","amount":100}
+"#;
+
+const BEHIND: &str =
+    r#"1730700001 k1 {"number":1,"kind":"bid","auction":"x","bidder":"a","rate":"5.000","amount":300000000}
+1730700001 k1 {"number":1,"kind":"bid","auction":"x","bidder":"a","rate":"5.000","amount":100}
+1730700001 k1 {"number":3,"kind":"bid","auction":"x","bidder":"c","rate":"5.000","amount":100}
+1730700001 k1 {"number":3,"kind":"bid","auction":"x","bidder":"a","rate":"5.000","amount":50000000}
+1730700001 k1 {"number":3,"kind":"cancel","auction":"x","bid":1}
+1730700001 k1 {"kind":"results","auction":"x"}
+1730700001 k1 {"kind":"bids","auction":"x"}
+end
+"#;
+
+const BEFORE_REPLIES: &str = "accepted 1 1730700001
+accepted 2 1730700001
+";
+
+const BEHIND_REPLIES: &str = "accepted 1 1730700001
+refused 3 NumberReused
+refused 11 UnknownBidder
+refused 20 PositionRequired
+accepted 3 1730700001
+refused 62 NotPublished
+lines 2
+1 a 5.000 300000000 cancelled
+2 b n 100 live
+";
+
+#[test]
+fn replies_are_the_same_where_others_send_a_thousand_bids(rt: HostRuntime) -> Result<(), Fail> {
+    let alloc = rt.alloc();
+    let mut bids = String::new(alloc);
+    let mut accepted = String::new(alloc);
+    for number in 1..=1000 {
+        bids.push_str(format!(in alloc;
+            "1730700001 k2 {{\"number\":{number},\"kind\":\"bid\",\"auction\":\"x\",\"bidder\":\"c\",\"rate\":\"4.000\",\"amount\":100}}\n"
+        )?.as_str())?;
+        accepted.push_str(format!(in alloc; "accepted {number} 1730700001\n")?.as_str())?;
+    }
+    for (others, replies) in [("", ""), (bids.as_str(), accepted.as_str())] {
+        let text = format!(in alloc; "{OPENED}{BEFORE}{others}{BEHIND}")?;
+        let told = format!(in alloc; "{OPENED_REPLIES}{BEFORE_REPLIES}{replies}{BEHIND_REPLIES}")?;
+        let run = run(alloc, &WORDS, text.as_str(), 8192, &[], &[])?;
+        assert_eq!(rt; run.out.bytes(), told.as_str().as_bytes());
+        assert_eq!(rt; run.status, 0);
+    }
+    Ok(())
+}
