@@ -1,5 +1,7 @@
--- Awards of lines: one for each, no more than is recognised, and how close they come to what is sought. For callers too.
-use Rattle.std.proofs.Common.{◌≡◌, ℕ, zero, suc, ◌+◌, ◌-◌, ◌*◌, ◌%◌, ◌<◌, ◌≤◌, ◌^◌, ◌==◌, cond, List, [], ◌∷◌, ◌++◌, length, get_or, All, subst, refl, ap, ap₂, sym, ◌∙◌, inl, inr, mul-add, arith}
+-- Awards of lines: one for each, no more than is recognised, and how close they come to what is sought. For callers
+-- too.
+use Rattle.std.proofs.Common.{◌≡◌, ℕ, zero, suc, ◌+◌, ◌-◌, ◌*◌, ◌%◌, ◌<◌, ◌≤◌, ◌^◌, ◌==◌, cond, List, [], ◌∷◌, ◌++◌}
+use Rattle.std.proofs.Common.{length, get_or, All, subst, refl, ap, ap₂, sym, ◌∙◌, inl, inr, mul-add, arith}
 use Rattle.std.proofs.lemmas.Bool.{cases_order, cases_lt, eq-eqb, lt-ltb, ne_eqb}
 use Rattle.std.proofs.lemmas.List.Elements.{All-head, All-tail}
 use Rattle.std.proofs.lemmas.List.Sums.{sum_by-cons, sum_by_push, sum_by-le-sum_by}
@@ -7,19 +9,24 @@ use Rattle.std.proofs.Math.Nat.{mul-le-mul_right, suc-mul}
 use Rattle.tb_units.specs.declared.rate.Rate.{Rate}
 use Rattle.tb_units.specs.declared.lines.RateLine.{RateLine}
 use Rattle.tb_units.proofs.SumLemmas.{cond-le}
-use Rattle.tb_award.specs.Awards.{AreAwards, AreClose, AreWithin, IsAward, IsInHundreds, IsProrated, awarded_to, lines_at}
-use Rattle.tb_award.specs.Cuts.{amount_of, at, hundred_percent, over, par_of, steps_of, total_of, under, up_to, FallsShort, Reaches}
+use Rattle.tb_award.specs.Awards.{AreAwards, AreClose, AreWithin, IsAward, IsInHundreds}
+use Rattle.tb_award.specs.Awards.{IsProrated, awarded_to, lines_at}
+use Rattle.tb_award.specs.Cuts.{amount_of, at, hundred_percent, over, par_of, steps_of}
+use Rattle.tb_award.specs.Cuts.{total_of, under, up_to, FallsShort, Reaches}
 use Rattle.tb_award.proofs.CutLemmas.{par_of-agree, par_of-zero, share, share-no, share-yes, under-next, under-no}
 use Rattle.tb_award.proofs.LineLemmas.{RateLine-same}
 
 -- the sum with a line more
-pub total_of_push : (lines : List RateLine) (line : RateLine) → total_of (lines ++ line ∷ []) ≡ total_of lines + amount_of line
+pub total_of_push : (lines : List RateLine) (line : RateLine)
+    → total_of (lines ++ line ∷ []) ≡ total_of lines + amount_of line
 total_of_push lines line = sum_by_push amount_of lines line
 
 -- a bidder's awards with one award more
 pub awarded_to_push : (bidder : ℕ) (awards : List RateLine) (award : RateLine)
-    → awarded_to bidder (awards ++ award ∷ []) ≡ awarded_to bidder awards + cond (award.bidder == bidder) award.amount.value 0
-awarded_to_push bidder awards award = sum_by_push (λ (a : RateLine). cond (a.bidder == bidder) a.amount.value 0) awards award
+    → awarded_to bidder (awards ++ award ∷ [])
+    ≡ awarded_to bidder awards + cond (award.bidder == bidder) award.amount.value 0
+awarded_to_push bidder awards award =
+    sum_by_push (λ (a : RateLine). cond (a.bidder == bidder) a.amount.value 0) awards award
 
 -- a bidder's awards are at most all awards
 pub awarded_to-le : (bidder : ℕ) (awards : List RateLine) → awarded_to bidder awards ≤ total_of awards
@@ -55,7 +62,8 @@ pub AreAwards-at : (stop percent : ℕ) (lines awards : List RateLine)
     → (k : ℕ) (d e : RateLine)
     → k < length lines
     → ((get_or awards k e).rate ≡ (get_or lines k d).rate)
-    × IsAward stop percent (get_or lines k d).rate.steps (get_or lines k d).amount.value (get_or awards k e).amount.value
+    × IsAward stop percent (get_or lines k d).rate.steps (get_or lines k d).amount.value
+    (get_or awards k e).amount.value
 AreAwards-at stop percent [] [] are k d e below = absurd (omega arith)
 AreAwards-at stop percent (line ∷ lines) (award ∷ awards) are zero d e below = (are.0, are.2)
 AreAwards-at stop percent (line ∷ lines) (award ∷ awards) are (suc k) d e below =
@@ -91,7 +99,8 @@ pub AreAwards-one : (stop percent : ℕ) (lines one other : List RateLine)
     → one ≡ other
 AreAwards-one stop percent [] [] [] are are' = refl
 AreAwards-one stop percent (line ∷ lines) (a ∷ one) (b ∷ other) are are' =
-    let amount = IsAward-one stop percent line.rate.steps line.amount.value a.amount.value b.amount.value are.2 are'.2 in
+    let amount =
+    IsAward-one stop percent line.rate.steps line.amount.value a.amount.value b.amount.value are.2 are'.2 in
     ap₂ (λ l ls. l ∷ ls) (RateLine-same a b (are.0 ∙ sym are'.0) (are.1 ∙ sym are'.1) amount)
     (AreAwards-one stop percent lines one other are.3 are'.3)
 AreAwards-one stop percent [] [] (b ∷ other) are are' = absurd are'
@@ -238,14 +247,16 @@ AddsLine-award stop percent line award rate is =
             close = omega (arith, close, product, award_at, counted);
           })
       | inr apart ↦
-          (let other : steps_of line ≡ stop → ⊥ = λ same. elim apart [ inl less ↦ omega arith | inr more ↦ omega arith ] in
+          (let other : steps_of line ≡ stop → ⊥ =
+          λ same. elim apart [ inl less ↦ omega arith | inr more ↦ omega arith ] in
           let line_at = share-no (at stop) line (ne_eqb (steps_of line) stop other) in
           let award_at = share-no (at stop) award (ne_eqb (steps_of award) stop (λ same. other (sym steps ∙ same))) in
           let counted : count_of stop line ≡ 0 = ap (λ b. cond b 1 0) (ne_eqb (steps_of line) stop other) in
           let product : percent * share (at stop) line ≡ percent * 0 = ap (λ n. percent * n) line_at in
           let amount : amount_of award ≡ share (under stop) line = elim apart [
             | inl less ↦ is.whole less ∙ sym (share-yes (under stop) line (lt-ltb (steps_of line) stop less))
-            | inr more ↦ is.nothing more ∙ sym (share-no (under stop) line (under-no stop (steps_of line) (omega arith)))
+            | inr more ↦
+                is.nothing more ∙ sym (share-no (under stop) line (under-no stop (steps_of line) (omega arith)))
           ] in
           record {
             total = omega (arith, amount, award_at);
@@ -267,7 +278,8 @@ AreSplit-awards stop percent (line ∷ lines) (award ∷ awards) are =
     let lines_stop = sum_by-cons (share (at stop)) line lines in
     let awards_stop = sum_by-cons (share (at stop)) award awards in
     let count = sum_by-cons (count_of stop) line lines in
-    let shared : percent * par_of (line ∷ lines) (at stop) ≡ percent * share (at stop) line + percent * par_of lines (at stop) =
+    let shared : percent * par_of (line ∷ lines) (at stop)
+    ≡ percent * share (at stop) line + percent * par_of lines (at stop) =
     ap (λ n. percent * n) lines_stop ∙ mul-add percent (share (at stop) line) (par_of lines (at stop)) in
     record {
       total = omega (arith, here.total, rest.total, all_awards, under_stop, awards_stop);
@@ -305,8 +317,10 @@ AreClose-awards lines awards sought stop percent some is are =
     let below = below-stop lines sought stop percent some is in
     let missing = sought - par_of lines (under stop) in
     let at_stop = par_of lines (at stop) in
-    let reached : hundred_percent * (sought - par_of lines (under stop)) ≤ percent * par_of lines (at stop) = is.enough in
-    let over : percent * par_of lines (at stop) < hundred_percent * (sought - par_of lines (under stop)) + par_of lines (at stop) =
+    let reached : hundred_percent * (sought - par_of lines (under stop)) ≤ percent * par_of lines (at stop) =
+    is.enough in
+    let over : percent * par_of lines (at stop)
+    < hundred_percent * (sought - par_of lines (under stop)) + par_of lines (at stop) =
     percent-over percent (hundred_percent * missing) at_stop (omega arith) reached is.least_percent in
     record {
       enough = omega (arith, split.total, split.enough, reached, below);
@@ -321,7 +335,8 @@ AreClose-awards lines awards sought stop percent some is are =
         → percent * share < amount + share
     percent-over zero amount share some enough least = absurd (omega arith)
     percent-over (suc less) amount share some enough least = elim (cases_lt (less * share) amount) [
-      | inl short ↦ (let product : suc less * share ≡ less * share + share = suc-mul less share in omega (arith, product, short))
+      | inl short ↦
+          (let product : suc less * share ≡ less * share + share = suc-mul less share in omega (arith, product, short))
       | inr reaches ↦ absurd (omega (arith, least less reaches))
     ]
 
@@ -334,6 +349,7 @@ pub AreAwards-short : (lines awards : List RateLine) (sought stop percent : ℕ)
 AreAwards-short lines awards sought stop percent short hundreds are =
     all-whole stop percent lines awards short.whole short.greatest hundreds are
   where
+    -- an award of whole hundreds at 100 percent, not above the stop, is all of it
     whole-one : (stop percent steps amount award : ℕ)
         → percent ≡ hundred_percent
         → cond (over stop steps) amount 0 ≡ 0
@@ -341,11 +357,13 @@ AreAwards-short lines awards sought stop percent short hundreds are =
         → IsAward stop percent steps amount award
         → award ≡ amount
     whole-one stop percent steps amount award full none hundreds is = elim (cases_order steps stop) [
-      | inl same ↦ IsProrated-whole amount award hundreds (subst (λ (p : ℕ). IsProrated p amount award) full (is.prorated same))
+      | inl same ↦
+          IsProrated-whole amount award hundreds (subst (λ (p : ℕ). IsProrated p amount award) full (is.prorated same))
       | inr (inl less) ↦ is.whole less
       | inr (inr more) ↦ (let above : amount ≡ 0 = rw (lt-ltb stop steps more) at none in is.nothing more ∙ sym above)
     ]
 
+    -- so the awards are the lines
     all-whole : (stop percent : ℕ) (lines awards : List RateLine)
         → percent ≡ hundred_percent
         → par_of lines (over stop) ≡ 0
@@ -356,7 +374,8 @@ AreAwards-short lines awards sought stop percent short hundreds are =
     all-whole stop percent (line ∷ lines) (award ∷ awards) full none hundreds are =
         let parts = sum_by-cons (share (over stop)) line lines in
         let in_hundreds = All-head IsInHundreds line lines hundreds in
-        let here = whole-one stop percent line.rate.steps line.amount.value award.amount.value full (omega arith) in_hundreds are.2 in
+        let here = whole-one stop percent line.rate.steps line.amount.value award.amount.value full
+        (omega arith) in_hundreds are.2 in
         ap₂ (λ l ls. l ∷ ls) (RateLine-same award line are.0 are.1 here)
         (all-whole stop percent lines awards full (omega arith) (All-tail IsInHundreds line lines hundreds) are.3)
     all-whole stop percent [] (award ∷ awards) full none hundreds are = absurd are

@@ -1,5 +1,6 @@
 -- What lines bid for a bidder at a rate, and what the bidder's limit lets through of it.
-use Rattle.std.proofs.Common.{◌≡◌, ℕ, zero, suc, ◌+◌, ◌-◌, ◌<◌, ◌≤◌, ◌&&◌, ◌==◌, cond, List, [], ◌∷◌, ◌++◌, All, refl, ap, ap₂, sym, ◌∙◌, arith}
+use Rattle.std.proofs.Common.{◌≡◌, ℕ, zero, suc, ◌+◌, ◌-◌, ◌<◌, ◌≤◌, ◌&&◌, ◌==◌, cond, List}
+use Rattle.std.proofs.Common.{[], ◌∷◌, ◌++◌, All, refl, ap, ap₂, sym, ◌∙◌, arith}
 use Rattle.std.specs.Prelude.{min}
 use Rattle.std.proofs.lemmas.Bool.Decides.{nat_tests}
 use Rattle.std.proofs.lemmas.List.Elements.{All-head, All-tail}
@@ -17,9 +18,12 @@ abbrev pub bid_of : ℕ → ℕ → RateLine → ℕ
 bid_of bidder steps line = cond ((line.bidder == bidder) && (line.rate.steps == steps)) line.amount.value 0
 
 -- all of its amount where it is such a bid, and else nothing
-bid_of-own : (bidder steps : ℕ) (line : RateLine) → IsBidOf bidder steps line → bid_of bidder steps line ≡ line.amount.value
+bid_of-own : (bidder steps : ℕ) (line : RateLine)
+    → IsBidOf bidder steps line
+    → bid_of bidder steps line ≡ line.amount.value
 bid_of-own bidder steps line own = grind (arith, nat_tests)
 
+-- nothing where it is no such bid
 bid_of-other : (bidder steps : ℕ) (line : RateLine) → ¬ (IsBidOf bidder steps line) → bid_of bidder steps line ≡ 0
 bid_of-other bidder steps line other = grind (arith, nat_tests)
 
@@ -73,7 +77,8 @@ pub let_through-agree : (bids other : ℕ → ℕ) (cap limit bound : ℕ)
     → ((n : ℕ) → n < bound → bids n ≡ other n)
     → let_through bids cap limit bound ≡ let_through other cap limit bound
 let_through-agree bids other cap limit bound same =
-    ap (min limit) (sum_under-agree (capped bids cap) (capped other cap) bound (λ n below. ap (λ bid. min bid cap) (same n below)))
+    ap (min limit) (sum_under-agree (capped bids cap) (capped other cap) bound
+    (λ n below. ap (λ bid. min bid cap) (same n below)))
 
 -- no more is let through where nothing is bid
 pub let_through-flat : (bids : ℕ → ℕ) (cap limit bound above : ℕ)
@@ -81,9 +86,11 @@ pub let_through-flat : (bids : ℕ → ℕ) (cap limit bound above : ℕ)
     → ((n : ℕ) → bound ≤ n → bids n ≡ 0)
     → let_through bids cap limit above ≡ let_through bids cap limit bound
 let_through-flat bids cap limit bound above within none =
-    let capped_none : (n : ℕ) → bound ≤ n → capped bids cap n ≡ 0 = λ n from. let flat = none n from in omega (arith, flat) in
+    let capped_none : (n : ℕ) → bound ≤ n → capped bids cap n ≡ 0 =
+    λ n from. let flat = none n from in omega (arith, flat) in
     let parts : above ≡ (above - bound) + bound = omega arith in
-    ap (let_through bids cap limit) parts ∙ ap (min limit) (sum_under-flat (capped bids cap) bound (above - bound) capped_none)
+    ap (let_through bids cap limit) parts
+    ∙ ap (min limit) (sum_under-flat (capped bids cap) bound (above - bound) capped_none)
 
 -- as much of bids that agree is recognised
 pub recognised_at-agree : (bids other : ℕ → ℕ) (cap limit steps : ℕ)

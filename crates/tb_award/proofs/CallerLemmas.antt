@@ -13,10 +13,12 @@ recognised_at-same : (bids other : ℕ → ℕ) (cap limit other_limit steps : �
     → limit ≡ other_limit
     → recognised_at bids cap limit steps ≡ recognised_at other cap other_limit steps
 recognised_at-same bids other cap limit other_limit steps same limits =
-    recognised_at-agree bids other cap limit steps (λ n below. same n) ∙ ap (λ n. recognised_at other cap n steps) limits
+    recognised_at-agree bids other cap limit steps (λ n below. same n)
+    ∙ ap (λ n. recognised_at other cap n steps) limits
 
 -- so the recognised list does
-pub AreRecognised-same : (bids other : ℕ → ℕ → ℕ) (cap : ℕ) (limits other_limits : ℕ → ℕ) (bidders : ℕ) (lines : List RateLine)
+pub AreRecognised-same : (bids other : ℕ → ℕ → ℕ) (cap : ℕ) (limits other_limits : ℕ → ℕ) (bidders : ℕ)
+    (lines : List RateLine)
     → ((bidder steps : ℕ) → bids bidder steps ≡ other bidder steps)
     → ((bidder : ℕ) → bidder < bidders → limits bidder ≡ other_limits bidder)
     → AreRecognised bids cap limits bidders lines
@@ -27,13 +29,19 @@ AreRecognised-same bids other cap limits other_limits bidders lines same same_li
   all = λ bidder steps known some. are.all bidder steps known (omega (arith, some, at-same bidder steps known));
 }
   where
+    -- as much is recognised of a known bidder at each rate
     at-same : (bidder steps : ℕ)
         → bidder < bidders
-        → recognised_at (bids bidder) cap (limits bidder) steps ≡ recognised_at (other bidder) cap (other_limits bidder) steps
+        → recognised_at (bids bidder) cap (limits bidder) steps
+        ≡ recognised_at (other bidder) cap (other_limits bidder) steps
     at-same bidder steps known =
-        recognised_at-same (bids bidder) (other bidder) cap (limits bidder) (other_limits bidder) steps (same bidder) (same_limits bidder known)
+        recognised_at-same (bids bidder) (other bidder) cap (limits bidder) (other_limits bidder) steps (same bidder)
+        (same_limits bidder known)
 
-    one-same : (line : RateLine) → IsRecognised bids cap limits bidders line → IsRecognised other cap other_limits bidders line
+    -- so what is recognised of the one is recognised of the other
+    one-same : (line : RateLine)
+        → IsRecognised bids cap limits bidders line
+        → IsRecognised other cap other_limits bidders line
     one-same line is = record {
       known = is.known;
       some = is.some;
@@ -55,19 +63,24 @@ rate-bid P (line ∷ lines) bidder steps each some = elim (cases_eq line.rate.st
 ]
 
 -- so it is so of each rate at which something is recognised
-pub recognised-rates : (P : ℕ → Type 0) (lines : List RateLine) (cap : ℕ) (limits : ℕ → ℕ) (bidders : ℕ) (recognised : List RateLine)
+pub recognised-rates : (P : ℕ → Type 0) (lines : List RateLine) (cap : ℕ) (limits : ℕ → ℕ) (bidders : ℕ)
+    (recognised : List RateLine)
     → All (λ line. P line.rate.steps) lines
     → AreRecognised (bid_in lines) cap limits bidders recognised
     → All (λ line. P line.rate.steps) recognised
-recognised-rates P lines cap limits bidders recognised each are = λ k d below. rate-of (get_or recognised k d) (are.each k d below)
+recognised-rates P lines cap limits bidders recognised each are =
+    λ k d below. rate-of (get_or recognised k d) (are.each k d below)
   where
+    -- the rate of a recognised line is one at which its bidder bids
     rate-of : (line : RateLine) → IsRecognised (bid_in lines) cap limits bidders line → P line.rate.steps
     rate-of line is =
         let bid = bid_in lines line.bidder line.rate.steps in
         rate-bid P lines line.bidder line.rate.steps each
         (elim (cases_eq (bid_in lines line.bidder line.rate.steps) 0) [
           | inl none ↦
-              (let nothing = recognised_at-none (bid_in lines line.bidder) cap (limits line.bidder) line.rate.steps none in
+              (let nothing =
+              recognised_at-none (bid_in lines line.bidder) cap (limits line.bidder) line.rate.steps none in
               absurd (omega (arith, is.some, is.amount, nothing)))
-          | inr some ↦ (let not_none : ¬ (bid_in lines line.bidder line.rate.steps ≡ 0) = some in omega (arith, not_none))
+          | inr some ↦
+              (let not_none : ¬ (bid_in lines line.bidder line.rate.steps ≡ 0) = some in omega (arith, not_none))
         ])

@@ -1,15 +1,18 @@
 -- The par of lines at rates, by where the lines stand, and the cut at the stop that the code finds.
-use Rattle.std.proofs.Common.{◌≡◌, ℕ, suc, ◌+◌, ◌-◌, ◌*◌, ◌<◌, ◌≤◌, Bool, true, false, cond, List, [], ◌∷◌, length, take, drop, get_or, refl, ap, sym, subst, ◌∙◌, arith, inl, inr}
+use Rattle.std.proofs.Common.{◌≡◌, ℕ, suc, ◌+◌, ◌-◌, ◌*◌, ◌<◌, ◌≤◌, Bool, true, false, cond, List, [], ◌∷◌}
+use Rattle.std.proofs.Common.{length, take, drop, get_or, refl, ap, sym, subst, ◌∙◌, arith, inl, inr}
 use Rattle.std.specs.Prelude.{All}
 use Rattle.std.proofs.lemmas.List.{get_or-take, get_or-drop, length-drop, length-take, take_all}
-use Rattle.std.proofs.lemmas.List.Sums.{sum_by-cons, sum_by-le, sum_by-le-sum_by, sum_by-take-drop, sum_by-take-le, get_or-le-sum_by}
+use Rattle.std.proofs.lemmas.List.Sums.{sum_by-cons, sum_by-le, sum_by-le-sum_by, sum_by-take-drop}
+use Rattle.std.proofs.lemmas.List.Sums.{sum_by-take-le, get_or-le-sum_by}
 use Rattle.std.proofs.Math.Nat.{mul-le-mul_left}
 use Rattle.std.proofs.lemmas.Bool.{le-ltb, le-leb, eq-eqb, cases_lt}
 use Rattle.std.proofs.lemmas.Bool.Decides.{nat_tests}
 use Rattle.std.specs.declared.cmp.Ordering.{Ordering}
 use Rattle.tb_units.proofs.SumLemmas.{cond-le, sum_by-filter, sum_by_agree}
 use Rattle.tb_units.specs.declared.lines.RateLine.{RateLine}
-use Rattle.tb_award.specs.Cuts.{par_of, total_of, amount_of, steps_of, up_to, under, at, over, AreByRate, IsCut, Reaches}
+use Rattle.tb_award.specs.Cuts.{par_of, total_of, amount_of, steps_of, up_to, under}
+use Rattle.tb_award.specs.Cuts.{at, over, AreByRate, IsCut, Reaches}
 use Rattle.tb_award.specs.Stops.{IsPercentage, IsStop, on_side, par_on}
 
 -- a line's amount where its rate passes
@@ -21,7 +24,9 @@ pub share-le : (passes : ℕ → Bool) (line : RateLine) → share passes line �
 share-le passes line = cond-le (passes line.rate.steps) line.amount.value
 
 -- all of it where the rate passes
-pub share-yes : (passes : ℕ → Bool) (line : RateLine) → passes (steps_of line) ≡ true → share passes line ≡ amount_of line
+pub share-yes : (passes : ℕ → Bool) (line : RateLine)
+    → passes (steps_of line) ≡ true
+    → share passes line ≡ amount_of line
 share-yes passes line is = ap (λ b. cond b line.amount.value 0) is
 
 -- nothing where it doesn't
@@ -33,7 +38,8 @@ pub par_of-le : (passes : ℕ → Bool) (lines : List RateLine) → par_of lines
 par_of-le passes lines = sum_by-le-sum_by (share passes) amount_of lines (share-le passes)
 
 -- the amounts of the lines on one side of a stop, added up, are the par at the rates there
-pub par_on-is : (side : Ordering) (stop : ℕ) (lines : List RateLine) → par_on side stop lines ≡ par_of lines (on_side side stop)
+pub par_on-is : (side : Ordering) (stop : ℕ) (lines : List RateLine)
+    → par_on side stop lines ≡ par_of lines (on_side side stop)
 par_on-is side stop lines = sum_by-filter amount_of (λ line. on_side side stop (steps_of line)) lines
 
 -- and at most those of all lines
@@ -72,7 +78,8 @@ par_of-before : (passes : ℕ → Bool) (lines : List RateLine) (place : ℕ)
     → par_of lines passes ≤ total_of (take place lines)
 par_of-before passes lines place none =
     let behind : par_of (drop place lines) passes ≡ 0 = par_of-zero passes (drop place lines) (λ k d below.
-    rw (get_or-drop place lines k d) (none (place + k) d (omega arith) (omega (arith, length-drop place lines, below)))) in
+    rw (get_or-drop place lines k d) (none (place + k) d (omega arith)
+    (omega (arith, length-drop place lines, below)))) in
     omega (arith, par_of-le passes (take place lines), sum_by-take-drop (share passes) lines place, behind)
 
 -- where the lines before a place all pass, the part has the amounts before it
@@ -80,7 +87,8 @@ par_of-covers : (passes : ℕ → Bool) (lines : List RateLine) (place : ℕ)
     → ((k : ℕ) (d : RateLine) → k < place → k < length lines → passes (steps_of (get_or lines k d)) ≡ true)
     → total_of (take place lines) ≤ par_of lines passes
 par_of-covers passes lines place all =
-    let whole : total_of (take place lines) ≡ par_of (take place lines) passes = par_of-whole passes (take place lines) (λ k d below.
+    let whole : total_of (take place lines) ≡ par_of (take place lines) passes =
+    par_of-whole passes (take place lines) (λ k d below.
     let inside : k < place = omega (arith, length-take place lines) in
     let within : k < length lines = omega (arith, length-take place lines) in
     rw (get_or-take place lines k d inside) (all k d inside within)) in
@@ -106,7 +114,10 @@ par_of-split stop (line ∷ lines) =
     )
 
 -- the least number whose product reaches an amount
-pub least_quotient : (least other amount share : ℕ) → least * share < amount + share → amount ≤ other * share → least ≤ other
+pub least_quotient : (least other amount share : ℕ)
+    → least * share < amount + share
+    → amount ≤ other * share
+    → least ≤ other
 least_quotient least other amount share below reaches = elim (cases_lt other least) [
   | inl less ↦ absurd (omega (arith, mul-le-mul_left share less, below, reaches))
   | inr le ↦ le
@@ -116,15 +127,19 @@ least_quotient least other amount share below reaches = elim (cases_lt other lea
 pub up_to-yes : (stop steps : ℕ) → steps ≤ stop → up_to stop steps ≡ true
 up_to-yes stop steps low = le-leb steps stop low
 
+-- a rate over the stop is not up to it
 pub up_to-no : (stop steps : ℕ) → stop < steps → up_to stop steps ≡ false
 up_to-no stop steps above = grind (arith, nat_tests)
 
+-- a rate from the stop on is not under it
 pub under-no : (stop steps : ℕ) → stop ≤ steps → under stop steps ≡ false
 under-no stop steps low = le-ltb steps stop low
 
+-- under the next step is up to this one
 pub under-next : (stop steps : ℕ) → under (suc stop) steps ≡ up_to stop steps
 under-next stop steps = grind (arith, nat_tests)
 
+-- a rate up to the stop is not over it
 pub over-no : (stop steps : ℕ) → steps ≤ stop → over stop steps ≡ false
 over-no stop steps low = le-ltb stop steps low
 
@@ -135,7 +150,8 @@ module _ {lines : List RateLine} {sought stop : ℕ} (order : AreByRate lines) (
       → ((steps : ℕ) → stop ≤ steps → passes steps ≡ false)
       → par_of lines passes < sought
   less-before passes none =
-      let low : par_of lines passes ≤ total_of (take found.place lines) = par_of-before passes lines found.place (λ k d from below.
+      let low : par_of lines passes ≤ total_of (take found.place lines) =
+      par_of-before passes lines found.place (λ k d from below.
       none (steps_of (get_or lines k d)) (omega (arith, order found.place k d from below, found.rate d))) in
       omega (arith, found.before, low)
 
@@ -168,7 +184,10 @@ module _ {lines : List RateLine} {sought stop : ℕ} (order : AreByRate lines) (
   ]
 
   -- else the stop is the greatest rate
-  pub last-rate : total_of lines < sought → (k : ℕ) (d : RateLine) → k < length lines → steps_of (get_or lines k d) ≤ stop
+  pub last-rate : total_of lines < sought
+      → (k : ℕ) (d : RateLine)
+      → k < length lines
+      → steps_of (get_or lines k d) ≤ stop
   last-rate less k d below = elim found.reached [
     | inl here ↦ absurd (omega (arith, here, less, sum_by-take-le amount_of lines (found.place + 1)))
     | inr last ↦ omega (arith, order k found.place d (omega arith) found.within, found.rate d)
@@ -215,12 +234,16 @@ no-greater : (lines : List RateLine) (stop other : ℕ)
 no-greater lines stop other none some = elim (cases_lt stop other) [
   | inl above ↦
       (let part : par_of lines (at other) ≤ par_of lines (over stop) =
-      sum_by-le-sum_by (share (at other)) (share (over stop)) lines (λ line. at-over other stop line.rate.steps line.amount.value above) in
+      sum_by-le-sum_by (share (at other)) (share (over stop)) lines
+      (λ line. at-over other stop line.rate.steps line.amount.value above) in
       absurd (omega arith))
   | inr within ↦ within
 ]
   where
-    at-over : (other stop steps amount : ℕ) → stop < other → cond (at other steps) amount 0 ≤ cond (over stop steps) amount 0
+    -- what stands at a rate over the stop is part of what stands over the stop
+    at-over : (other stop steps amount : ℕ)
+        → stop < other
+        → cond (at other steps) amount 0 ≤ cond (over stop steps) amount 0
     at-over other stop steps amount above = grind (arith, nat_tests)
 
 -- there is one stop, and one percentage at it
@@ -232,6 +255,7 @@ IsCut-one lines sought stop other percent other_percent (inl is) (inl is') =
     let same : stop ≡ other = omega (arith, is.least other is'.reached, is'.least stop is.reached) in
     (same, one-percent stop other same is is')
   where
+    -- at one stop there is one percentage
     one-percent : (stop other : ℕ)
         → stop ≡ other
         → Reaches (par_of lines) sought stop percent
@@ -241,9 +265,15 @@ IsCut-one lines sought stop other percent other_percent (inl is) (inl is') =
         let here : Reaches (par_of lines) sought stop other_percent =
         subst (λ (s : ℕ). Reaches (par_of lines) sought s other_percent) (sym same) is' in
         omega (arith, is.least_percent other_percent here.enough, here.least_percent percent is.enough)
-IsCut-one lines sought stop other percent other_percent (inl is) (inr short) = absurd (omega (arith, is.reached, short.short stop))
-IsCut-one lines sought stop other percent other_percent (inr short) (inl is) = absurd (omega (arith, is.reached, short.short other))
+IsCut-one lines sought stop other percent other_percent (inl is) (inr short) =
+    absurd (omega (arith, is.reached, short.short stop))
+IsCut-one lines sought stop other percent other_percent (inr short) (inl is) =
+    absurd (omega (arith, is.reached, short.short other))
 IsCut-one lines sought stop other percent other_percent (inr short) (inr short') = (
-  omega (arith, no-greater lines stop other short.greatest short'.bid, no-greater lines other stop short'.greatest short.bid),
+  omega (
+    arith,
+    no-greater lines stop other short.greatest short'.bid,
+    no-greater lines other stop short'.greatest short.bid,
+  ),
   short.whole ∙ sym short'.whole,
 )

@@ -1,5 +1,6 @@
 -- Lines that are one line, and lines in order.
-use Rattle.std.proofs.Common.{◌≡◌, zero, suc, ◌≤◌, ◌⊎◌, List, [], ◌∷◌, get_or, All, AllPairs, subst, refl, ap₂, sym, inl, inr, arith}
+use Rattle.std.proofs.Common.{◌≡◌, zero, suc, ◌≤◌, ◌⊎◌, List, [], ◌∷◌, get_or, All, AllPairs}
+use Rattle.std.proofs.Common.{subst, refl, ap₂, sym, inl, inr, arith}
 use Rattle.std.specs.Prelude.{Contains}
 use Rattle.std.proofs.lemmas.List.Elements.{All-head, All-tail}
 use Rattle.tb_units.specs.Same.{same_dollars, same_rate}
@@ -38,7 +39,10 @@ first-or-rest x line lines (zero, below, is) = inl is
 first-or-rest x line lines (suc k, below, is) = inr (k, omega arith, is)
 
 -- an element of the rest is later than the first
-later-rest : (x line : RateLine) (lines : List RateLine) → AllPairs IsEarlier (line ∷ lines) → Contains lines x → IsEarlier line x
+later-rest : (x line : RateLine) (lines : List RateLine)
+    → AllPairs IsEarlier (line ∷ lines)
+    → Contains lines x
+    → IsEarlier line x
 later-rest x line lines order has =
     subst (IsEarlier line) has.2 (AllPairs-head IsEarlier line lines order has.0 x has.1)
 
@@ -82,6 +86,7 @@ in_order-same (line ∷ one) (first ∷ other) order order' within within' =
     (in_order-same one other (AllPairs-tail IsEarlier line one order) (AllPairs-tail IsEarlier line other order'')
     (rest-in line one other order in_other) (rest-in line other one order'' in_one))
   where
+    -- the first lines are one: neither list has a line before the first of the other
     first-same : (line first : RateLine) (one other : List RateLine)
         → AllPairs IsEarlier (line ∷ one)
         → AllPairs IsEarlier (first ∷ other)
@@ -92,7 +97,9 @@ in_order-same (line ∷ one) (first ∷ other) order order' within within' =
       | inl same ↦ sym same
       | inr after ↦ elim (first-or-rest first line one has') [
         | inl same ↦ same
-        | inr after' ↦ absurd (IsEarlier-apart line first (later-rest first line one order after') (later-rest line first other order' after))
+        | inr after' ↦
+            absurd (IsEarlier-apart line first (later-rest first line one order after')
+            (later-rest line first other order' after))
       ]
     ]
 

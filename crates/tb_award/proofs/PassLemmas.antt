@@ -1,8 +1,10 @@
 -- One pass over lines: nothing is settled at first, and a bid is read line by line.
-use Rattle.std.proofs.Common.{◌≡◌, ℕ, ◌+◌, ◌<◌, ◌≤◌, inl, inr, List, [], ◌∷◌, ◌++◌, length, take, get_or, replicate, All, refl, ap, sym, subst, ◌∙◌, arith}
+use Rattle.std.proofs.Common.{◌≡◌, ℕ, ◌+◌, ◌<◌, ◌≤◌, inl, inr, List, [], ◌∷◌, ◌++◌, length, take}
+use Rattle.std.proofs.Common.{get_or, replicate, All, refl, ap, sym, subst, ◌∙◌, arith}
 use Rattle.std.specs.Prelude.{min}
 use Rattle.std.proofs.lemmas.Bool.{cases_eq}
-use Rattle.std.proofs.lemmas.List.{length-replicate, length_push, get_or-replicate, get_or_append_left, get_or_push, get_or-take, length-take-le, append_assoc}
+use Rattle.std.proofs.lemmas.List.{length-replicate, length_push, get_or-replicate, get_or_append_left}
+use Rattle.std.proofs.lemmas.List.{get_or_push, get_or-take, length-take-le, append_assoc}
 use Rattle.std.proofs.lemmas.List.Elements.{All-nil, All-cons, All-push, All-append}
 use Rattle.std.proofs.lemmas.List.Sums.{sum_by_push}
 use Rattle.tb_units.specs.declared.lines.RateLine.{RateLine}
@@ -15,7 +17,8 @@ use Rattle.tb_award.proofs.BidLemmas.{let_through-flat, recognised_at-none}
 use Rattle.tb_award.proofs.SettleLemmas.{IsEarlier-same}
 
 -- a line more of the bid that is being read
-pub IsReading-more : {lines : List RateLine} {bounds : Bounds} {recognised : List RateLine} {taken : List ℕ} {bid : RateLine}
+pub IsReading-more : {lines : List RateLine} {bounds : Bounds} {recognised : List RateLine} {taken : List ℕ}
+    {bid : RateLine}
     → IsReading lines bounds recognised taken bid
     → (line next : RateLine)
     → IsSameBid bid line
@@ -58,7 +61,8 @@ IsReading-next {lines} done line next earlier known is amount = record {
 }
 
 -- a line in order behind a bid, and not of it, is behind all lines
-pub earlier-than_next : {lines : List RateLine} {bounds : Bounds} {recognised : List RateLine} {taken : List ℕ} {bid : RateLine}
+pub earlier-than_next : {lines : List RateLine} {bounds : Bounds} {recognised : List RateLine} {taken : List ℕ}
+    {bid : RateLine}
     → IsReading lines bounds recognised taken bid
     → (line : RateLine)
     → AreInOrder (lines ++ line ∷ [])
@@ -68,7 +72,8 @@ earlier-than_next {lines} {bid = bid} reading line order other =
     let P : RateLine → Type 0 = λ l. IsEarlier l line in
     let no_later : All (λ l. IsNoLater l line) lines = λ k d below.
     subst (λ (l : RateLine). IsNoLater l line) (get_or_append_left lines (line ∷ []) d k below)
-    (subst (λ (l : RateLine). IsNoLater (get_or (lines ++ line ∷ []) k d) l) (get_or_push lines line d (length lines) refl)
+    (subst (λ (l : RateLine). IsNoLater (get_or (lines ++ line ∷ []) k d) l)
+    (get_or_push lines line d (length lines) refl)
     (order k (length lines) d below (omega (arith, length_push lines line)))) in
     let parts = subst (All (λ l. IsNoLater l line)) reading.lines_are no_later in
     let last_no_later = All-back (λ l. IsNoLater l line) reading.settled reading.last parts 0 bid reading.some in
@@ -79,7 +84,11 @@ earlier-than_next {lines} {bid = bid} reading line order other =
     (λ k d below. IsEarlier-of (get_or reading.last k d) bid line (reading.same k d below) bid_earlier))
   where
     -- a bid behind a line of its own, and of another bid than the next line, is earlier than that
-    IsEarlier-from : (one bid line : RateLine) → IsSameBid one bid → IsNoLater one line → ¬ (IsSameBid bid line) → IsEarlier bid line
+    IsEarlier-from : (one bid line : RateLine)
+        → IsSameBid one bid
+        → IsNoLater one line
+        → ¬ (IsSameBid bid line)
+        → IsEarlier bid line
     IsEarlier-from one bid line same no_later other = elim no_later [
       | inl under ↦ inl (omega (arith, under, same.0))
       | inr at ↦ elim (cases_eq bid.bidder line.bidder) [
@@ -109,21 +118,30 @@ AreSettled-none bounds = record {
     order = λ i j d earlier below. absurd (omega (arith, below));
     each = All-nil (IsRecognised (bid_in []) bounds.cap bounds.limits bounds.bidders);
     all = λ bidder steps known some.
-        absurd (omega (arith, some, recognised_at-none (bid_in [] bidder) bounds.cap (bounds.limits bidder) steps refl));
+        absurd (omega (
+          arith,
+          some,
+          recognised_at-none (bid_in [] bidder) bounds.cap
+              (bounds.limits bidder) steps refl,
+        ));
   };
   size = length-replicate bounds.bidders 0;
   sums = λ bidder above known under.
       get_or-replicate bounds.bidders bidder 0 0 known
-      ∙ sym (let_through-flat (bid_in [] bidder) bounds.cap (bounds.limits bidder) 0 above (omega arith) (λ n from. refl) ∙ omega arith);
+      ∙ sym (let_through-flat (bid_in [] bidder) bounds.cap (bounds.limits bidder) 0 above (omega arith)
+      (λ n from. refl) ∙ omega arith);
   within = omega arith;
   few = omega arith;
 }
 
 -- the first lines are in order
-pub AreInOrder-take : (count : ℕ) (lines : List RateLine) → AreInOrder lines → count ≤ length lines → AreInOrder (take count lines)
+pub AreInOrder-take : (count : ℕ) (lines : List RateLine)
+    → AreInOrder lines
+    → count ≤ length lines
+    → AreInOrder (take count lines)
 AreInOrder-take count lines order within i j d earlier below =
     let short : length (take count lines) ≡ count = length-take-le count lines within in
     let first : get_or (take count lines) i d ≡ get_or lines i d = get_or-take count lines i d (omega arith) in
     let second : get_or (take count lines) j d ≡ get_or lines j d = get_or-take count lines j d (omega arith) in
-    subst (λ (l : RateLine). IsNoLater l (get_or (take count lines) j d)) (sym first)
-    (subst (λ (l : RateLine). IsNoLater (get_or lines i d) l) (sym second) (order i j d earlier (omega arith)))
+    subst (λ (line : RateLine). IsNoLater line (get_or (take count lines) j d)) (sym first)
+    (subst (λ (line : RateLine). IsNoLater (get_or lines i d) line) (sym second) (order i j d earlier (omega arith)))

@@ -1,5 +1,6 @@
 -- The awards added up in order, and the least rate at or below which a part of them lies.
-use Rattle.std.proofs.Common.{◌≡◌, ℕ, zero, suc, ◌+◌, ◌-◌, ◌*◌, ◌^◌, ◌<◌, ◌≤◌, List, [], ◌∷◌, length, take, get_or, All, ap, sym, subst, ◌∙◌, inl, inr, arith}
+use Rattle.std.proofs.Common.{◌≡◌, ℕ, zero, suc, ◌+◌, ◌-◌, ◌*◌, ◌^◌, ◌<◌, ◌≤◌, List, [], ◌∷◌, length}
+use Rattle.std.proofs.Common.{take, get_or, All, ap, sym, subst, ◌∙◌, inl, inr, arith}
 use Rattle.std.proofs.lemmas.List.{length-take}
 use Rattle.std.proofs.lemmas.List.Elements.{All-head, All-tail}
 use Rattle.std.proofs.lemmas.List.Sums.{sum_by-cons, sum_by_more, sum_by-take-le}
@@ -37,6 +38,7 @@ sum-fits cut lines count sum amounts fits so_far =
       length-le-total lines amounts,
     )
   where
+    -- no more lines are taken than there are
     length-take-short : (count : ℕ) (lines : List RateLine) → length (take count lines) ≤ length lines
     length-take-short count lines = omega (arith, length-take count lines)
 
@@ -91,7 +93,8 @@ awards-next cut lines awards k line award are below is gets =
     let here : IsAward stop percent (get_or lines k line).rate.steps (get_or lines k line).amount.value award =
     subst (λ (l : RateLine). IsAward stop percent l.rate.steps l.amount.value award) is gets in
     let same =
-    IsAward-one stop percent (get_or lines k line).rate.steps (get_or lines k line).amount.value (get_or awards k line).amount.value award
+    IsAward-one stop percent (get_or lines k line).rate.steps (get_or lines k line).amount.value
+    (get_or awards k line).amount.value award
     there here in
     omega (arith, sum_by_more amount_of awards k line (omega (arith, size)), same)
 
@@ -146,6 +149,7 @@ IsPart-quotient parts all part some enough short = record {
   least = λ other reaches. least_quotient part other all parts short (omega (arith, reaches, mul_comm parts other));
 }
   where
+    -- no part of nothing reaches something
     above : (part : ℕ) → all ≤ part * parts → 0 < part
     above zero enough = absurd (omega arith)
     above (suc part) enough = omega arith
@@ -166,9 +170,11 @@ IsRateOfPart-stop parts awards part steps some order is stop =
       least = λ other enough. up_to-least order stop other (is.least (par_of awards (up_to other)) enough);
     }
   where
+    -- a multiple is no less
     product-le : (parts all : ℕ) → 0 < parts → all ≤ parts * all
     product-le zero all some = absurd (omega arith)
-    product-le (suc parts) all some = (let product : suc parts * all ≡ parts * all + all = suc-mul parts all in omega (arith, product))
+    product-le (suc parts) all some =
+        (let product : suc parts * all ≡ parts * all + all = suc-mul parts all in omega (arith, product))
 
 -- there is one rate of a part
 pub IsRateOfPart-one : (parts : ℕ) (awards : List RateLine) (one other : ℕ)

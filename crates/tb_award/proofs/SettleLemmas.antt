@@ -1,8 +1,10 @@
 -- The bid that is being read is settled.
-use Rattle.std.proofs.Common.{◌≡◌, ℕ, suc, ◌+◌, ◌-◌, ◌<◌, ◌≤◌, ◌⊎◌, inl, inr, eqb, List, [], ◌∷◌, ◌++◌, length, set, get_or, All, refl, ap, ap₂, sym, subst, ◌∙◌, arith}
+use Rattle.std.proofs.Common.{◌≡◌, ℕ, suc, ◌+◌, ◌-◌, ◌<◌, ◌≤◌, ◌⊎◌, inl, inr, eqb, List, [], ◌∷◌, ◌++◌}
+use Rattle.std.proofs.Common.{length, set, get_or, All, refl, ap, ap₂, sym, subst, ◌∙◌, arith}
 use Rattle.std.specs.Prelude.{min, slice_index}
 use Rattle.std.proofs.lemmas.Bool.{cases_lt, cases_eq, cases_order, cond_both, eqb-true, eqb-false}
-use Rattle.std.proofs.lemmas.List.{length-append, length-set, length_push, get_or-set_same, get_or-set_other, get_or_append_left, get_or_push}
+use Rattle.std.proofs.lemmas.List.{length-append, length-set, length_push, get_or-set_same}
+use Rattle.std.proofs.lemmas.List.{get_or-set_other, get_or_append_left, get_or_push}
 use Rattle.std.proofs.lemmas.List.Elements.{All-push}
 use Rattle.std.proofs.lemmas.List.Quantifiers.{all_pairs_push}
 use Rattle.std.proofs.lemmas.List.Sums.{sum_by_push, sum_by-append}
@@ -11,17 +13,21 @@ use Rattle.tb_units.proofs.ListLemmas.{All-front, All-back}
 use Rattle.tb_award.specs.Cuts.{amount_of, total_of}
 use Rattle.tb_award.specs.Recognition.{bid_in, let_through, recognised_at, HasLineOf, IsEarlier, IsRecognised}
 use Rattle.tb_award.specs.Passes.{AreSettled, Bounds, IsReading, IsSameBid, recognised_in, through_in, with_line}
-use Rattle.tb_award.proofs.BidLemmas.{IsBidOf, bid_in-append, bid_in-none, bid_in-whole, let_through-agree, let_through-flat, let_through-more, recognised_at-agree, recognised_at-none, recognised_at-is}
+use Rattle.tb_award.proofs.BidLemmas.{IsBidOf, bid_in-append, bid_in-none, bid_in-whole, let_through-agree}
+use Rattle.tb_award.proofs.BidLemmas.{let_through-flat, let_through-more, recognised_at-agree, recognised_at-none}
+use Rattle.tb_award.proofs.BidLemmas.{recognised_at-is}
 
 -- a line is earlier than another, or it isn't
 cases_earlier : (one other : RateLine) → IsEarlier one other ⊎ ¬ (IsEarlier one other)
 cases_earlier one other = elim (cases_order one.rate.steps other.rate.steps) [
   | inl same ↦ elim (cases_lt one.bidder other.bidder) [
     | inl less ↦ inl (inr (same, less))
-    | inr more ↦ inr (λ earlier. elim earlier [ inl under ↦ omega (arith, under, same) | inr at ↦ omega (arith, at.1, more) ])
+    | inr more ↦
+        inr (λ earlier. elim earlier [ inl under ↦ omega (arith, under, same) | inr at ↦ omega (arith, at.1, more) ])
   ]
   | inr (inl under) ↦ inl (inl under)
-  | inr (inr over) ↦ inr (λ earlier. elim earlier [ inl under ↦ omega (arith, under, over) | inr at ↦ omega (arith, at.0, over) ])
+  | inr (inr over) ↦
+      inr (λ earlier. elim earlier [ inl under ↦ omega (arith, under, over) | inr at ↦ omega (arith, at.0, over) ])
 ]
 
 -- lines that are all earlier than a bid bid nothing in the place of a line that isn't
@@ -66,16 +72,24 @@ IsEarlier-same one bid line same earlier = elim earlier [
 HasLineOf-push : (bidder steps : ℕ) (lines : List RateLine) (line : RateLine)
     → HasLineOf bidder steps lines
     → HasLineOf bidder steps (lines ++ line ∷ [])
-HasLineOf-push bidder steps lines line has =
-    (has.0, omega (arith, has.1, length_push lines line), λ d. rw (get_or_append_left lines (line ∷ []) d has.0 has.1) (has.2 d))
+HasLineOf-push bidder steps lines line has = (
+  has.0,
+  omega (arith, has.1, length_push lines line),
+  λ d.
+      rw (get_or_append_left lines (line ∷ []) d has.0 has.1) (has.2 d),
+)
 
 -- and the one more is there
 HasLineOf-pushed : (bidder steps : ℕ) (lines : List RateLine) (line : RateLine)
     → line.bidder ≡ bidder
     → line.rate.steps ≡ steps
     → HasLineOf bidder steps (lines ++ line ∷ [])
-HasLineOf-pushed bidder steps lines line own at =
-    (length lines, omega (arith, length_push lines line), λ d. rw (get_or_push lines line d (length lines) refl) (own, at))
+HasLineOf-pushed bidder steps lines line own at = (
+  length lines,
+  omega (arith, length_push lines line),
+  λ d.
+      rw (get_or_push lines line d (length lines) refl) (own, at),
+)
 
 -- while the last lines are a bid that is being read
 module _ {lines recognised : List RateLine} {bounds : Bounds} {taken : List ℕ} {bid : RateLine}
@@ -97,7 +111,8 @@ module _ {lines recognised : List RateLine} {bounds : Bounds} {taken : List ℕ}
   bid_in-here : bid_in lines bid.bidder bid.rate.steps ≡ total_of reading.last
   bid_in-here =
       let whole =
-      bid_in-whole reading.last bid.bidder bid.rate.steps (λ k d below. ((reading.same k d below).1, (reading.same k d below).0)) in
+      bid_in-whole reading.last bid.bidder bid.rate.steps
+      (λ k d below. ((reading.same k d below).1, (reading.same k d below).0)) in
       let none = above-none reading.settled bid bid.rate.steps reading.earlier (omega arith) in
       omega (arith, bid_in-parts bid.bidder bid.rate.steps, none, whole)
 
@@ -114,12 +129,14 @@ module _ {lines recognised : List RateLine} {bounds : Bounds} {taken : List ℕ}
       let limit = bounds.limits bid.bidder in
       let rate = bid.rate.steps in
       let before = bid_in reading.settled bid.bidder in
-      let under : All (λ line. line.rate.steps < suc rate) reading.settled = λ k d below. elim (reading.earlier k d below) [
+      let under : All (λ line. line.rate.steps < suc rate) reading.settled =
+      λ k d below. elim (reading.earlier k d below) [
         | inl less ↦ omega (arith, less)
         | inr at ↦ omega (arith, at.0)
       ] in
       reading.done.sums bid.bidder (suc rate) reading.known under
-      ∙ let_through-flat before bounds.cap limit rate (suc rate) (omega arith) (λ n from. above-none reading.settled bid n reading.earlier from)
+      ∙ let_through-flat before bounds.cap limit rate (suc rate) (omega arith)
+      (λ n from. above-none reading.settled bid n reading.earlier from)
       ∙ let_through-agree before (bid_in lines bid.bidder) bounds.cap limit rate
       (λ n below. sym (bid_in-elsewhere bid.bidder n (λ own. omega (arith, own.1, below))))
 
@@ -141,7 +158,8 @@ module _ {lines recognised : List RateLine} {bounds : Bounds} {taken : List ℕ}
         | inr late ↦
             (let nothing = late-none reading.settled bid line reading.earlier late in
             let none =
-            recognised_at-none (bid_in reading.settled line.bidder) bounds.cap (bounds.limits line.bidder) line.rate.steps nothing in
+            recognised_at-none (bid_in reading.settled line.bidder) bounds.cap
+            (bounds.limits line.bidder) line.rate.steps nothing in
             absurd (omega (arith, one.some, one.amount, none)))
       ]
 
@@ -161,10 +179,13 @@ module _ {lines recognised : List RateLine} {bounds : Bounds} {taken : List ℕ}
       record {
         known = one.known;
         some = one.some;
-        amount = one.amount ∙ recognised_in-before line.bidder line.rate.steps (λ n within own. elim (recognised-earlier k d below) [
-          | inl under ↦ omega (arith, under, own.1, within)
-          | inr at ↦ omega (arith, at.1, own.0)
-        ]);
+        amount =
+            one.amount
+            ∙ recognised_in-before line.bidder line.rate.steps
+            (λ n within own. elim (recognised-earlier k d below) [
+              | inl under ↦ omega (arith, under, own.1, within)
+              | inr at ↦ omega (arith, at.1, own.0)
+            ]);
       }
 
   -- where something is recognised now, a line stands or it is the bid's own place
@@ -179,8 +200,14 @@ module _ {lines recognised : List RateLine} {bounds : Bounds} {taken : List ℕ}
         | inl own ↦ elim (cases_order bid.rate.steps steps) [
           | inl at ↦ inr (own, at)
           | inr (inl over) ↦
-              (let none : bid_in lines bidder steps ≡ 0 = subst (λ (b : ℕ). bid_in lines b steps ≡ 0) own (bid_in-above steps over) in
-              absurd (omega (arith, some, recognised_at-none (bid_in lines bidder) bounds.cap (bounds.limits bidder) steps none)))
+              (let none : bid_in lines bidder steps ≡ 0 =
+              subst (λ (b : ℕ). bid_in lines b steps ≡ 0) own (bid_in-above steps over) in
+              absurd (omega (
+                arith,
+                some,
+                recognised_at-none (bid_in lines bidder) bounds.cap
+                    (bounds.limits bidder) steps none,
+              )))
           | inr (inr under) ↦ inl (before (λ n within own'. omega (arith, own'.1, within, under)))
         ]
         | inr other ↦ inl (before (λ n within own. other own.0))
@@ -200,7 +227,8 @@ module _ {lines recognised : List RateLine} {bounds : Bounds} {taken : List ℕ}
       let sum : new ≡ let_through bids bounds.cap limit rate + recognised_at bids bounds.cap limit rate =
       is ∙ ap (λ t. t + recognised_at bids bounds.cap limit rate) taken-is in
       same ∙ sum ∙ sym (let_through-more bids bounds.cap limit rate)
-      ∙ sym (let_through-flat bids bounds.cap limit (suc rate) above over (λ n from. bid_in-above n (omega (arith, from))))
+      ∙ sym (let_through-flat bids bounds.cap limit (suc rate) above over
+      (λ n from. bid_in-above n (omega (arith, from))))
 
   -- how much of each bidder's limit is
   sums-settled : (amount : ℕ)
@@ -208,7 +236,8 @@ module _ {lines recognised : List RateLine} {bounds : Bounds} {taken : List ℕ}
       → (bidder above : ℕ)
       → bidder < bounds.bidders
       → All (λ line. line.rate.steps < above) lines
-      → slice_index (set taken bid.bidder (slice_index taken bid.bidder + amount)) bidder ≡ through_in lines bounds bidder above
+      → slice_index (set taken bid.bidder (slice_index taken bid.bidder + amount)) bidder
+      ≡ through_in lines bounds bidder above
   sums-settled amount is bidder above known under =
       let new = slice_index taken bid.bidder + amount in
       let P : RateLine → Type 0 = λ line. line.rate.steps < above in
@@ -216,13 +245,19 @@ module _ {lines recognised : List RateLine} {bounds : Bounds} {taken : List ℕ}
       elim (cases_eq bidder bid.bidder) [
         | inl own ↦
             (let over : suc bid.rate.steps ≤ above =
-            omega (arith, All-back P reading.settled reading.last parts 0 bid reading.some, (reading.same 0 bid reading.some).0) in
+            omega (
+              arith,
+              All-back P reading.settled reading.last parts 0 bid reading.some,
+              (reading.same 0 bid reading.some).0,
+            ) in
             let here = own-settled new above (ap (λ n. slice_index taken bid.bidder + n) (is ∙ amount-is)) over in
-            subst (λ (b : ℕ). slice_index (set taken bid.bidder new) b ≡ through_in lines bounds b above) (sym own) here)
+            subst (λ (b : ℕ). slice_index (set taken bid.bidder new) b ≡ through_in lines bounds b above)
+            (sym own) here)
         | inr other ↦
             (get_or-set_other taken bid.bidder bidder new 0 other
             ∙ reading.done.sums bidder above known (All-front P reading.settled reading.last parts)
-            ∙ let_through-agree (bid_in reading.settled bidder) (bid_in lines bidder) bounds.cap (bounds.limits bidder) above
+            ∙ let_through-agree (bid_in reading.settled bidder) (bid_in lines bidder) bounds.cap
+            (bounds.limits bidder) above
             (λ n below. sym (bid_in-elsewhere bidder n (λ own. other (sym own.0)))))
       ]
 
@@ -230,6 +265,7 @@ module _ {lines recognised : List RateLine} {bounds : Bounds} {taken : List ℕ}
   total_of-parts : total_of lines ≡ total_of reading.settled + total_of reading.last
   total_of-parts = ap total_of reading.lines_are ∙ sum_by-append amount_of reading.settled reading.last
 
+  -- the lines are the settled ones and the last ones
   length-parts : length lines ≡ length reading.settled + length reading.last
   length-parts = ap length reading.lines_are ∙ length-append reading.settled reading.last
 
@@ -261,7 +297,8 @@ module _ {lines recognised : List RateLine} {bounds : Bounds} {taken : List ℕ}
       → line.amount.value ≡ min bid.amount.value (bounds.limits bid.bidder - slice_index taken bid.bidder)
       → 0 < line.amount.value
       → IsSameBid line bid
-      → AreSettled lines bounds (recognised ++ line ∷ []) (set taken bid.bidder (slice_index taken bid.bidder + line.amount.value))
+      → AreSettled lines bounds (recognised ++ line ∷ [])
+      (set taken bid.bidder (slice_index taken bid.bidder + line.amount.value))
   some-settled line is some same =
       let amount = line.amount.value in
       let at : ℕ → ℕ → ℕ = recognised_in lines bounds in
@@ -274,7 +311,9 @@ module _ {lines recognised : List RateLine} {bounds : Bounds} {taken : List ℕ}
         are = record {
           order = all_pairs_push IsEarlier recognised line reading.done.are.order
               (λ k d below. IsEarlier-same (get_or recognised k d) bid line same (recognised-earlier k d below));
-          each = All-push (IsRecognised (bid_in lines) bounds.cap bounds.limits bounds.bidders) recognised line each-stays own;
+          each =
+              All-push (IsRecognised (bid_in lines) bounds.cap bounds.limits bounds.bidders) recognised line each-stays
+              own;
           all = λ bidder steps known is_some. elim (all-cases bidder steps known is_some) [
             | inl has ↦ HasLineOf-push bidder steps recognised line has
             | inr place ↦ HasLineOf-pushed bidder steps recognised line (same.1 ∙ place.0) (same.0 ∙ place.1)
@@ -282,7 +321,15 @@ module _ {lines recognised : List RateLine} {bounds : Bounds} {taken : List ℕ}
         };
         size = length-set taken bid.bidder (slice_index taken bid.bidder + amount) ∙ reading.done.size;
         sums = sums-settled amount is;
-        within = omega (arith, reading.done.within, total_of-parts, sum_by_push amount_of recognised line, is, reading.amount);
+        within =
+            omega (
+              arith,
+              reading.done.within,
+              total_of-parts,
+              sum_by_push amount_of recognised line,
+              is,
+              reading.amount,
+            );
         few = omega (arith, reading.done.few, length-parts, length_push recognised line, reading.some);
       }
 
@@ -303,6 +350,7 @@ module _ {lines recognised : List RateLine} {bounds : Bounds} {taken : List ℕ}
       (λ none. nothing-settled amount is (eqb-true amount 0 none))
       (λ some. some-settled line is (pos_of (eqb-false amount 0 some)) same)))
     where
+      -- what is not zero is something
       pos_of : {n : ℕ} → (n ≡ 0 → ⊥) → 0 < n
       pos_of {n} some = omega (arith, some)
 

@@ -1,7 +1,7 @@
--- The cut of an auction (31 CFR 356.20 and 356.21): the stop-out rate (`stop`, printed as `high`), and the percentage of
--- what is recognised at it.
--- `par` gives the par at the rates, in steps, that pass a test.
-use Rattle.std.specs.Prelude.{◌≡◌, ℕ, ◌-◌, ◌*◌, ◌^◌, ◌<◌, ◌≤◌, ◌==◌, ◌⊎◌, List, Bool, nat_lt, nat_le, sum_by, if◌then◌else◌}
+-- The cut of an auction (31 CFR 356.20 and 356.21): the stop-out rate (`stop`, printed as `high`), and the percentage
+-- of what is recognised at it. `par` gives the par at the rates, in steps, that pass a test.
+use Rattle.std.specs.Prelude.{◌≡◌, ℕ, ◌-◌, ◌*◌, ◌^◌, ◌<◌, ◌≤◌, ◌==◌, ◌⊎◌, List, Bool}
+use Rattle.std.specs.Prelude.{nat_lt, nat_le, sum_by, if◌then◌else◌}
 use Rattle.std.specs.List.Sorted.{IsNonDecreasingBy}
 use Rattle.tb_units.specs.declared.lines.RateLine.{RateLine}
 use Rattle.tb_price.specs.Prices.{IsPrice}
@@ -34,7 +34,9 @@ pub record Reaches (par : (ℕ → Bool) → ℕ) (sought stop percent : ℕ) : 
   pub reached : sought ≤ par (up_to stop)
   pub least : (steps : ℕ) → sought ≤ par (up_to steps) → stop ≤ steps
   pub enough : hundred_percent * (sought - par (under stop)) ≤ percent * par (at stop)
-  pub least_percent : (other : ℕ) → hundred_percent * (sought - par (under stop)) ≤ other * par (at stop) → percent ≤ other
+  pub least_percent : (other : ℕ)
+      → hundred_percent * (sought - par (under stop)) ≤ other * par (at stop)
+      → percent ≤ other
 
 -- the bids fall short: the stop is the greatest rate at which something is recognised, and all is awarded (our choice)
 pub record FallsShort (par : (ℕ → Bool) → ℕ) (sought stop percent : ℕ) : Type 0 where

@@ -1,6 +1,7 @@
 -- What is recognised of competitive bids (31 CFR 356.12 and 356.22; in which way and order the limit is applied is our
 -- choice).
-use Rattle.std.specs.Prelude.{◌≡◌, ℕ, zero, suc, ℤ, pos, ◌+◌, ◌-◌, ◌<◌, ◌==◌, ◌⊎◌, ◌&&◌, if◌then◌else◌, List, length, slice_index_or, All, min, sum_by}
+use Rattle.std.specs.Prelude.{◌≡◌, ℕ, zero, suc, ℤ, pos, ◌+◌, ◌-◌, ◌<◌, ◌==◌, ◌⊎◌, ◌&&◌, if◌then◌else◌}
+use Rattle.std.specs.Prelude.{List, length, slice_index_or, All, min, sum_by}
 use Rattle.std.specs.List.{AllPairs}
 use Rattle.tb_units.specs.declared.lines.RateLine.{RateLine}
 use Rattle.tb_award.specs.Limits.{cap_of, limit_of}
@@ -36,19 +37,24 @@ pub record IsRecognised (bids : ℕ → ℕ → ℕ) (cap : ℕ) (limits : ℕ �
 
 -- at a lower rate, or at the same rate with a smaller bidder's number
 abbrev pub IsEarlier : RateLine → RateLine → Type 0
-IsEarlier one other = (one.rate.steps < other.rate.steps) ⊎ ((one.rate.steps ≡ other.rate.steps) × (one.bidder < other.bidder))
+IsEarlier one other =
+    (one.rate.steps < other.rate.steps) ⊎ ((one.rate.steps ≡ other.rate.steps) × (one.bidder < other.bidder))
 
 -- a line of the bidder at the rate is there
 abbrev pub HasLineOf : ℕ → ℕ → List RateLine → Type 0
 HasLineOf bidder steps lines =
     (place : ℕ) × (place < length lines)
-    × ((d : RateLine) → ((slice_index_or lines place d).bidder ≡ bidder) × ((slice_index_or lines place d).rate.steps ≡ steps))
+    × ((d : RateLine)
+    → ((slice_index_or lines place d).bidder ≡ bidder) × ((slice_index_or lines place d).rate.steps ≡ steps))
 
 -- the lines are all that is recognised of so many bidders, in order
-pub record AreRecognised (bids : ℕ → ℕ → ℕ) (cap : ℕ) (limits : ℕ → ℕ) (bidders : ℕ) (lines : List RateLine) : Type 0 where
+pub record AreRecognised (bids : ℕ → ℕ → ℕ) (cap : ℕ) (limits : ℕ → ℕ) (bidders : ℕ)
+    (lines : List RateLine) : Type 0 where
   pub order : AllPairs IsEarlier lines
   pub each : All (IsRecognised bids cap limits bidders) lines
-  pub all : (bidder steps : ℕ) → bidder < bidders → 0 < recognised_at (bids bidder) cap (limits bidder) steps
+  pub all : (bidder steps : ℕ)
+      → bidder < bidders
+      → 0 < recognised_at (bids bidder) cap (limits bidder) steps
       → HasLineOf bidder steps lines
 
 -- the limit of each bidder by its position

@@ -1,10 +1,12 @@
 -- Words of private contracts: where the code finds the stop and the percentage. No promise speaks of them.
-use Rattle.std.specs.Prelude.{◌≡◌, ℕ, suc, ◌+◌, ◌*◌, ◌<◌, ◌≤◌, ◌⊎◌, Bool, List, All, filter, length, take, slice_index_or}
+use Rattle.std.specs.Prelude.{◌≡◌, ℕ, suc, ◌+◌, ◌*◌, ◌<◌, ◌≤◌, ◌⊎◌, Bool, List}
+use Rattle.std.specs.Prelude.{All, filter, length, take, slice_index_or}
 use Rattle.std.specs.declared.cmp.Ordering.{Ordering}
 use Rattle.std.specs.declared.cmp.Ordering.TheVariants.{Less, Equal, Greater}
 use Rattle.tb_units.specs.declared.lines.RateLine.{RateLine}
 use Rattle.tb_award.specs.Awards.{AreAwardsOf}
-use Rattle.tb_award.specs.Cuts.{AreByRate, amount_of, at, hundred_percent, most_recognised, over, steps_of, total_of, under}
+use Rattle.tb_award.specs.Cuts.{AreByRate, amount_of, at, hundred_percent, most_recognised}
+use Rattle.tb_award.specs.Cuts.{over, steps_of, total_of, under}
 use Rattle.tb_award.specs.declared.outcome.Cut.{Cut}
 
 -- the rates on one side of a stop, or at it
@@ -24,8 +26,8 @@ pub record AreCuttable (lines : List RateLine) : Type 0 where
   pub some : 0 < length lines
   pub fits : total_of lines ≤ most_recognised
 
--- the stop is the rate of the line with which the amounts, added up in order, reach the amount sought, or that of the last
--- line
+-- the stop is the rate of the line with which the amounts, added up in order, reach the amount sought, or that of the
+-- last line
 pub record IsStop (lines : List RateLine) (sought stop : ℕ) : Type 0 where
   pub place : ℕ
   pub within : place < length lines
@@ -33,7 +35,8 @@ pub record IsStop (lines : List RateLine) (sought stop : ℕ) : Type 0 where
   pub before : total_of (take place lines) < sought
   pub reached : (sought ≤ total_of (take (place + 1) lines)) ⊎ (suc place ≡ length lines)
 
--- the least percentage of what is recognised at the stop that reaches what is missing, and 100.00 where all of it doesn't
+-- the least percentage of what is recognised at the stop that reaches what is missing, and 100.00 where all of it
+-- doesn't
 pub record IsPercentage (missing at_stop percent : ℕ) : Type 0 where
   pub enough : missing ≤ at_stop → hundred_percent * missing ≤ percent * at_stop
   pub least : missing ≤ at_stop → (other : ℕ) → hundred_percent * missing ≤ other * at_stop → percent ≤ other

@@ -9,8 +9,8 @@ use tb_units::{Dollars, Percent, Rate};
 // 100.00 percent, in hundredths of a percent.
 const HUNDRED_PERCENT: u128 = 10_000;
 
-/// What is awarded of an amount that is recognised at a rate: all of it under the stop-out rate, nothing above it, and at
-/// it the cut's percentage, raised to the next multiple of 100.
+/// What is awarded of an amount that is recognised at a rate: all of it under the stop-out rate, nothing above it, and
+/// at it the cut's percentage, raised to the next multiple of 100.
 pub fn award(cut: &Cut, rate: Rate, recognised: Dollars) -> Dollars
     ensures { IsAward cut.now.stop.steps cut.now.percent.hundredths rate.steps recognised.value result.value }
 {

@@ -15,7 +15,8 @@ use tb_units::{Days, Dollars, Percent, Rate, RateLine};
 // 100.00 percent, in hundredths of a percent.
 const HUNDRED_PERCENT: u32 = 10_000;
 
-/// Where the auction stops, for the recognised lines, the amount sought from competitive bids, and the days of the bill.
+/// Where the auction stops, for the recognised lines, the amount sought from competitive bids, and the days of the
+/// bill.
 pub fn cut(recognised: &Recognised, sought: Dollars, days: Days) -> Outcome
     requires sought { 100 ≤ sought.value }
     requires priced { All (λ line. HasPrice line.rate.steps days.count) recognised.now.lines }

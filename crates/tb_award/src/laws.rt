@@ -2,7 +2,8 @@
 //! awards come close to what is sought.
 ghost use Rattle.std.specs.Prelude.{◌≡◌, ◌*◌, ◌^◌, ◌+◌, ◌<◌, ◌≤◌, ◌%◌, ℕ, ℤ, List, All};
 ghost use Rattle.tb_units.specs.declared.lines.RateLine.{RateLine};
-ghost use Rattle.tb_award.specs.Awards.{AreAwards, AreClose, AreWithin, IsAward, IsInHundreds, IsProrated, IsRateOfPart};
+ghost use Rattle.tb_award.specs.Awards.{AreAwards, AreClose, AreWithin, IsAward, IsInHundreds};
+ghost use Rattle.tb_award.specs.Awards.{IsProrated, IsRateOfPart};
 ghost use Rattle.tb_award.specs.Cuts.{FallsShort, IsCut, Reaches, hundred_percent, par_of};
 ghost use Rattle.tb_award.specs.Recognition.{IsRecognitionOf, limits_by, recognised_of};
 
@@ -20,7 +21,8 @@ pub fn recognised_amounts()
         → IsRecognitionOf lines positions offering recognised
         → All IsInHundreds lines
         → All IsInHundreds recognised }
-    ensures limited { (lines : List RateLine) (positions : List ℤ) (offering : ℕ) (recognised : List RateLine) (bidder : ℕ)
+    ensures limited { (lines : List RateLine) (positions : List ℤ) (offering : ℕ) (recognised : List RateLine)
+        (bidder : ℕ)
         → IsRecognitionOf lines positions offering recognised
         → recognised_of bidder recognised ≤ limits_by offering positions bidder }
 {}
@@ -53,8 +55,9 @@ pub fn one_rate_of_part()
         → one ≡ other }
 {}
 
-/// An award at the stop is under the exact share plus 100 dollars. Where the bids reach the amount sought, the awards come
-/// to no less, and to little more; where they fall short of it, each award is what is recognised. No award is above that.
+/// An award at the stop is under the exact share plus 100 dollars. Where the bids reach the amount sought, the awards
+/// come to no less, and to little more; where they fall short of it, each award is what is recognised. No award is
+/// above that.
 pub fn awards_are_close()
     ensures share { (percent recognised award : ℕ)
         → IsProrated percent recognised award

@@ -14,8 +14,8 @@ pub fn cap(offering: Dollars) -> Dollars
     }
 }
 
-/// What of its bids may be recognised of a bidder with this position in whole dollars: the cap less the position, rounded
-/// down to a multiple of 100. A negative position counts as zero.
+/// What of its bids may be recognised of a bidder with this position in whole dollars: the cap less the position,
+/// rounded down to a multiple of 100. A negative position counts as zero.
 pub fn limit(offering: Dollars, position: i64) -> Dollars
     requires { offering.value % 100 ≡ 0 }
     ensures { result.value ≡ limit_of offering.value position }

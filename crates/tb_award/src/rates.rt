@@ -13,7 +13,8 @@ use tb_units::{Dollars, Rate, RateLine};
 /// The sum of all awards of what is recognised.
 pub fn awarded(cut: &Cut, recognised: &Recognised) -> Dollars
     requires { total_of recognised.now.lines ≤ most_recognised }
-    ensures { (awards : List RateLine) × AreAwardsOf cut.now recognised.now.lines awards × (result.value ≡ total_of awards) }
+    ensures { (awards : List RateLine) × AreAwardsOf cut.now recognised.now.lines awards
+        × (result.value ≡ total_of awards) }
 {
     Dollars {
         value: sum_of(cut, recognised.as_slice()),
@@ -23,15 +24,18 @@ pub fn awarded(cut: &Cut, recognised: &Recognised) -> Dollars
 /// The median rate: the least at or below which half of all awards lie, or more. 0.000 percent where there are none.
 pub fn median_rate(cut: &Cut, recognised: &Recognised) -> Rate
     requires { total_of recognised.now.lines ≤ most_recognised }
-    ensures { (awards : List RateLine) × AreAwardsOf cut.now recognised.now.lines awards × IsMedianRate awards result.steps }
+    ensures { (awards : List RateLine) × AreAwardsOf cut.now recognised.now.lines awards
+        × IsMedianRate awards result.steps }
 {
     rate_of_part(cut, recognised.as_slice(), 2)
 }
 
-/// The low rate: the least at or below which one twentieth of all awards lie, or more. 0.000 percent where there are none.
+/// The low rate: the least at or below which one twentieth of all awards lie, or more. 0.000 percent where there are
+/// none.
 pub fn low_rate(cut: &Cut, recognised: &Recognised) -> Rate
     requires { total_of recognised.now.lines ≤ most_recognised }
-    ensures { (awards : List RateLine) × AreAwardsOf cut.now recognised.now.lines awards × IsLowRate awards result.steps }
+    ensures { (awards : List RateLine) × AreAwardsOf cut.now recognised.now.lines awards
+        × IsLowRate awards result.steps }
 {
     rate_of_part(cut, recognised.as_slice(), 20)
 }

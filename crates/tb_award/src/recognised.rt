@@ -25,7 +25,11 @@ impl Model for Recognised {
 
     ghost Value = { Recognition };
 
-    ghost view = { λ r. record { lines = r.lines.items; line_room = vec_capacity r.lines; bidder_room = vec_capacity r.taken } };
+    ghost view = { λ r. record {
+      lines = r.lines.items;
+      line_room = vec_capacity r.lines;
+      bidder_room = vec_capacity r.taken;
+    } };
 
     ghost invariant = { λ r. AllPairs IsEarlier r.lines.items × All (λ line. 0 < line.amount.value) r.lines.items };
 }

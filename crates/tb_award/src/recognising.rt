@@ -1,5 +1,6 @@
 //! What is recognised of the lines of a book (31 CFR 356.12 and 356.22).
-ghost use Rattle.std.specs.Prelude.{◌≡◌, ◌+◌, ◌*◌, ◌%◌, ◌<◌, ◌≤◌, ◌↔◌, ◌++◌, ◌∷◌, [], length, replicate, slice_index, min, All, IfOk, IsTrue, List, vec_len, vec_capacity};
+ghost use Rattle.std.specs.Prelude.{◌≡◌, ◌+◌, ◌*◌, ◌%◌, ◌<◌, ◌≤◌, ◌↔◌, ◌++◌, ◌∷◌, [], length, replicate, slice_index};
+ghost use Rattle.std.specs.Prelude.{min, All, IfOk, IsTrue, List, vec_len, vec_capacity};
 ghost use Rattle.tb_units.specs.declared.lines.RateLine.{RateLine};
 ghost use Rattle.tb_units.specs.LineOrder.{AreInOrder};
 ghost use Rattle.tb_award.specs.Cuts.{total_of};
@@ -14,8 +15,9 @@ use std::alloc::Global;
 use std::sync::ledger::Ledger;
 use tb_units::{Dollars, Lines, OutOfMemory, RateLine, Steps};
 
-/// What is recognised of lines in order. `positions` has each bidder's reported position by its number, in whole dollars; a
-/// negative one counts as zero. The offering is a multiple of 100. `OutOfMemory` where the memory for the result is wanting.
+/// What is recognised of lines in order. `positions` has each bidder's reported position by its number, in whole
+/// dollars; a negative one counts as zero. The offering is a multiple of 100. `OutOfMemory` where the memory for the
+/// result is wanting.
 pub fn recognise<B: Lines, L: Ledger>(
     alloc: Global,
     lines: &B,
@@ -25,7 +27,8 @@ pub fn recognise<B: Lines, L: Ledger>(
 ) -> Result<Recognised, OutOfMemory>
     requires hundreds { offering.value % 100 ≡ 0 }
     requires known { All (λ line. line.bidder < length positions.now) (B.lines_of lines.now) }
-    ensures recognised { IfOk result (λ recognised. IsRecognitionOf (B.lines_of lines.now) positions.now offering.value recognised.lines) }
+    ensures recognised { IfOk result
+        (λ recognised. IsRecognitionOf (B.lines_of lines.now) positions.now offering.value recognised.lines) }
     // No more is recognised than is bid.
     ensures within { IfOk result (λ recognised. total_of recognised.lines ≤ total_of (B.lines_of lines.now)) }
     ensures steps { steps.new ≤ steps.old + length (B.lines_of lines.now) * B.cost lines.now }
@@ -92,7 +95,8 @@ fn recognise_lines<B: Lines, L: Ledger>(
     requires known { All (λ line. line.bidder < length positions.now) (B.lines_of lines.now) }
     requires room { length (B.lines_of lines.now) ≤ vec_capacity recognised.old }
     requires none { AreSettledOf [] positions.now offering.value recognised.old.items taken.old.items }
-    ensures settled { AreSettledOf (B.lines_of lines.now) positions.now offering.value recognised.new.items taken.new.items }
+    ensures settled { AreSettledOf (B.lines_of lines.now) positions.now offering.value recognised.new.items
+        taken.new.items }
     ensures room { vec_capacity recognised.new ≡ vec_capacity recognised.old }
     ensures taken_room { vec_capacity taken.new ≡ vec_capacity taken.old }
     ensures steps { steps.new ≤ steps.old + length (B.lines_of lines.now) * B.cost lines.now }

@@ -275,8 +275,8 @@ fn may_be_cut(recognised: &Recognised, days: Days) -> bool
     true
 }
 
-// The cut, the sum of the awards, the median and the low rate of an auction of so much of a bill of 91 days. Stops the test
-// where the cut may not be asked for.
+// The cut, the sum of the awards, the median and the low rate of an auction of so much of a bill of 91 days. Stops the
+// test where the cut may not be asked for.
 fn figures(
     rt: &impl Abort,
     recognised: &Recognised,

@@ -20,7 +20,8 @@ pub fn recognise_uncounted<B: Lines>(
 ) -> Result<Recognised, OutOfMemory>
     requires hundreds { offering.value % 100 ≡ 0 }
     requires known { All (λ line. line.bidder < length positions.now) (B.lines_of lines.now) }
-    ensures recognised { IfOk result (λ recognised. IsRecognitionOf (B.lines_of lines.now) positions.now offering.value recognised.lines) }
+    ensures recognised { IfOk result
+        (λ recognised. IsRecognitionOf (B.lines_of lines.now) positions.now offering.value recognised.lines) }
     ensures within { IfOk result (λ recognised. total_of recognised.lines ≤ total_of (B.lines_of lines.now)) }
 {
     let mut recognised = Recognised::empty(alloc);

@@ -1,5 +1,6 @@
 -- What an accepted message has passed.
-use Rattle.std.proofs.Common.{◌≡◌, ℕ, Bool, true, false, not, cond, Option, Some, None, inl, inr, List, [], ◌∷◌, ◌++◌, map, refl, nat_le}
+use Rattle.std.proofs.Common.{◌≡◌, ℕ, Bool, true, false, not, cond, Option, Some, None}
+use Rattle.std.proofs.Common.{inl, inr, List, [], ◌∷◌, ◌++◌, map, refl, nat_le}
 use Rattle.std.specs.List.{AllByRecursion}
 use Rattle.std.proofs.lemmas.Bool.{cases_Bool, not-false}
 use Rattle.tb_units.specs.declared.moment.Moment.{Moment}
@@ -23,14 +24,17 @@ passes true r rest n m accepted = cc
 passes false r rest n m accepted = (refl, accepted)
 
 -- and no message stands under its number
-number_rows-accepted : (found : Option Entry) (message : Message) (rest : List (Verdict × Bool)) (n : ℕ) (m : Moment)
-    → first_of (number_rows found message ++ rest) (verdict.Accepted n m) ≡ verdict.Accepted n m
-    → (found ≡ None) × (first_of rest (verdict.Accepted n m) ≡ verdict.Accepted n m)
-number_rows-accepted None message rest n m accepted = (refl, accepted)
-number_rows-accepted (Some entry) message rest n m accepted =
+number_rows-accepted : (found : Option Entry) (message : Message) (rest : List (Verdict × Bool)) (number : ℕ)
+    (m : Moment)
+    → first_of (number_rows found message ++ rest) (verdict.Accepted number m) ≡ verdict.Accepted number m
+    → (found ≡ None) × (first_of rest (verdict.Accepted number m) ≡ verdict.Accepted number m)
+number_rows-accepted None message rest number m accepted = (refl, accepted)
+number_rows-accepted (Some entry) message rest number m accepted =
     elim (cases_Bool (same_message entry.message message)) [
-      | inl is ↦ let wrong : verdict.Repeat entry.number entry.moment ≡ verdict.Accepted n m = rw is at accepted in cc
-      | inr isnt ↦ let wrong : verdict.Refused refusal.NumberReused ≡ verdict.Accepted n m = rw isnt at accepted in cc
+      | inl is ↦ let wrong : verdict.Repeat entry.number entry.moment ≡ verdict.Accepted number m = rw is at accepted in
+          cc
+      | inr isnt ↦ let wrong : verdict.Refused refusal.NumberReused ≡ verdict.Accepted number m = rw isnt at accepted in
+          cc
     ]
 
 -- the row's cause doesn't hold
@@ -38,35 +42,36 @@ abbrev pub IsClear : Row → Type 0
 IsClear row = row.1 ≡ false
 
 -- no cause of its rows holds
-pub rows-clear : (rows : List Row) (n : ℕ) (m : Moment)
-    → first_of (map refused rows) (verdict.Accepted n m) ≡ verdict.Accepted n m
+pub rows-clear : (rows : List Row) (number : ℕ) (m : Moment)
+    → first_of (map refused rows) (verdict.Accepted number m) ≡ verdict.Accepted number m
     → AllByRecursion IsClear rows
-rows-clear [] n m accepted = tt
-rows-clear (row ∷ rows) n m accepted =
-    let one = passes row.1 row.0 (first_of (map refused rows) (verdict.Accepted n m)) n m accepted in
-    (one.0, rows-clear rows n m one.1)
+rows-clear [] number m accepted = tt
+rows-clear (row ∷ rows) number m accepted =
+    let one = passes row.1 row.0 (first_of (map refused rows) (verdict.Accepted number m)) number m accepted in
+    (one.0, rows-clear rows number m one.1)
 
 -- an accepted message has passed each row
-pub record Passes (h : List Entry) (s : List ℕ) (n : ℕ) (moment : Moment) (message : Message) : Type 0 where
-  pub caller : is_caller (registrations h) s ≡ true
-  pub permitted : is_permitted s message ≡ true
-  pub unused : kept h s n ≡ None
-  pub quota : nat_le 1048576 (sent_by h s) ≡ false
-  pub rows : AllByRecursion IsClear (rows_of h s moment message)
+pub record Passes (history : List Entry) (submitter : List ℕ) (number : ℕ) (moment : Moment)
+    (message : Message) : Type 0 where
+  pub caller : is_caller (registrations history) submitter ≡ true
+  pub permitted : is_permitted submitter message ≡ true
+  pub unused : kept history submitter number ≡ None
+  pub quota : nat_le 1048576 (sent_by history submitter) ≡ false
+  pub rows : AllByRecursion IsClear (rows_of history submitter moment message)
 
 -- it has
-pub accepted-passes : (h : List Entry) (s : List ℕ) (n : ℕ) (moment : Moment) (message : Message)
-    → verdict_on h s n moment message ≡ verdict.Accepted n moment
-    → Passes h s n moment message
-accepted-passes h s n moment message accepted =
-    let caller = passes (not (is_caller (registrations h) s)) refusal.UnknownKey _ n moment accepted in
-    let permitted = passes (not (is_permitted s message)) refusal.NotPermitted _ n moment caller.1 in
-    let number = number_rows-accepted (kept h s n) message _ n moment permitted.1 in
-    let quota = passes (nat_le 1048576 (sent_by h s)) refusal.MessageQuota _ n moment number.1 in
+pub accepted-passes : (history : List Entry) (submitter : List ℕ) (n : ℕ) (moment : Moment) (message : Message)
+    → verdict_on history submitter n moment message ≡ verdict.Accepted n moment
+    → Passes history submitter n moment message
+accepted-passes history submitter n moment message accepted =
+    let caller = passes (not (is_caller (registrations history) submitter)) refusal.UnknownKey _ n moment accepted in
+    let permitted = passes (not (is_permitted submitter message)) refusal.NotPermitted _ n moment caller.1 in
+    let number = number_rows-accepted (kept history submitter n) message _ n moment permitted.1 in
+    let quota = passes (nat_le 1048576 (sent_by history submitter)) refusal.MessageQuota _ n moment number.1 in
     record {
       caller = not-false _ caller.0;
       permitted = not-false _ permitted.0;
       unused = number.0;
       quota = quota.0;
-      rows = rows-clear (rows_of h s moment message) n moment quota.1;
+      rows = rows-clear (rows_of history submitter moment message) n moment quota.1;
     }

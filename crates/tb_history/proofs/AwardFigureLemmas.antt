@@ -1,5 +1,6 @@
 -- The awards of a bidding are those of what is recognised of its lines.
-use Rattle.std.proofs.Common.{◌≡◌, ◌≢◌, ℕ, zero, suc, ◌+◌, ◌*◌, ◌/◌, ◌%◌, ◌<◌, ◌==◌, cond, nat_lt, if◌then◌else◌, inl, inr, List, [], ◌∷◌, length, All, refl, sym, ap, ◌∙◌, arith}
+use Rattle.std.proofs.Common.{◌≡◌, ◌≢◌, ℕ, zero, suc, ◌+◌, ◌*◌, ◌/◌, ◌%◌, ◌<◌, ◌==◌, cond, nat_lt, if◌then◌else◌}
+use Rattle.std.proofs.Common.{inl, inr, List, [], ◌∷◌, length, All, refl, sym, ap, ◌∙◌, arith}
 use Rattle.std.specs.List.{AllPairs}
 use Rattle.std.proofs.lemmas.Bool.{cases_Bool, both_ways, eqb-true, eq-eqb, ltb-true, lt-ltb}
 use Rattle.std.proofs.lemmas.List.Elements.{All-head, All-tail}
@@ -13,9 +14,11 @@ use Rattle.tb_award.specs.Recognition.{bid_in, sum_under, recognised_at, limits_
 use Rattle.tb_award.proofs.BidLemmas.{IsBidOf, bid_in-none}
 use Rattle.tb_history.specs.declared.roster.Enrolment.{Enrolment}
 use Rattle.tb_history.specs.Values.{rounded_up}
-use Rattle.tb_history.specs.Awarded.{Bidding, rates, recognised_for, prorated, stop_of, percent_of, award_at, awards_under}
+use Rattle.tb_history.specs.Awarded.{Bidding, rates, recognised_for, prorated, stop_of}
+use Rattle.tb_history.specs.Awarded.{percent_of, award_at, awards_under}
 use Rattle.tb_history.specs.Readings.{AreDistinct, bidder_at, lines_of, positions_of, AreRecognisedOf}
-use Rattle.tb_history.proofs.GridLemmas.{cell_of, sum_under_agree, sum_under_none, sum_under_once, other_rate, other_bidder, cases_bid, later-other, bid_in-recognised}
+use Rattle.tb_history.proofs.GridLemmas.{cell_of, sum_under_agree, sum_under_none, sum_under_once, other_rate}
+use Rattle.tb_history.proofs.GridLemmas.{other_bidder, cases_bid, later-other, bid_in-recognised}
 use Rattle.tb_history.proofs.FigureLemmas.{let_through-bidder, positions-length, rates-below}
 use Rattle.tb_history.proofs.CutFigureLemmas.{rounded_up-is}
 
@@ -53,7 +56,8 @@ award_cell-zero stop percent steps =
 
 -- an award of a line is that of its amount at its rate
 award_cell-is : (stop percent steps recognised award : ℕ)
-    → IsAward stop percent steps recognised award → award ≡ award_cell stop percent steps recognised
+    → IsAward stop percent steps recognised award
+    → award ≡ award_cell stop percent steps recognised
 award_cell-is stop percent steps recognised award is =
     elim (cases_Bool (nat_lt steps stop)) [
       | inl low ↦ rw low (is.whole (ltb-true steps stop low))
@@ -102,6 +106,7 @@ bid_in-awards stop percent (line ∷ lines) (award ∷ awards) bidder steps orde
           rw whole (omega (arith, split_awards, there, rest))
     ]
   where
+    -- a line of another bid has nothing there
     none_of : (line : RateLine) (bidder steps : ℕ) → ¬ (IsBidOf bidder steps line) → cell_of line bidder steps ≡ 0
     none_of line bidder steps isnt =
         elim (cases_Bool (line.bidder == bidder)) [
@@ -134,7 +139,8 @@ sum_under_sum f g (suc bound) = omega (arith, sum_under_sum f g bound)
 
 -- all its lines
 awarded_to-row : (lines : List RateLine) (bidder bound : ℕ)
-    → All (λ line. line.rate.steps < bound) lines → awarded_to bidder lines ≡ sum_under (bid_in lines bidder) bound
+    → All (λ line. line.rate.steps < bound) lines
+    → awarded_to bidder lines ≡ sum_under (bid_in lines bidder) bound
 awarded_to-row [] bidder bound within = sym (sum_under_none (bid_in [] bidder) bound (λ n below. refl))
 awarded_to-row (line ∷ lines) bidder bound within =
     let P : RateLine → Type 0 = λ l. l.rate.steps < bound in
@@ -153,7 +159,8 @@ awarded_to-row (line ∷ lines) bidder bound within =
 
 -- what is recognised of a number's lines at a rate is what is recognised of its bidder
 recognised_at-bidder : (bidding : Bidding) (number steps : ℕ) (d : Enrolment)
-    → AreDistinct bidding.enrolled → number < length bidding.enrolled
+    → AreDistinct bidding.enrolled
+    → number < length bidding.enrolled
     → recognised_at (bid_in (lines_of bidding) number) (cap_of bidding.announcement.offering.value)
     (limits_by bidding.announcement.offering.value (positions_of bidding) number) steps
     ≡ recognised_for bidding (bidder_at bidding.enrolled number d) steps

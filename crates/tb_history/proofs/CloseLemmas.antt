@@ -1,5 +1,7 @@
 -- The bidding of a legal history, and how close its awards come to what is sought.
-use Rattle.std.proofs.Common.{◌≡◌, ◌≢◌, ℕ, ◌-◌, ◌*◌, ◌%◌, ◌<◌, ◌≤◌, ◌==◌, Bool, true, false, not, Option, Some, None, is_some, inl, inr, List, [], ◌∷◌, ◌++◌, length, get_or, All, refl, ap, subst, arith, append-nil}
+use Rattle.std.proofs.Common.{◌≡◌, ◌≢◌, ℕ, ◌-◌, ◌*◌, ◌%◌, ◌<◌, ◌≤◌, ◌==◌, Bool, true, false, not}
+use Rattle.std.proofs.Common.{Option, Some, None, is_some, inl, inr, List, [], ◌∷◌, ◌++◌, length}
+use Rattle.std.proofs.Common.{get_or, All, refl, ap, subst, arith, append-nil}
 use Rattle.std.specs.List.{AllByRecursion, filter, flat_map}
 use Rattle.std.proofs.lemmas.Bool.{both_ways, eqb-true, or_parts, not-false}
 use Rattle.std.proofs.lemmas.List.Elements.{All-nil, All-cons}
@@ -39,40 +41,45 @@ use Rattle.tb_history.proofs.ClosedLemmas.{IsInOrder, IsLegal-in_order, found-in
 use Rattle.tb_history.proofs.CutFigureLemmas.{HasPar-bidding}
 
 -- an accepted enrolment is of a bidder that isn't enrolled
-new_bidder : (enrolled : List Enrolment) (bidder : List ℕ) → is_some (enrolment_of enrolled bidder) ≡ false
-    → (k : ℕ) (d : Enrolment) → k < length enrolled → (get_or enrolled k d).bidder ≢ bidder
+new_bidder : (enrolled : List Enrolment) (bidder : List ℕ)
+    → is_some (enrolment_of enrolled bidder) ≡ false
+    → (k : ℕ) (d : Enrolment)
+    → k < length enrolled
+    → (get_or enrolled k d).bidder ≢ bidder
 new_bidder enrolled bidder unknown k d within same =
-    let test : Enrolment → Bool = λ (e : Enrolment). is_same e.bidder bidder in
+    let test : Enrolment → Bool = λ (enrolment : Enrolment). is_same enrolment.bidder bidder in
     let fails : test (get_or enrolled k d) ≡ false =
     find_none test enrolled (none_of (enrolment_of enrolled bidder) unknown) k d within in
     both_ways (test (get_or enrolled k d)) fails (subst
     (λ (x : List ℕ). is_same (get_or enrolled k d).bidder x ≡ true) same
     (is_same-refl (get_or enrolled k d).bidder))
   where
+    -- what is not there is none
     none_of : (found : Option Enrolment) → is_some found ≡ false → found ≡ None
     none_of None lacks = refl
-    none_of (Some e) lacks = absurd cc
+    none_of (Some enrolment) lacks = absurd cc
 
 -- so an accepted message enrols nobody twice
-distinct-message : (h : List Entry) (s : List ℕ) (moment : Moment) (m : Message)
-    → AllByRecursion IsClear (rows_of h s moment m)
-    → AreDistinct (enrolments h)
-    → AreDistinct (enrolments h ++ enrolled_by m)
-distinct-message h s moment (message.Enrol bidder submitter) clear distinct =
-    all_pairs_push (λ (one other : Enrolment). one.bidder ≢ other.bidder) (enrolments h)
+distinct-message : (history : List Entry) (sender : List ℕ) (moment : Moment) (sent : Message)
+    → AllByRecursion IsClear (rows_of history sender moment sent)
+    → AreDistinct (enrolments history)
+    → AreDistinct (enrolments history ++ enrolled_by sent)
+distinct-message history sender moment (message.Enrol bidder submitter) clear distinct =
+    all_pairs_push (λ (one other : Enrolment). one.bidder ≢ other.bidder) (enrolments history)
     (record { bidder = bidder; submitter = submitter }) distinct
-    (λ k d within. new_bidder (enrolments h) bidder clear.1.0 k d within)
-distinct-message h s moment other clear distinct = rw (append-nil (enrolments h)) distinct
+    (λ k d within. new_bidder (enrolments history) bidder clear.1.0 k d within)
+distinct-message history sender moment other clear distinct = rw (append-nil (enrolments history)) distinct
 
 -- and stays so with an accepted entry
-distinct-push : (h : List Entry) (e : Entry)
-    → IsLegal h
-    → AreDistinct (enrolments h)
-    → Follows h e
-    → AreDistinct (enrolments (h ++ e ∷ []))
-distinct-push h e legal distinct follows =
-    let passed = accepted-passes h e.submitter e.number e.moment e.message follows.accepted in
-    rw (enrolments-snoc h e) (distinct-message h e.submitter e.moment e.message passed.rows distinct)
+distinct-push : (history : List Entry) (entry : Entry)
+    → IsLegal history
+    → AreDistinct (enrolments history)
+    → Follows history entry
+    → AreDistinct (enrolments (history ++ entry ∷ []))
+distinct-push history entry legal distinct follows =
+    let passed = accepted-passes history entry.submitter entry.number entry.moment entry.message follows.accepted in
+    rw (enrolments-snoc history entry) (distinct-message history entry.submitter entry.moment entry.message passed.rows
+    distinct)
 
 -- nobody is enrolled yet
 distinct-nil : AreDistinct (enrolments [])
@@ -80,8 +87,9 @@ unfolding enrolments
 distinct-nil = AllPairs-nil (λ (one other : Enrolment). one.bidder ≢ other.bidder)
 
 -- no bidder is enrolled twice
-pub IsLegal-distinct : (h : List Entry) → IsLegal h → AreDistinct (enrolments h)
-IsLegal-distinct h legal = by_entries (λ h. AreDistinct (enrolments h)) distinct-nil distinct-push h legal
+pub IsLegal-distinct : (history : List Entry) → IsLegal history → AreDistinct (enrolments history)
+IsLegal-distinct history legal =
+    by_entries (λ history. AreDistinct (enrolments history)) distinct-nil distinct-push history legal
 
 -- a bid is of whole hundreds
 abbrev pub IsHundreds : Bid → Type 0
@@ -101,26 +109,27 @@ bid_rows-hundreds None enrolled standing moment rate amount clear = let wrong : 
 bid_rows-hundreds (Some a) enrolled standing moment rate amount clear = no_par-hundreds amount clear.1.1.0
 
 -- what an accepted message bids is of whole hundreds
-bid_by-hundreds : (h : List Entry) (s : List ℕ) (n : ℕ) (moment : Moment) (m : Message)
-    → AllByRecursion IsClear (rows_of h s moment m)
-    → AllByRecursion IsHundreds (bid_by s n m)
-bid_by-hundreds h s n moment (message.Bid auction bidder rate amount) clear = (
-  bid_rows-hundreds (announcement_of (announcements h) auction) (is_enrolled h bidder s)
-      (standing_of (bids h) (cancels h) (reports h) auction bidder) moment rate amount.value clear,
+bid_by-hundreds : (history : List Entry) (submitter : List ℕ) (number : ℕ) (moment : Moment) (sent : Message)
+    → AllByRecursion IsClear (rows_of history submitter moment sent)
+    → AllByRecursion IsHundreds (bid_by submitter number sent)
+bid_by-hundreds history submitter number moment (message.Bid auction bidder rate amount) clear = (
+  bid_rows-hundreds (announcement_of (announcements history) auction) (is_enrolled history bidder submitter)
+      (standing_of (bids history) (cancels history) (reports history) auction bidder) moment rate amount.value clear,
   tt,
 )
-bid_by-hundreds h s n moment other clear = tt
+bid_by-hundreds history submitter number moment other clear = tt
 
 -- and stays so with an accepted entry
-hundreds-push : (h : List Entry) (e : Entry)
-    → IsLegal h
-    → AllByRecursion IsHundreds (bids h)
-    → Follows h e
-    → AllByRecursion IsHundreds (bids (h ++ e ∷ []))
-hundreds-push h e legal hundreds follows =
-    let passed = accepted-passes h e.submitter e.number e.moment e.message follows.accepted in
-    rw (bids-snoc h e) (AllByRecursion-append IsHundreds (bids h) (bid_by e.submitter e.number e.message) hundreds
-    (bid_by-hundreds h e.submitter e.number e.moment e.message passed.rows))
+hundreds-push : (history : List Entry) (entry : Entry)
+    → IsLegal history
+    → AllByRecursion IsHundreds (bids history)
+    → Follows history entry
+    → AllByRecursion IsHundreds (bids (history ++ entry ∷ []))
+hundreds-push history entry legal hundreds follows =
+    let passed = accepted-passes history entry.submitter entry.number entry.moment entry.message follows.accepted in
+    rw (bids-snoc history entry) (AllByRecursion-append IsHundreds (bids history)
+    (bid_by entry.submitter entry.number entry.message) hundreds
+    (bid_by-hundreds history entry.submitter entry.number entry.moment entry.message passed.rows))
 
 -- nothing is bid yet
 hundreds-nil : AllByRecursion IsHundreds (bids [])
@@ -128,8 +137,9 @@ unfolding bids
 hundreds-nil = tt
 
 -- every accepted bid is
-pub IsLegal-hundreds : (h : List Entry) → IsLegal h → AllByRecursion IsHundreds (bids h)
-IsLegal-hundreds h legal = by_entries (λ h. AllByRecursion IsHundreds (bids h)) hundreds-nil hundreds-push h legal
+pub IsLegal-hundreds : (history : List Entry) → IsLegal history → AllByRecursion IsHundreds (bids history)
+IsLegal-hundreds history legal =
+    by_entries (λ history. AllByRecursion IsHundreds (bids history)) hundreds-nil hundreds-push history legal
 
 -- by recursion or by place
 pub All-from : {X : Type 0} (P : X → Type 0) (xs : List X) → AllByRecursion P xs → All P xs
@@ -137,43 +147,48 @@ All-from P [] all = All-nil P
 All-from P (x ∷ xs) all = All-cons P x xs all.0 (All-from P xs all.1)
 
 -- the lines of such bids are of whole hundreds
-line_of-hundreds : (enrolled : List Enrolment) (b : Bid) (rate : Option Rate)
-    → IsHundreds b → AllByRecursion IsInHundreds (line_of enrolled b rate)
-line_of-hundreds enrolled b None hundreds = tt
-line_of-hundreds enrolled b (Some rate) hundreds = (hundreds, tt)
+line_of-hundreds : (enrolled : List Enrolment) (bid : Bid) (rate : Option Rate)
+    → IsHundreds bid
+    → AllByRecursion IsInHundreds (line_of enrolled bid rate)
+line_of-hundreds enrolled bid None hundreds = tt
+line_of-hundreds enrolled bid (Some rate) hundreds = (hundreds, tt)
 
 -- all lines of such bids
 lines-hundreds : (enrolled : List Enrolment) (live : List Bid)
     → AllByRecursion IsHundreds live
-    → AllByRecursion IsInHundreds (flat_map (λ (b : Bid). line_of enrolled b b.rate) live)
+    → AllByRecursion IsInHundreds (flat_map (λ (bid : Bid). line_of enrolled bid bid.rate) live)
 lines-hundreds enrolled [] hundreds = tt
 lines-hundreds enrolled (b ∷ live) hundreds =
     AllByRecursion-append IsInHundreds (line_of enrolled b b.rate)
-    (flat_map (λ (b : Bid). line_of enrolled b b.rate) live) (line_of-hundreds enrolled b b.rate hundreds.0)
+    (flat_map (λ (bid : Bid). line_of enrolled bid bid.rate) live) (line_of-hundreds enrolled b b.rate hundreds.0)
     (lines-hundreds enrolled live hundreds.1)
 
 -- the lines of a bidding are of whole hundreds
-pub bidding-hundreds : (h : List Entry) (a : Announcement) → IsLegal h → All IsInHundreds (lines_of (bidding_in h a))
+pub bidding-hundreds : (history : List Entry) (announcement : Announcement)
+    → IsLegal history
+    → All IsInHundreds (lines_of (bidding_in history announcement))
 unfolding lines_of
-bidding-hundreds h a legal =
-    let inside : Bid → Bool = λ (b : Bid). is_same b.auction a.auction in
-    let all = IsLegal-hundreds h legal in
-    let live : AllByRecursion IsHundreds (filter (is_live (cancels h)) (filter inside (bids h))) =
-    AllByRecursion-filter IsHundreds (is_live (cancels h)) (filter inside (bids h))
-    (AllByRecursion-weaker IsHundreds _ (λ b is lives. is) (filter inside (bids h))
-    (AllByRecursion-filter IsHundreds inside (bids h)
-    (AllByRecursion-weaker IsHundreds _ (λ b is own. is) (bids h) all))) in
-    All-from IsInHundreds _ (lines-hundreds (enrolments h) _ live)
+bidding-hundreds history announcement legal =
+    let inside : Bid → Bool = λ (bid : Bid). is_same bid.auction announcement.auction in
+    let all = IsLegal-hundreds history legal in
+    let live : AllByRecursion IsHundreds (filter (is_live (cancels history)) (filter inside (bids history))) =
+    AllByRecursion-filter IsHundreds (is_live (cancels history)) (filter inside (bids history))
+    (AllByRecursion-weaker IsHundreds _ (λ bid is lives. is) (filter inside (bids history))
+    (AllByRecursion-filter IsHundreds inside (bids history)
+    (AllByRecursion-weaker IsHundreds _ (λ bid is own. is) (bids history) all))) in
+    All-from IsInHundreds _ (lines-hundreds (enrolments history) _ live)
 
 -- something is sought in every announced auction
-pub IsLegal-sought : (h : List Entry) (auction : List ℕ) (a : Announcement) → IsLegal h
-    → announcement_of (announcements h) auction ≡ Some a
-    → 100 ≤ sought_in (bidding_in h a)
-IsLegal-sought h auction a legal found =
+pub IsLegal-sought : (history : List Entry) (auction : List ℕ) (terms : Announcement)
+    → IsLegal history
+    → announcement_of (announcements history) auction ≡ Some terms
+    → 100 ≤ sought_in (bidding_in history terms)
+IsLegal-sought history auction terms legal found =
     let in_order =
-    found-in IsInOrder (λ (x : Announcement). is_same x.auction auction) (announcements h) a
-    (IsLegal-in_order h legal) found in
-    omega (arith, amounts_of a in_order)
+    found-in IsInOrder (λ (announcement : Announcement). is_same announcement.auction auction)
+    (announcements history) terms
+    (IsLegal-in_order history legal) found in
+    omega (arith, amounts_of terms in_order)
 
 -- nothing is recognised just where the list is empty
 total-none : (lines : List RateLine) → All (λ line. 0 < line.amount.value) lines → total_of lines ≡ 0 → lines ≡ []
@@ -183,7 +198,8 @@ total-none (line ∷ lines) some none =
 
 -- so nothing is recognised in all just where the list is empty
 pub recognised-none_is : (bidding : Bidding) (recognised : List RateLine)
-    → AreDistinct bidding.enrolled → AreRecognisedOf bidding recognised
+    → AreDistinct bidding.enrolled
+    → AreRecognisedOf bidding recognised
     → (par_in_all bidding ≡ 0 → recognised ≡ []) × (recognised ≡ [] → par_in_all bidding ≡ 0)
 unfolding par_in_all
 recognised-none_is bidding recognised distinct are =
@@ -193,20 +209,22 @@ recognised-none_is bidding recognised distinct are =
     )
 
 -- the awards come close
-pub IsLegal-close : (h : List Entry) (auction : List ℕ) (a : Announcement) (recognised awards : List RateLine)
-    (stop percent : ℕ)
-    → IsLegal h
-    → announcement_of (announcements h) auction ≡ Some a
-    → AreRecognisedOf (bidding_in h a) recognised
-    → IsCut (par_of recognised) (sought_in (bidding_in h a)) stop percent
+pub IsLegal-close : (history : List Entry) (auction : List ℕ) (announcement : Announcement)
+    (recognised awards : List RateLine) (stop percent : ℕ)
+    → IsLegal history
+    → announcement_of (announcements history) auction ≡ Some announcement
+    → AreRecognisedOf (bidding_in history announcement) recognised
+    → IsCut (par_of recognised) (sought_in (bidding_in history announcement)) stop percent
     → AreAwards stop percent recognised awards
-    → (sought_in (bidding_in h a) ≤ total_of recognised → AreClose recognised (sought_in (bidding_in h a)) stop awards)
-    × (total_of recognised < sought_in (bidding_in h a) → awards ≡ recognised)
+    → (sought_in (bidding_in history announcement) ≤ total_of recognised
+    → AreClose recognised (sought_in (bidding_in history announcement)) stop awards)
+    × (total_of recognised < sought_in (bidding_in history announcement) → awards ≡ recognised)
     × AreWithin recognised awards
-IsLegal-close h auction a recognised awards stop percent legal found are (inl reaches) awards_are =
-    let bidding = bidding_in h a in
-    let some = IsLegal-sought h auction a legal found in
-    let hundreds = IsRecognitionOf-hundreds (lines_of bidding) _ _ recognised (bidding-hundreds h a legal) are in
+IsLegal-close history auction announcement recognised awards stop percent legal found are (inl reaches) awards_are =
+    let bidding = bidding_in history announcement in
+    let some = IsLegal-sought history auction announcement legal found in
+    let hundreds = IsRecognitionOf-hundreds (lines_of bidding) _ _ recognised
+    (bidding-hundreds history announcement legal) are in
     let reached =
     omega_reached (sought_in bidding) (par_of recognised (up_to stop)) (total_of recognised) reaches.reached
     (par_of-le (up_to stop) recognised) in
@@ -218,13 +236,15 @@ IsLegal-close h auction a recognised awards stop percent legal found are (inl re
       AreAwards-within stop percent recognised awards (reaches.least_percent 10000 whole) hundreds awards_are,
     )
   where
+    -- what a part reaches the whole reaches
     omega_reached : (sought up total : ℕ) → sought ≤ up → up ≤ total → sought ≤ total
     omega_reached sought up total reached within = omega (arith, reached, within)
-IsLegal-close h auction a recognised awards stop percent legal found are (inr short) awards_are =
-    let bidding = bidding_in h a in
-    let distinct = IsLegal-distinct h legal in
+IsLegal-close history auction announcement recognised awards stop percent legal found are (inr short) awards_are =
+    let bidding = bidding_in history announcement in
+    let distinct = IsLegal-distinct history legal in
     let par = HasPar-bidding bidding recognised distinct are in
-    let hundreds = IsRecognitionOf-hundreds (lines_of bidding) _ _ recognised (bidding-hundreds h a legal) are in
+    let hundreds = IsRecognitionOf-hundreds (lines_of bidding) _ _ recognised
+    (bidding-hundreds history announcement legal) are in
     let less : total_of recognised < sought_in bidding =
     omega (arith, short.short 199999, par.total, par.up 199999 (omega arith)) in (
       (λ enough. absurd (omega (arith, less, enough))),

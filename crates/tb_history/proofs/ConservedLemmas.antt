@@ -1,8 +1,11 @@
 -- Par is conserved over every legal history.
-use Rattle.std.proofs.Common.{◌≡◌, ◌≢◌, ℕ, suc, zero, ◌+◌, ◌<◌, ◌≤◌, ◌==◌, ◌||◌, Bool, true, false, not, cond, if◌then◌else◌, Option, Some, None, inl, inr, List, [], ◌∷◌, ◌++◌, length, get_or, map, drop, sum_by, refl, sym, ap, ◌∙◌, subst, arith, append-nil}
+use Rattle.std.proofs.Common.{◌≡◌, ◌≢◌, ℕ, suc, zero, ◌+◌, ◌<◌, ◌≤◌, ◌==◌, ◌||◌, Bool, true, false, not, cond}
+use Rattle.std.proofs.Common.{if◌then◌else◌, Option, Some, None, inl, inr, List, [], ◌∷◌, ◌++◌, length, get_or}
+use Rattle.std.proofs.Common.{map, drop, sum_by, refl, sym, ap, ◌∙◌, subst, arith, append-nil}
 use Rattle.std.specs.Prelude.{Contains, option_to_list}
 use Rattle.std.specs.List.{AllPairs, AllByRecursion, flat_map, list_any, position_or_len, prefix_len, take_while}
-use Rattle.std.proofs.lemmas.Bool.{cases_Bool, both_ways, or_cases, or_left, or_right, or_parts, eqb-true, eq-eqb, false_from_ne_true}
+use Rattle.std.proofs.lemmas.Bool.{cases_Bool, both_ways, or_cases, or_left, or_right, or_parts}
+use Rattle.std.proofs.lemmas.Bool.{eqb-true, eq-eqb, false_from_ne_true}
 use Rattle.std.proofs.lemmas.List.{length-map, get_or-map, take-append-drop}
 use Rattle.std.proofs.lemmas.List.Sums.{sum_by-cons, passes_at_first, take_while-cons}
 use Rattle.std.proofs.lemmas.Grind.{flat_map-append}
@@ -26,12 +29,13 @@ use Rattle.tb_history.specs.Roster.{registrations, announcements, redemptions, i
 use Rattle.tb_history.specs.Holdings.{held_of, issued, paid_to, pledged_of, before_redemption, redeems as redeems_bill}
 use Rattle.tb_history.specs.Tables.{rows_of}
 use Rattle.tb_history.specs.Legal.{IsLegal, Follows}
-use Rattle.tb_history.specs.Moves.{Numbering, numbering_of, movements_by, meaning_by, IsNumbered, IsBillNumbered, has_bill, participants_of, AreNumbered}
+use Rattle.tb_history.specs.Moves.{Numbering, numbering_of, movements_by, meaning_by, IsNumbered}
+use Rattle.tb_history.specs.Moves.{IsBillNumbered, has_bill, participants_of, AreNumbered}
 use Rattle.tb_history.proofs.SameLemmas.{is_same-equal, is_same-refl, is_same-sym}
 use Rattle.tb_history.proofs.GrowthLemmas.{registrations-snoc}
 use Rattle.tb_history.proofs.AcceptedLemmas.{IsClear, accepted-passes}
 use Rattle.tb_history.proofs.LegalLemmas.{by_entries}
-use Rattle.tb_history.proofs.PassLemmas.{AreTold, held-told, pledged-told}
+use Rattle.tb_history.proofs.PassLemmas.{IsToldBy, held-told, pledged-told}
 use Rattle.tb_history.proofs.StableLemmas.{or_false}
 use Rattle.tb_history.proofs.HistoryLemmas.{IsLegal-front}
 use Rattle.tb_history.proofs.MovedLemmas.{redeems-message}
@@ -43,7 +47,8 @@ place_by name_of xs name = position_or_len (λ x. is_same (name_of x) name) xs
 
 -- is within where there is one
 place-within : {X : Type 0} (test : X → Bool) (xs : List X)
-    → list_any test xs ≡ true → position_or_len test xs < length xs
+    → list_any test xs ≡ true
+    → position_or_len test xs < length xs
 place-within test [] some = absurd cc
 place-within test (x ∷ xs) some =
     elim (cases_Bool (test x)) [
@@ -76,7 +81,7 @@ place_by-own {X} name_of (x ∷ xs) name other some =
 -- who is there is among the numbers
 contains-number : (number : List ℕ → ℕ) (registered : List Registration) (name : List ℕ)
     → is_registered registered name ≡ true
-    → Contains (map (λ (r : Registration). number r.submitter) registered) (number name)
+    → Contains (map (λ (registration : Registration). number registration.submitter) registered) (number name)
 contains-number number [] name known = absurd cc
 contains-number number (r ∷ rs) name known =
     elim (or_cases (is_same r.submitter name) (is_registered rs name) known) [
@@ -85,14 +90,20 @@ contains-number number (r ∷ rs) name known =
     ]
 
 -- places are numbers
-pub places-numbered : (h : List Entry)
-    → AreNumbered (numbering_of (registrations h) (announcements h))
-    (participants_of (numbering_of (registrations h) (announcements h)) (registrations h)) h
-places-numbered h = record {
-  names = λ name known other. place_by-own (λ (r : Registration). r.submitter) (registrations h) name other known;
-  listed = λ name known. contains-number (numbering_of (registrations h) (announcements h)).holder (registrations h)
+pub places-numbered : (history : List Entry)
+    → AreNumbered (numbering_of (registrations history) (announcements history))
+    (participants_of (numbering_of (registrations history) (announcements history)) (registrations history)) history
+places-numbered history = record {
+  names =
+      λ name known other. place_by-own (λ (registration : Registration). registration.submitter)
+      (registrations history) name other known;
+  listed =
+      λ name known. contains-number (numbering_of (registrations history) (announcements history)).holder
+      (registrations history)
       name known;
-  bills = λ bytes known other. place_by-own (λ (a : Announcement). a.cusip.bytes) (announcements h) bytes other known;
+  bills =
+      λ bytes known other. place_by-own (λ (announcement : Announcement). announcement.cusip.bytes)
+      (announcements history) bytes other known;
 }
 
 -- no submitter is registered twice
@@ -102,7 +113,8 @@ AreSubmitters registered =
 
 -- an accepted registration is of a new name
 new-submitter : (registered : List Registration) (submitter key : List ℕ)
-    → list_any (λ (r : Registration). is_same r.submitter submitter || is_same r.key key) registered ≡ false
+    → list_any (λ (registration : Registration). is_same registration.submitter submitter
+    || is_same registration.key key) registered ≡ false
     → (k : ℕ) (d : Registration) → k < length registered → is_same submitter (get_or registered k d).submitter ≡ false
 new-submitter [] submitter key none k d within = absurd (omega (arith, within))
 new-submitter (r ∷ rs) submitter key none zero d within =
@@ -116,28 +128,30 @@ new-submitter (r ∷ rs) submitter key none (suc k) d within =
     (omega (arith, within))
 
 -- so an accepted message registers nobody twice
-submitters-message : (h : List Entry) (s : List ℕ) (moment : Moment) (m : Message)
-    → AllByRecursion IsClear (rows_of h s moment m)
-    → AreSubmitters (registrations h)
-    → AreSubmitters (registrations h ++ registered_by m)
-submitters-message h s moment (message.Register submitter key) clear distinct =
+submitters-message : (history : List Entry) (sender : List ℕ) (moment : Moment) (sent : Message)
+    → AllByRecursion IsClear (rows_of history sender moment sent)
+    → AreSubmitters (registrations history)
+    → AreSubmitters (registrations history ++ registered_by sent)
+submitters-message history sender moment (message.Register submitter key) clear distinct =
     let none = (or_parts (is_same submitter operator)
-    (list_any (λ (r : Registration). is_same r.submitter submitter || is_same r.key key) (registrations h))
+    (list_any (λ (registration : Registration). is_same registration.submitter submitter
+    || is_same registration.key key) (registrations history))
     clear.0).1 in
-    all_pairs_push (λ (one other : Registration). is_same other.submitter one.submitter ≡ false) (registrations h)
+    all_pairs_push (λ (one other : Registration). is_same other.submitter one.submitter ≡ false) (registrations history)
     (record { submitter = submitter; key = key }) distinct
-    (λ k d within. new-submitter (registrations h) submitter key none k d within)
-submitters-message h s moment other clear distinct = rw (append-nil (registrations h)) distinct
+    (λ k d within. new-submitter (registrations history) submitter key none k d within)
+submitters-message history sender moment other clear distinct = rw (append-nil (registrations history)) distinct
 
 -- and stays so with an accepted entry
-submitters-push : (h : List Entry) (e : Entry)
-    → IsLegal h
-    → AreSubmitters (registrations h)
-    → Follows h e
-    → AreSubmitters (registrations (h ++ e ∷ []))
-submitters-push h e legal distinct follows =
-    let passed = accepted-passes h e.submitter e.number e.moment e.message follows.accepted in
-    rw (registrations-snoc h e) (submitters-message h e.submitter e.moment e.message passed.rows distinct)
+submitters-push : (history : List Entry) (entry : Entry)
+    → IsLegal history
+    → AreSubmitters (registrations history)
+    → Follows history entry
+    → AreSubmitters (registrations (history ++ entry ∷ []))
+submitters-push history entry legal distinct follows =
+    let passed = accepted-passes history entry.submitter entry.number entry.moment entry.message follows.accepted in
+    rw (registrations-snoc history entry) (submitters-message history entry.submitter entry.moment entry.message
+    passed.rows distinct)
 
 -- nobody is registered yet
 submitters-nil : AreSubmitters (registrations [])
@@ -145,12 +159,14 @@ unfolding registrations
 submitters-nil = AllPairs-nil (λ (one other : Registration). is_same other.submitter one.submitter ≡ false)
 
 -- so it is in every legal history
-IsLegal-submitters : (h : List Entry) → IsLegal h → AreSubmitters (registrations h)
-IsLegal-submitters h legal = by_entries (λ h. AreSubmitters (registrations h)) submitters-nil submitters-push h legal
+IsLegal-submitters : (history : List Entry) → IsLegal history → AreSubmitters (registrations history)
+IsLegal-submitters history legal =
+    by_entries (λ history. AreSubmitters (registrations history)) submitters-nil submitters-push history legal
 
 -- an element is registered
 pub registered-at : (registered : List Registration) (k : ℕ) (d : Registration)
-    → k < length registered → is_registered registered (get_or registered k d).submitter ≡ true
+    → k < length registered
+    → is_registered registered (get_or registered k d).submitter ≡ true
 registered-at [] k d within = absurd (omega (arith, within))
 registered-at (r ∷ rs) zero d within = or_left (is_same r.submitter r.submitter) _ (is_same-refl r.submitter)
 registered-at (r ∷ rs) (suc k) d within =
@@ -178,15 +194,17 @@ numbers-once numbers (r ∷ rs) distinct names = λ i j d before within same.
     ∙ eq-eqb (numbers.holder one.submitter) (numbers.holder other.submitter) equal)
 
 -- the numbers of a legal history are its participants
-AreParticipants-places : (h : List Entry) → IsLegal h
-    → movements.AreParticipants (participants_of (numbering_of (registrations h) (announcements h)) (registrations h))
-    (movements_by (numbering_of (registrations h) (announcements h)) h)
-AreParticipants-places h legal =
-    let numbers = numbering_of (registrations h) (announcements h) in
-    let are = places-numbered h in
+AreParticipants-places : (history : List Entry)
+    → IsLegal history
+    → movements.AreParticipants (participants_of (numbering_of (registrations history) (announcements history))
+    (registrations history))
+    (movements_by (numbering_of (registrations history) (announcements history)) history)
+AreParticipants-places history legal =
+    let numbers = numbering_of (registrations history) (announcements history) in
+    let are = places-numbered history in
     record {
-      once = numbers-once numbers (registrations h) (IsLegal-submitters h legal) are.names;
-      all = (IsLegal-told numbers (participants_of numbers (registrations h)) h legal are).reaches;
+      once = numbers-once numbers (registrations history) (IsLegal-submitters history legal) are.names;
+      all = (IsLegal-told numbers (participants_of numbers (registrations history)) history legal are).reaches;
     }
 
 -- a sum over what is made of elements
@@ -199,7 +217,8 @@ sum_by-made f make (x ∷ xs) =
 
 -- sums of numbers that agree on the elements
 sum_by-each : {X : Type 0} (f g : X → ℕ) (xs : List X)
-    → ((k : ℕ) (d : X) → k < length xs → f (get_or xs k d) ≡ g (get_or xs k d)) → sum_by f xs ≡ sum_by g xs
+    → ((k : ℕ) (d : X) → k < length xs → f (get_or xs k d) ≡ g (get_or xs k d))
+    → sum_by f xs ≡ sum_by g xs
 sum_by-each f g [] same = refl
 sum_by-each f g (x ∷ xs) same =
     sum_by-cons f x xs
@@ -207,56 +226,62 @@ sum_by-each f g (x ∷ xs) same =
     ∙ sym (sum_by-cons g x xs))
 
 -- what all participants hold is what is issued and not redeemed
-pub held-sum : (h : List Entry) (cusip : Cusip) → IsLegal h → has_bill (announcements h) cusip.bytes ≡ true
-    → sum_by (λ (r : Registration). held_of h r.submitter cusip) (registrations h)
-    ≡ (if is_redeemed (redemptions h) cusip then 0 else issued h cusip)
-held-sum h cusip legal bill =
-    let numbers = numbering_of (registrations h) (announcements h) in
-    let participants = participants_of numbers (registrations h) in
-    let are = places-numbered h in
-    let told = IsLegal-told numbers participants h legal are in
+pub held-sum : (history : List Entry) (cusip : Cusip)
+    → IsLegal history
+    → has_bill (announcements history) cusip.bytes ≡ true
+    → sum_by (λ (registration : Registration). held_of history registration.submitter cusip) (registrations history)
+    ≡ (if is_redeemed (redemptions history) cusip then 0 else issued history cusip)
+held-sum history cusip legal bill =
+    let numbers = numbering_of (registrations history) (announcements history) in
+    let participants = participants_of numbers (registrations history) in
+    let are = places-numbered history in
+    let told = IsLegal-told numbers participants history legal are in
     let bills = are.bills cusip.bytes bill in
     let security = numbers.security cusip.bytes in
     let conserved =
-    (IsConserved-legal participants (movements_by numbers h) told.legal
-    (AreParticipants-places h legal)).holdings security in
-    let each : sum_by (λ (r : Registration). held_of h r.submitter cusip) (registrations h)
-    ≡ sum_by (λ (r : Registration). moved.held (numbers.holder r.submitter) security (movements_by numbers h))
-    (registrations h) =
-    sum_by-each _ _ (registrations h) (λ k d within.
-    sym (held-told numbers participants h (get_or (registrations h) k d).submitter cusip told
-    (are.names (get_or (registrations h) k d).submitter (registered-at (registrations h) k d within))
+    (IsConserved-legal participants (movements_by numbers history) told.legal
+    (AreParticipants-places history legal)).holdings security in
+    let each : sum_by (λ (registration : Registration). held_of history registration.submitter cusip)
+    (registrations history)
+    ≡ sum_by (λ (registration : Registration). moved.held (numbers.holder registration.submitter) security
+    (movements_by numbers history))
+    (registrations history) =
+    sum_by-each _ _ (registrations history) (λ k d within.
+    sym (held-told numbers participants history (get_or (registrations history) k d).submitter cusip told
+    (are.names (get_or (registrations history) k d).submitter (registered-at (registrations history) k d within))
     bills)) in
-    let whole : moved.outstanding security (movements_by numbers h)
-    ≡ (if is_redeemed (redemptions h) cusip then 0 else issued h cusip) =
+    let whole : moved.outstanding security (movements_by numbers history)
+    ≡ (if is_redeemed (redemptions history) cusip then 0 else issued history cusip) =
     rw (told.redeemed cusip bills, told.issued_is cusip bills) refl in
     each
-    ∙ (sym (sum_by-made (λ holder. moved.held holder security (movements_by numbers h))
-    (λ (r : Registration). numbers.holder r.submitter) (registrations h))
+    ∙ (sym (sum_by-made (λ holder. moved.held holder security (movements_by numbers history))
+    (λ (registration : Registration). numbers.holder registration.submitter) (registrations history))
     ∙ (conserved ∙ whole))
 
 -- nobody has pledged more than it holds
-pub pledged-covered : (h : List Entry) (participant : List ℕ) (cusip : Cusip) → IsLegal h
-    → has_bill (announcements h) cusip.bytes ≡ true
-    → is_registered (registrations h) participant ≡ true
-    → pledged_of h participant cusip ≤ held_of h participant cusip
-pledged-covered h participant cusip legal bill known =
-    let numbers = numbering_of (registrations h) (announcements h) in
-    let participants = participants_of numbers (registrations h) in
-    let are = places-numbered h in
-    let told = IsLegal-told numbers participants h legal are in
+pub pledged-covered : (history : List Entry) (participant : List ℕ) (cusip : Cusip)
+    → IsLegal history
+    → has_bill (announcements history) cusip.bytes ≡ true
+    → is_registered (registrations history) participant ≡ true
+    → pledged_of history participant cusip ≤ held_of history participant cusip
+pledged-covered history participant cusip legal bill known =
+    let numbers = numbering_of (registrations history) (announcements history) in
+    let participants = participants_of numbers (registrations history) in
+    let are = places-numbered history in
+    let told = IsLegal-told numbers participants history legal are in
     let conserved =
-    IsConserved-legal participants (movements_by numbers h) told.legal (AreParticipants-places h legal) in
+    IsConserved-legal participants (movements_by numbers history) told.legal (AreParticipants-places history legal) in
     omega (
       arith,
       conserved.covered (numbers.holder participant) (numbers.security cusip.bytes),
-      held-told numbers participants h participant cusip told (are.names participant known)
+      held-told numbers participants history participant cusip told (are.names participant known)
           (are.bills cusip.bytes bill),
-      pledged-told numbers participants h participant cusip told,
+      pledged-told numbers participants history participant cusip told,
     )
 
 -- where the only movement redeems, none stands before it
-none_before : (security : ℕ) (next : Option Movement) → list_any (redeems security) (option_to_list next) ≡ true
+none_before : (security : ℕ) (next : Option Movement)
+    → list_any (redeems security) (option_to_list next) ≡ true
     → take_while (λ movement. not (redeems security movement)) (option_to_list next) ≡ []
 none_before security None some = absurd cc
 none_before security (Some movement) some =
@@ -265,15 +290,17 @@ none_before security (Some movement) some =
     ∙ ap (λ b. cond (not b) (movement ∷ take_while (λ m. not (redeems security m)) []) []) redeemed
 
 -- the movements before a redemption are those of the entries before it
-before-after : (numbers : Numbering) (cusip : Cusip) (before rest : List Entry) → IsBillNumbered numbers cusip.bytes
+before-after : (numbers : Numbering) (cusip : Cusip) (before rest : List Entry)
+    → IsBillNumbered numbers cusip.bytes
     → take_while (λ movement. not (redeems (numbers.security cusip.bytes) movement))
     (movements_after (meaning_by numbers) before rest)
-    ≡ movements_after (meaning_by numbers) before (take_while (λ (e : Entry). not (redeems_bill cusip e.message)) rest)
+    ≡ movements_after (meaning_by numbers) before (take_while
+    (λ (entry : Entry). not (redeems_bill cusip entry.message)) rest)
 before-after numbers cusip before [] bills = refl
 before-after numbers cusip before (e ∷ rest) bills =
     let security = numbers.security cusip.bytes in
     let stays : Movement → Bool = λ movement. not (redeems security movement) in
-    let passes : Entry → Bool = λ (x : Entry). not (redeems_bill cusip x.message) in
+    let passes : Entry → Bool = λ (entry : Entry). not (redeems_bill cusip entry.message) in
     let next = meaning_by numbers before e in
     let later = movements_after (meaning_by numbers) (before ++ e ∷ []) rest in
     let message_redeems = redeems-message numbers before e.submitter e.number e.message cusip bills in
@@ -295,81 +322,90 @@ before-after numbers cusip before (e ∷ rest) bills =
     ]
 
 -- numbers for a history are numbers for each of its beginnings
-AreNumbered-begin : (numbers : Numbering) (participants : List ℕ) (h more : List Entry)
-    → AreNumbered numbers participants (h ++ more) → AreNumbered numbers participants h
+AreNumbered-begin : (numbers : Numbering) (participants : List ℕ) (history more : List Entry)
+    → AreNumbered numbers participants (history ++ more)
+    → AreNumbered numbers participants history
 unfolding registrations announcements
-AreNumbered-begin numbers participants h more are =
-    let says : Entry → List Registration = λ (x : Entry). registered_by x.message in
-    let tells : Entry → List Announcement = λ (x : Entry). announced_by x.message in
-    let names : (name : List ℕ) → is_registered (registrations h) name ≡ true
-    → is_registered (registrations (h ++ more)) name ≡ true =
-    λ name known. rw (flat_map-append says h more)
-    (registered-append (flat_map says h) (flat_map says more) name known) in
+AreNumbered-begin numbers participants history more are =
+    let says : Entry → List Registration = λ (entry : Entry). registered_by entry.message in
+    let tells : Entry → List Announcement = λ (entry : Entry). announced_by entry.message in
+    let names : (name : List ℕ) → is_registered (registrations history) name ≡ true
+    → is_registered (registrations (history ++ more)) name ≡ true =
+    λ name known. rw (flat_map-append says history more)
+    (registered-append (flat_map says history) (flat_map says more) name known) in
     record {
       names = λ name known. are.names name (names name known);
       listed = λ name known. are.listed name (names name known);
-      bills = λ bytes known. are.bills bytes (rw (flat_map-append tells h more)
-          (has_bill-append (flat_map tells h) (flat_map tells more) bytes known));
+      bills = λ bytes known. are.bills bytes (rw (flat_map-append tells history more)
+          (has_bill-append (flat_map tells history) (flat_map tells more) bytes known));
     }
 
 -- a beginning that is taken is one
-front-whole : (h : List Entry) (cusip : Cusip)
-    → before_redemption h cusip ++ drop (prefix_len (λ (e : Entry). not (redeems_bill cusip e.message)) h) h ≡ h
-front-whole h cusip = take-append-drop (prefix_len (λ (e : Entry). not (redeems_bill cusip e.message)) h) h
+front-whole : (history : List Entry) (cusip : Cusip)
+    → before_redemption history cusip
+    ++ drop (prefix_len (λ (entry : Entry). not (redeems_bill cusip entry.message)) history) history ≡ history
+front-whole history cusip =
+    take-append-drop (prefix_len (λ (entry : Entry). not (redeems_bill cusip entry.message)) history) history
 
 -- what is paid
-pub paid-told : (numbers : Numbering) (participants : List ℕ) (h : List Entry) (participant : List ℕ) (cusip : Cusip)
-    → IsLegal h
-    → AreNumbered numbers participants h
-    → AreTold numbers participants h
+pub paid-told : (numbers : Numbering) (participants : List ℕ) (history : List Entry) (participant : List ℕ)
+    (cusip : Cusip)
+    → IsToldBy numbers participants history
     → IsNumbered numbers participant
     → IsBillNumbered numbers cusip.bytes
-    → moved.paid (numbers.holder participant) (numbers.security cusip.bytes) (movements_by numbers h)
-    ≡ paid_to h participant cusip
+    → moved.paid (numbers.holder participant) (numbers.security cusip.bytes) (movements_by numbers history)
+    ≡ paid_to history participant cusip
 unfolding paid_to
-paid-told numbers participants h participant cusip legal are told own bills =
-    let front = before_redemption h cusip in
-    let rest = drop (prefix_len (λ (e : Entry). not (redeems_bill cusip e.message)) h) h in
-    let whole = front-whole h cusip in
-    let legal_front : IsLegal front = IsLegal-front rest front (subst IsLegal (sym whole) legal) in
+paid-told numbers participants history participant cusip tells own bills =
+    let front = before_redemption history cusip in
+    let rest = drop (prefix_len (λ (entry : Entry). not (redeems_bill cusip entry.message)) history) history in
+    let whole = front-whole history cusip in
+    let legal_front : IsLegal front = IsLegal-front rest front (subst IsLegal (sym whole) tells.legal) in
     let are_front =
-    AreNumbered-begin numbers participants front rest (subst (AreNumbered numbers participants) (sym whole) are) in
+    AreNumbered-begin numbers participants front rest
+    (subst (AreNumbered numbers participants) (sym whole) tells.numbered) in
     let told_front = IsLegal-told numbers participants front legal_front are_front in
-    let same : moved.before_redemption (numbers.security cusip.bytes) (movements_by numbers h)
+    let same : moved.before_redemption (numbers.security cusip.bytes) (movements_by numbers history)
     ≡ movements_by numbers front =
-    before-after numbers cusip [] h bills in
+    before-after numbers cusip [] history bills in
     let held_then : moved.held (numbers.holder participant) (numbers.security cusip.bytes)
-    (moved.before_redemption (numbers.security cusip.bytes) (movements_by numbers h))
+    (moved.before_redemption (numbers.security cusip.bytes) (movements_by numbers history))
     ≡ held_of front participant cusip =
     ap (moved.held (numbers.holder participant) (numbers.security cusip.bytes)) same
     ∙ held-told numbers participants front participant cusip told_front own bills in
     ap (λ b. cond b (moved.held (numbers.holder participant) (numbers.security cusip.bytes)
-    (moved.before_redemption (numbers.security cusip.bytes) (movements_by numbers h))) 0)
-    (told.redeemed cusip bills)
-    ∙ ap (λ n. cond (is_redeemed (redemptions h) cusip) n 0) held_then
+    (moved.before_redemption (numbers.security cusip.bytes) (movements_by numbers history))) 0)
+    (tells.told.redeemed cusip bills)
+    ∙ ap (λ n. cond (is_redeemed (redemptions history) cusip) n 0) held_then
 
 -- after a redemption the participants were paid what was issued
-pub paid-sum : (h : List Entry) (cusip : Cusip) → IsLegal h → has_bill (announcements h) cusip.bytes ≡ true
-    → is_redeemed (redemptions h) cusip ≡ true
-    → sum_by (λ (r : Registration). paid_to h r.submitter cusip) (registrations h) ≡ issued h cusip
-paid-sum h cusip legal bill redeemed =
-    let numbers = numbering_of (registrations h) (announcements h) in
-    let participants = participants_of numbers (registrations h) in
-    let are = places-numbered h in
-    let told = IsLegal-told numbers participants h legal are in
+pub paid-sum : (history : List Entry) (cusip : Cusip)
+    → IsLegal history
+    → has_bill (announcements history) cusip.bytes ≡ true
+    → is_redeemed (redemptions history) cusip ≡ true
+    → sum_by (λ (registration : Registration). paid_to history registration.submitter cusip) (registrations history)
+    ≡ issued history cusip
+paid-sum history cusip legal bill redeemed =
+    let numbers = numbering_of (registrations history) (announcements history) in
+    let participants = participants_of numbers (registrations history) in
+    let are = places-numbered history in
+    let told = IsLegal-told numbers participants history legal are in
+    let tells : IsToldBy numbers participants history = record { legal = legal; numbered = are; told = told } in
     let bills = are.bills cusip.bytes bill in
     let security = numbers.security cusip.bytes in
     let conserved =
-    (IsConserved-legal participants (movements_by numbers h) told.legal
-    (AreParticipants-places h legal)).payments security (told.redeemed cusip bills ∙ redeemed) in
-    let each : sum_by (λ (r : Registration). paid_to h r.submitter cusip) (registrations h)
-    ≡ sum_by (λ (r : Registration). moved.paid (numbers.holder r.submitter) security (movements_by numbers h))
-    (registrations h) =
-    sum_by-each _ _ (registrations h) (λ k d within.
-    sym (paid-told numbers participants h (get_or (registrations h) k d).submitter cusip legal are told
-    (are.names (get_or (registrations h) k d).submitter (registered-at (registrations h) k d within))
+    (IsConserved-legal participants (movements_by numbers history) told.legal
+    (AreParticipants-places history legal)).payments security (told.redeemed cusip bills ∙ redeemed) in
+    let each : sum_by (λ (registration : Registration). paid_to history registration.submitter cusip)
+    (registrations history)
+    ≡ sum_by (λ (registration : Registration). moved.paid (numbers.holder registration.submitter) security
+    (movements_by numbers history))
+    (registrations history) =
+    sum_by-each _ _ (registrations history) (λ k d within.
+    sym (paid-told numbers participants history (get_or (registrations history) k d).submitter cusip tells
+    (are.names (get_or (registrations history) k d).submitter (registered-at (registrations history) k d within))
     bills)) in
     each
-    ∙ (sym (sum_by-made (λ holder. moved.paid holder security (movements_by numbers h))
-    (λ (r : Registration). numbers.holder r.submitter) (registrations h))
+    ∙ (sym (sum_by-made (λ holder. moved.paid holder security (movements_by numbers history))
+    (λ (registration : Registration). numbers.holder registration.submitter) (registrations history))
     ∙ (conserved ∙ told.issued_is cusip bills))

@@ -1,11 +1,14 @@
 -- The stop-out rate and the percentage of a bidding are those of its cut.
-use Rattle.std.proofs.Common.{◌≡◌, ◌≢◌, ℕ, zero, suc, ◌+◌, ◌-◌, ◌*◌, ◌/◌, ◌%◌, ◌<◌, ◌≤◌, ◌==◌, Bool, true, false, cond, nat_lt, nat_le, min, inl, inr, List, [], ◌∷◌, get_or, refl, sym, ◌∙◌, subst, arith}
+use Rattle.std.proofs.Common.{◌≡◌, ◌≢◌, ℕ, zero, suc, ◌+◌, ◌-◌, ◌*◌, ◌/◌, ◌%◌, ◌<◌, ◌≤◌, ◌==◌, Bool, true, false, cond}
+use Rattle.std.proofs.Common.{nat_lt, nat_le, min, inl, inr, List, [], ◌∷◌, get_or, refl, sym, ◌∙◌, subst, arith}
 use Rattle.std.proofs.Math.Nat.{mul-le-mul_right}
-use Rattle.std.proofs.lemmas.Bool.{cases_Bool, both_ways, false_from_ne_true, leb-true, le-leb, leb-false, ltb-true, lt-ltb, eqb-true}
+use Rattle.std.proofs.lemmas.Bool.{cases_Bool, both_ways, false_from_ne_true, leb-true}
+use Rattle.std.proofs.lemmas.Bool.{le-leb, leb-false, ltb-true, lt-ltb, eqb-true}
 use Rattle.std.proofs.lemmas.Grind.{div_ceil_times}
 use Rattle.std.proofs.lemmas.List.Sums.{sum_by-cons}
 use Rattle.tb_units.specs.declared.lines.RateLine.{RateLine}
-use Rattle.tb_award.specs.Cuts.{par_of, under, at, over, up_to, total_of, amount_of, steps_of, IsCut, Reaches, FallsShort, hundred_percent}
+use Rattle.tb_award.specs.Cuts.{par_of, under, at, over, up_to, total_of, amount_of, steps_of}
+use Rattle.tb_award.specs.Cuts.{IsCut, Reaches, FallsShort, hundred_percent}
 use Rattle.tb_award.proofs.CutLemmas.{par_of-le, par_of-whole, par_of-agree, par_of-split}
 use Rattle.tb_history.specs.Values.{first_from, rounded_up}
 use Rattle.tb_history.specs.Awarded.{Bidding, rates, par_under, par_in_all, sought_in, wanted_in, stop_of, percent_of}
@@ -200,6 +203,7 @@ reaches-found bidding recognised stop percent par some reaches =
           (rw wanted at reached));
     }
   where
+    -- where something is sought, something is recognised at the least rate that reaches it
     something : (stop : ℕ)
         → sought_in bidding ≤ par_of recognised (up_to stop)
         → ((steps : ℕ) → sought_in bidding ≤ par_of recognised (up_to steps) → stop ≤ steps)
@@ -251,8 +255,10 @@ short-found bidding recognised stop percent par short =
           omega (arith, not_less, short.whole);
     }
   where
+    -- one amount counts under a higher rate where it counts under a lower one
     share : (steps amount one other : ℕ)
-        → one ≤ other → cond (nat_lt steps one) amount 0 ≤ cond (nat_lt steps other) amount 0
+        → one ≤ other
+        → cond (nat_lt steps one) amount 0 ≤ cond (nat_lt steps other) amount 0
     share steps amount one other order =
         elim (cases_Bool (nat_lt steps one)) [
           | inl low ↦ let also : nat_lt steps other ≡ true =
@@ -260,8 +266,10 @@ short-found bidding recognised stop percent par short =
           | inr high ↦ rw high (omega arith)
         ]
 
+    -- so no less stands under a higher rate
     rises : (one other : ℕ) (lines : List RateLine)
-        → one ≤ other → par_of lines (under one) ≤ par_of lines (under other)
+        → one ≤ other
+        → par_of lines (under one) ≤ par_of lines (under other)
     rises one other [] order = omega arith
     rises one other (line ∷ lines) order =
         omega (
@@ -272,6 +280,7 @@ short-found bidding recognised stop percent par short =
           share line.rate.steps line.amount.value one other order,
         )
 
+    -- what stands up to a rate under the stop is part of what stands under the stop
     lower : (steps : ℕ) → steps < stop → stop < rates → par_under bidding (suc steps) ≤ par_of recognised (under stop)
     lower steps before inside =
         omega (
@@ -281,6 +290,7 @@ short-found bidding recognised stop percent par short =
               (omega (arith, before)),
         )
 
+    -- a rate at which something stands is one of the rates
     at_rate : (lines : List RateLine) (stop : ℕ) → 0 < par_of lines (at stop) → stop < rates
     at_rate [] stop bid = absurd (omega (arith, bid))
     at_rate (line ∷ lines) stop bid =
@@ -297,6 +307,7 @@ short-found bidding recognised stop percent par short =
               ))
         ]
 
+    -- so the stop is one of them
     bounded : (stop : ℕ) → 0 < par_of recognised (at stop) → stop < rates
     bounded stop bid = at_rate recognised stop bid
 

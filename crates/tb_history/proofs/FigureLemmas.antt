@@ -1,5 +1,7 @@
 -- The figures of a bidding are those of what is recognised of its lines.
-use Rattle.std.proofs.Common.{◌≡◌, ℕ, zero, suc, pos, ◌+◌, ◌<◌, ◌≤◌, ◌==◌, ◌&&◌, Bool, true, false, cond, Option, Some, None, inl, inr, List, [], ◌∷◌, length, get_or, sum_by, take, All, refl, ap, ◌∙◌, subst, arith}
+use Rattle.std.proofs.Common.{◌≡◌, ℕ, zero, suc, pos, ◌+◌, ◌<◌, ◌≤◌, ◌==◌, ◌&&◌, Bool, true, false}
+use Rattle.std.proofs.Common.{cond, Option, Some, None, inl, inr, List, [], ◌∷◌, length, get_or}
+use Rattle.std.proofs.Common.{sum_by, take, All, refl, ap, ◌∙◌, subst, arith}
 use Rattle.std.specs.List.{flat_map, position_or_len}
 use Rattle.std.proofs.lemmas.Bool.{cases_Bool, both_ways, eqb-true, eq-eqb, false_from_ne_true}
 use Rattle.std.proofs.lemmas.List.{length-map, get_or-map}
@@ -17,7 +19,8 @@ use Rattle.tb_history.specs.declared.bids.Bid.{Bid}
 use Rattle.tb_history.specs.Entries.{is_same}
 use Rattle.tb_history.specs.LiveBids.{position_of}
 use Rattle.tb_history.specs.Awarded.{Bidding, rates, is_at, bid_at, limit_for, recognised_under, par_under}
-use Rattle.tb_history.specs.Readings.{AreDistinct, bidder_at, place_of, line_of, lines_of, positions_of, AreRecognisedOf}
+use Rattle.tb_history.specs.Readings.{AreDistinct, bidder_at, place_of, line_of, lines_of}
+use Rattle.tb_history.specs.Readings.{positions_of, AreRecognisedOf}
 use Rattle.tb_history.proofs.SameLemmas.{is_same-equal, is_same-refl}
 use Rattle.tb_history.proofs.GridLemmas.{par_of-let_through}
 
@@ -28,7 +31,7 @@ place_of-at : (enrolled : List Enrolment) (number : ℕ) (d : Enrolment)
     → place_of enrolled (bidder_at enrolled number d) ≡ number
 place_of-at enrolled number d distinct within =
     let name = bidder_at enrolled number d in
-    let test : Enrolment → Bool = λ (e : Enrolment). is_same e.bidder name in
+    let test : Enrolment → Bool = λ (enrolment : Enrolment). is_same enrolment.bidder name in
     position_or_len_is test enrolled number d (omega (arith, within))
     (λ k before. false_from_ne_true _ (λ same. distinct k number d before within
     (is_same-equal (bidder_at enrolled k d) name same)))
@@ -36,12 +39,13 @@ place_of-at enrolled number d distinct within =
 
 -- another bidder's place is that number just where it is that bidder
 place_of-is : (enrolled : List Enrolment) (number : ℕ) (d : Enrolment) (other : List ℕ)
-    → AreDistinct enrolled → number < length enrolled
+    → AreDistinct enrolled
+    → number < length enrolled
     → (place_of enrolled other == number) ≡ is_same other (bidder_at enrolled number d)
 place_of-is enrolled number d other distinct within =
     let name = bidder_at enrolled number d in
     let placed = place_of-at enrolled number d distinct within in
-    let test : Enrolment → Bool = λ (e : Enrolment). is_same e.bidder other in
+    let test : Enrolment → Bool = λ (enrolment : Enrolment). is_same enrolment.bidder other in
     elim (cases_Bool (is_same other name)) [
       | inl same ↦ rw same (eq-eqb (place_of enrolled other) number
           (ap (place_of enrolled) (is_same-equal other name same) ∙ placed))
@@ -66,7 +70,8 @@ line_of-cell enrolled bid (Some rate) number steps own is = rw is (omega arith)
 
 -- so the lines have what the live bids have
 bid_in-lines : (enrolled : List Enrolment) (live : List Bid) (number steps : ℕ) (d : Enrolment)
-    → AreDistinct enrolled → number < length enrolled
+    → AreDistinct enrolled
+    → number < length enrolled
     → bid_in (flat_map (λ (bid : Bid). line_of enrolled bid bid.rate) live) number steps
     ≡ bid_at live (bidder_at enrolled number d) steps
 bid_in-lines enrolled [] number steps d distinct within = refl
@@ -110,7 +115,8 @@ sum_under-elements f g (x ∷ xs) same =
 
 -- what is let through of the lines of a number is what is recognised of its bidder
 pub let_through-bidder : (bidding : Bidding) (number steps : ℕ) (d : Enrolment)
-    → AreDistinct bidding.enrolled → number < length bidding.enrolled
+    → AreDistinct bidding.enrolled
+    → number < length bidding.enrolled
     → let_through (bid_in (lines_of bidding) number) (cap_of bidding.announcement.offering.value)
     (limits_by bidding.announcement.offering.value (positions_of bidding) number) steps
     ≡ recognised_under bidding (bidder_at bidding.enrolled number d) steps
@@ -120,7 +126,7 @@ let_through-bidder bidding number steps d distinct within =
     let cap = cap_of bidding.announcement.offering.value in
     let limit : limits_by bidding.announcement.offering.value (positions_of bidding) number ≡ limit_for bidding name =
     ap (limit_of bidding.announcement.offering.value)
-    (get_or-map (λ (e : Enrolment). position_of bidding.reported bidding.announcement.auction e.bidder)
+    (get_or-map (λ (enrolment : Enrolment). position_of bidding.reported bidding.announcement.auction enrolment.bidder)
     bidding.enrolled number d (pos 0) within) in
     let_through-agree (bid_in (lines_of bidding) number) (bid_at bidding.live name) cap
     (limits_by bidding.announcement.offering.value (positions_of bidding) number) steps
@@ -131,7 +137,8 @@ let_through-bidder bidding number steps d distinct within =
 pub positions-length : (bidding : Bidding) → length (positions_of bidding) ≡ length bidding.enrolled
 unfolding positions_of
 positions-length bidding =
-    length-map bidding.enrolled (λ (e : Enrolment). position_of bidding.reported bidding.announcement.auction e.bidder)
+    length-map bidding.enrolled
+    (λ (enrolment : Enrolment). position_of bidding.reported bidding.announcement.auction enrolment.bidder)
 
 -- rates are below 200,000 steps
 pub rates-below : (lines : List RateLine) → All (λ line. line.rate.steps < rates) lines
@@ -152,5 +159,5 @@ par_of-bidding bidding recognised steps distinct are within =
     par_of-let_through bids cap limits (length (positions_of bidding)) steps rates recognised are
     (rates-below recognised) within
     ∙ (ap (sum_under f) (positions-length bidding)
-    ∙ sum_under-elements f (λ (e : Enrolment). recognised_under bidding e.bidder steps) bidding.enrolled
+    ∙ sum_under-elements f (λ (enrolment : Enrolment). recognised_under bidding enrolment.bidder steps) bidding.enrolled
     (λ number d inside. let_through-bidder bidding number steps d distinct inside))

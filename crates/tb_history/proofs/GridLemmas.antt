@@ -1,5 +1,6 @@
 -- What is recognised, added up by bidders and rates.
-use Rattle.std.proofs.Common.{◌≡◌, ◌≢◌, ℕ, zero, suc, ◌+◌, ◌-◌, ◌<◌, ◌≤◌, ◌==◌, ◌&&◌, ◌⊎◌, Bool, true, false, cond, nat_lt, inl, inr, List, [], ◌∷◌, get_or, All, refl, sym, ap, ◌∙◌, subst, arith}
+use Rattle.std.proofs.Common.{◌≡◌, ◌≢◌, ℕ, zero, suc, ◌+◌, ◌-◌, ◌<◌, ◌≤◌, ◌==◌, ◌&&◌, ◌⊎◌, Bool, true, false, cond}
+use Rattle.std.proofs.Common.{nat_lt, inl, inr, List, [], ◌∷◌, get_or, All, refl, sym, ap, ◌∙◌, subst, arith}
 use Rattle.std.specs.List.{AllPairs}
 use Rattle.std.proofs.lemmas.Bool.{cases_Bool, both_ways, eqb-true, eq-eqb, false_from_ne_true, ltb-true, lt-ltb}
 use Rattle.std.proofs.lemmas.List.Elements.{All-head, All-tail}
@@ -7,7 +8,8 @@ use Rattle.std.proofs.lemmas.List.Sums.{sum_by-cons}
 use Rattle.tb_units.specs.declared.lines.RateLine.{RateLine}
 use Rattle.tb_units.proofs.ListLemmas.{AllPairs-head, AllPairs-tail}
 use Rattle.tb_award.specs.Cuts.{par_of, under}
-use Rattle.tb_award.specs.Recognition.{bid_in, sum_under, let_through, recognised_at, IsEarlier, IsRecognised, HasLineOf, AreRecognised}
+use Rattle.tb_award.specs.Recognition.{bid_in, sum_under, let_through, recognised_at, IsEarlier}
+use Rattle.tb_award.specs.Recognition.{IsRecognised, HasLineOf, AreRecognised}
 use Rattle.tb_award.proofs.BidLemmas.{IsBidOf, bid_in-none, let_through-more}
 
 -- a sum of sums below a bound
@@ -17,7 +19,8 @@ sum_under_plus f g (suc bound) = omega (arith, sum_under_plus f g bound)
 
 -- sums of numbers that agree below the bound
 pub sum_under_agree : (f g : ℕ → ℕ) (bound : ℕ)
-    → ((n : ℕ) → n < bound → f n ≡ g n) → sum_under f bound ≡ sum_under g bound
+    → ((n : ℕ) → n < bound → f n ≡ g n)
+    → sum_under f bound ≡ sum_under g bound
 sum_under_agree f g zero same = refl
 sum_under_agree f g (suc bound) same =
     omega (arith, sum_under_agree f g bound (λ n below. same n (omega (arith, below))), same bound (omega arith))
@@ -102,8 +105,10 @@ other_rate line bidder steps apart =
     false_from_ne_true _ (λ is. apart (sym (eqb-true line.rate.steps steps is))) in
     both_false (line.bidder == bidder) line.amount.value not_there
   where
+    -- a line at another rate counts nothing at this one
     both_false : (a : Bool) (n : ℕ)
-        → (line.rate.steps == steps) ≡ false → cond (a && (line.rate.steps == steps)) n 0 ≡ 0
+        → (line.rate.steps == steps) ≡ false
+        → cond (a && (line.rate.steps == steps)) n 0 ≡ 0
     both_false true n not_there = rw not_there refl
     both_false false n not_there = refl
 
@@ -112,7 +117,9 @@ pub own_cell : (line : RateLine) → cell_of line line.bidder line.rate.steps �
 own_cell line = rw (eq-eqb line.bidder line.bidder refl, eq-eqb line.rate.steps line.rate.steps refl) refl
 
 -- a line stands in one place of the grid
-grid_line : (passes : ℕ → Bool) (line : RateLine) (bidders bound : ℕ) → line.bidder < bidders → line.rate.steps < bound
+grid_line : (passes : ℕ → Bool) (line : RateLine) (bidders bound : ℕ)
+    → line.bidder < bidders
+    → line.rate.steps < bound
     → grid (passing passes (cell_of line)) bidders bound ≡ cond (passes line.rate.steps) line.amount.value 0
 grid_line passes line bidders bound known within =
     let row : ℕ → ℕ = λ bidder. sum_under (passing passes (cell_of line) bidder) bound in
@@ -137,7 +144,8 @@ abbrev pub IsInGrid : ℕ → ℕ → RateLine → Type 0
 IsInGrid bidders bound line = (line.bidder < bidders) × (line.rate.steps < bound)
 
 -- the par of lines at the rates that pass is the sum over the grid
-pub par_of-grid : (passes : ℕ → Bool) (lines : List RateLine) (bidders bound : ℕ) → All (IsInGrid bidders bound) lines
+pub par_of-grid : (passes : ℕ → Bool) (lines : List RateLine) (bidders bound : ℕ)
+    → All (IsInGrid bidders bound) lines
     → par_of lines passes ≡ grid (passing passes (bid_in lines)) bidders bound
 par_of-grid passes [] bidders bound inside = sym (grid_none passes bidders bound)
 par_of-grid passes (line ∷ lines) bidders bound inside =
@@ -201,6 +209,7 @@ bid_in-line (line ∷ lines) bidder steps value order amounts has =
           omega (arith, split, here, rest)
     ]
   where
+    -- a line of another bid has nothing there
     none_of : (line : RateLine) (bidder steps : ℕ) → ¬ (IsBidOf bidder steps line) → cell_of line bidder steps ≡ 0
     none_of line bidder steps isnt =
         elim (cases_Bool (line.bidder == bidder)) [
@@ -208,6 +217,7 @@ bid_in-line (line ∷ lines) bidder steps value order amounts has =
           | inr other ↦ rw other refl
         ]
 
+    -- a line that is not the first is one of the rest
     later : (line : RateLine) (lines : List RateLine) (bidder steps : ℕ)
         → ¬ (IsBidOf bidder steps line)
         → HasLineOf bidder steps (line ∷ lines)
@@ -239,7 +249,8 @@ bid_in-recognised bids cap limits bidders bidder steps lines are known =
     elim (cases_Bool (value == 0)) [
       | inl none ↦
           let zero_here : value ≡ 0 = eqb-true value 0 none in
-          bid_in-none lines bidder steps (recognised-none bids cap limits bidders bidder steps lines are.each zero_here) ∙ sym zero_here
+          bid_in-none lines bidder steps (recognised-none bids cap limits bidders bidder steps lines are.each zero_here)
+          ∙ sym zero_here
       | inr some ↦
           let positive : 0 < value = above value some in
           let amounts : All (λ line. IsBidOf bidder steps line → line.amount.value ≡ value) lines = λ k d below is.
@@ -249,9 +260,10 @@ bid_in-recognised bids cap limits bidders bidder steps lines are known =
           bid_in-line lines bidder steps value are.order amounts (are.all bidder steps known positive)
     ]
   where
-    above : (n : ℕ) → (n == 0) ≡ false → 0 < n
+    -- what is not zero is something
+    above : (number : ℕ) → (number == 0) ≡ false → 0 < number
     above zero isnt = absurd (both_ways (0 == 0) isnt (eq-eqb 0 0 refl))
-    above (suc n) isnt = omega arith
+    above (suc number) isnt = omega arith
 
 -- what is recognised at the rates under a bound, added up, is what is let through
 sum_under-recognised : (bids : ℕ → ℕ) (cap limit bound : ℕ)
@@ -275,7 +287,8 @@ sum_under-part f low (suc more) =
 
 -- the same where the rate is within the bound
 pub sum_under-below : (f : ℕ → ℕ) (low bound : ℕ)
-    → low ≤ bound → sum_under (λ n. cond (nat_lt n low) (f n) 0) bound ≡ sum_under f low
+    → low ≤ bound
+    → sum_under (λ n. cond (nat_lt n low) (f n) 0) bound ≡ sum_under f low
 sum_under-below f low bound within =
     let whole : (bound - low) + low ≡ bound = omega (arith, within) in
     subst (λ (n : ℕ). sum_under (λ m. cond (nat_lt m low) (f m) 0) n ≡ sum_under f low) whole

@@ -1,13 +1,17 @@
 -- What one more entry adds.
-use Rattle.std.proofs.Common.{refl, ◌≡◌, ℕ, Bool, true, Some, inl, inr, List, [], ◌∷◌, ◌++◌, ap, ◌∙◌, append-nil, is_some}
+use Rattle.std.proofs.Common.{refl, ◌≡◌, ℕ, Bool, true, Some, inl, inr, List, []}
+use Rattle.std.proofs.Common.{◌∷◌, ◌++◌, ap, ◌∙◌, append-nil, is_some}
 use Rattle.std.specs.List.{find, flat_map}
 use Rattle.std.proofs.lemmas.Bool.{cases_Bool}
 use Rattle.std.proofs.lemmas.Grind.{flat_map-append}
 use Rattle.tb_terms.specs.declared.announcement.Announcement.{Announcement}
 use Rattle.tb_message.specs.declared.message.Entry.{Entry}
 use Rattle.tb_history.specs.declared.roster.Enrolment.{Enrolment}
-use Rattle.tb_history.specs.Entries.{is_same, registered_by, enrolled_by, entered_by, announced_by, published_by, settled_by, redeemed_by, bid_by, cancelled_by, reported_by, transferred_by, pledged_by, released_by}
-use Rattle.tb_history.specs.Roster.{registrations, enrolments, holidays, announcements, publications, settlements, redemptions, is_under, is_enrolled, announcement_of}
+use Rattle.tb_history.specs.Entries.{is_same, registered_by, enrolled_by, entered_by, announced_by}
+use Rattle.tb_history.specs.Entries.{published_by, settled_by, redeemed_by, bid_by, cancelled_by, reported_by}
+use Rattle.tb_history.specs.Entries.{transferred_by, pledged_by, released_by}
+use Rattle.tb_history.specs.Roster.{registrations, enrolments, holidays, announcements, publications, settlements}
+use Rattle.tb_history.specs.Roster.{redemptions, is_under, is_enrolled, announcement_of}
 use Rattle.tb_history.specs.LiveBids.{bids, cancels, reports}
 use Rattle.tb_history.specs.Holdings.{transfers, marks, releases}
 
@@ -17,79 +21,96 @@ flat_map-snoc : {X Y : Type 0} (says : X → List Y) (xs : List X) (x : X)
 flat_map-snoc says xs x = flat_map-append says xs (x ∷ []) ∙ ap (λ ys. flat_map says xs ++ ys) (append-nil (says x))
 
 -- a registration is told behind those before
-pub registrations-snoc : (h : List Entry) (e : Entry)
-    → registrations (h ++ e ∷ []) ≡ registrations h ++ registered_by e.message
+pub registrations-snoc : (history : List Entry) (next_entry : Entry)
+    → registrations (history ++ next_entry ∷ []) ≡ registrations history ++ registered_by next_entry.message
 unfolding registrations
-registrations-snoc h e = flat_map-snoc (λ (e : Entry). registered_by e.message) h e
+registrations-snoc history next_entry =
+    flat_map-snoc (λ (entry : Entry). registered_by entry.message) history next_entry
 
 -- and so is an enrolment
-pub enrolments-snoc : (h : List Entry) (e : Entry) → enrolments (h ++ e ∷ []) ≡ enrolments h ++ enrolled_by e.message
+pub enrolments-snoc : (history : List Entry) (next_entry : Entry)
+    → enrolments (history ++ next_entry ∷ []) ≡ enrolments history ++ enrolled_by next_entry.message
 unfolding enrolments
-enrolments-snoc h e = flat_map-snoc (λ (e : Entry). enrolled_by e.message) h e
+enrolments-snoc history next_entry = flat_map-snoc (λ (entry : Entry). enrolled_by entry.message) history next_entry
 
 -- a holiday
-pub holidays-snoc : (h : List Entry) (e : Entry) → holidays (h ++ e ∷ []) ≡ holidays h ++ entered_by e.message
+pub holidays-snoc : (history : List Entry) (next_entry : Entry)
+    → holidays (history ++ next_entry ∷ []) ≡ holidays history ++ entered_by next_entry.message
 unfolding holidays
-holidays-snoc h e = flat_map-snoc (λ (e : Entry). entered_by e.message) h e
+holidays-snoc history next_entry = flat_map-snoc (λ (entry : Entry). entered_by entry.message) history next_entry
 
 -- an announcement
-pub announcements-snoc : (h : List Entry) (e : Entry)
-    → announcements (h ++ e ∷ []) ≡ announcements h ++ announced_by e.message
+pub announcements-snoc : (history : List Entry) (next_entry : Entry)
+    → announcements (history ++ next_entry ∷ []) ≡ announcements history ++ announced_by next_entry.message
 unfolding announcements
-announcements-snoc h e = flat_map-snoc (λ (e : Entry). announced_by e.message) h e
+announcements-snoc history next_entry = flat_map-snoc (λ (entry : Entry). announced_by entry.message) history next_entry
 
 -- a publication
-pub publications-snoc : (h : List Entry) (e : Entry)
-    → publications (h ++ e ∷ []) ≡ publications h ++ published_by e.message
+pub publications-snoc : (history : List Entry) (next_entry : Entry)
+    → publications (history ++ next_entry ∷ []) ≡ publications history ++ published_by next_entry.message
 unfolding publications
-publications-snoc h e = flat_map-snoc (λ (e : Entry). published_by e.message) h e
+publications-snoc history next_entry = flat_map-snoc (λ (entry : Entry). published_by entry.message) history next_entry
 
 -- a settlement
-pub settlements-snoc : (h : List Entry) (e : Entry) → settlements (h ++ e ∷ []) ≡ settlements h ++ settled_by e.message
+pub settlements-snoc : (history : List Entry) (next_entry : Entry)
+    → settlements (history ++ next_entry ∷ []) ≡ settlements history ++ settled_by next_entry.message
 unfolding settlements
-settlements-snoc h e = flat_map-snoc (λ (e : Entry). settled_by e.message) h e
+settlements-snoc history next_entry = flat_map-snoc (λ (entry : Entry). settled_by entry.message) history next_entry
 
 -- a redemption
-pub redemptions-snoc : (h : List Entry) (e : Entry) → redemptions (h ++ e ∷ []) ≡ redemptions h ++ redeemed_by e.message
+pub redemptions-snoc : (history : List Entry) (next_entry : Entry)
+    → redemptions (history ++ next_entry ∷ []) ≡ redemptions history ++ redeemed_by next_entry.message
 unfolding redemptions
-redemptions-snoc h e = flat_map-snoc (λ (e : Entry). redeemed_by e.message) h e
+redemptions-snoc history next_entry = flat_map-snoc (λ (entry : Entry). redeemed_by entry.message) history next_entry
 
 -- a bid
-pub bids-snoc : (h : List Entry) (e : Entry) → bids (h ++ e ∷ []) ≡ bids h ++ bid_by e.submitter e.number e.message
+pub bids-snoc : (history : List Entry) (next_entry : Entry)
+    → bids (history ++ next_entry ∷ []) ≡ bids history
+    ++ bid_by next_entry.submitter next_entry.number next_entry.message
 unfolding bids
-bids-snoc h e = flat_map-snoc (λ (e : Entry). bid_by e.submitter e.number e.message) h e
+bids-snoc history next_entry =
+    flat_map-snoc (λ (entry : Entry). bid_by entry.submitter entry.number entry.message) history next_entry
 
 -- a cancel
-pub cancels-snoc : (h : List Entry) (e : Entry)
-    → cancels (h ++ e ∷ []) ≡ cancels h ++ cancelled_by e.submitter e.message
+pub cancels-snoc : (history : List Entry) (next_entry : Entry)
+    → cancels (history ++ next_entry ∷ []) ≡ cancels history ++ cancelled_by next_entry.submitter next_entry.message
 unfolding cancels
-cancels-snoc h e = flat_map-snoc (λ (e : Entry). cancelled_by e.submitter e.message) h e
+cancels-snoc history next_entry =
+    flat_map-snoc (λ (entry : Entry). cancelled_by entry.submitter entry.message) history next_entry
 
 -- a report
-pub reports-snoc : (h : List Entry) (e : Entry) → reports (h ++ e ∷ []) ≡ reports h ++ reported_by e.submitter e.message
+pub reports-snoc : (history : List Entry) (next_entry : Entry)
+    → reports (history ++ next_entry ∷ []) ≡ reports history ++ reported_by next_entry.submitter next_entry.message
 unfolding reports
-reports-snoc h e = flat_map-snoc (λ (e : Entry). reported_by e.submitter e.message) h e
+reports-snoc history next_entry =
+    flat_map-snoc (λ (entry : Entry). reported_by entry.submitter entry.message) history next_entry
 
 -- a transfer
-pub transfers-snoc : (h : List Entry) (e : Entry)
-    → transfers (h ++ e ∷ []) ≡ transfers h ++ transferred_by e.submitter e.message
+pub transfers-snoc : (history : List Entry) (next_entry : Entry)
+    → transfers (history ++ next_entry ∷ []) ≡ transfers history
+    ++ transferred_by next_entry.submitter next_entry.message
 unfolding transfers
-transfers-snoc h e = flat_map-snoc (λ (e : Entry). transferred_by e.submitter e.message) h e
+transfers-snoc history next_entry =
+    flat_map-snoc (λ (entry : Entry). transferred_by entry.submitter entry.message) history next_entry
 
 -- a pledge
-pub marks-snoc : (h : List Entry) (e : Entry)
-    → marks (h ++ e ∷ []) ≡ marks h ++ pledged_by e.submitter e.number e.message
+pub marks-snoc : (history : List Entry) (next_entry : Entry)
+    → marks (history ++ next_entry ∷ []) ≡ marks history
+    ++ pledged_by next_entry.submitter next_entry.number next_entry.message
 unfolding marks
-marks-snoc h e = flat_map-snoc (λ (e : Entry). pledged_by e.submitter e.number e.message) h e
+marks-snoc history next_entry =
+    flat_map-snoc (λ (entry : Entry). pledged_by entry.submitter entry.number entry.message) history next_entry
 
 -- a release
-pub releases-snoc : (h : List Entry) (e : Entry) → releases (h ++ e ∷ []) ≡ releases h ++ released_by e.message
+pub releases-snoc : (history : List Entry) (next_entry : Entry)
+    → releases (history ++ next_entry ∷ []) ≡ releases history ++ released_by next_entry.message
 unfolding releases
-releases-snoc h e = flat_map-snoc (λ (e : Entry). released_by e.message) h e
+releases-snoc history next_entry = flat_map-snoc (λ (entry : Entry). released_by entry.message) history next_entry
 
 -- what is found stays found among more
 pub find-append : {X : Type 0} (test : X → Bool) (xs ys : List X) (x : X)
-    → find test xs ≡ Some x → find test (xs ++ ys) ≡ Some x
+    → find test xs ≡ Some x
+    → find test (xs ++ ys) ≡ Some x
 find-append test [] ys x found = cc
 find-append test (y ∷ xs) ys x found =
     elim (cases_Bool (test y)) [
@@ -110,16 +131,18 @@ is_under-append submitter test (x ∷ xs) ys under =
     ]
 
 -- a bidder stays enrolled
-pub is_enrolled-snoc : (h : List Entry) (e : Entry) (bidder submitter : List ℕ)
-    → is_enrolled h bidder submitter ≡ true
-    → is_enrolled (h ++ e ∷ []) bidder submitter ≡ true
-is_enrolled-snoc h e bidder submitter enrolled =
-    rw (enrolments-snoc h e) (is_under-append submitter (λ (x : Enrolment). is_same x.bidder bidder) (enrolments h)
-    (enrolled_by e.message) enrolled)
+pub is_enrolled-snoc : (history : List Entry) (entry : Entry) (bidder submitter : List ℕ)
+    → is_enrolled history bidder submitter ≡ true
+    → is_enrolled (history ++ entry ∷ []) bidder submitter ≡ true
+is_enrolled-snoc history entry bidder submitter enrolled =
+    rw (enrolments-snoc history entry) (is_under-append submitter
+    (λ (enrolment : Enrolment). is_same enrolment.bidder bidder) (enrolments history)
+    (enrolled_by entry.message) enrolled)
 
 -- what is there stays there among more
 pub is_some-append : {X : Type 0} (test : X → Bool) (xs ys : List X)
-    → is_some (find test xs) ≡ true → is_some (find test (xs ++ ys)) ≡ true
+    → is_some (find test xs) ≡ true
+    → is_some (find test (xs ++ ys)) ≡ true
 is_some-append test [] ys found = cc
 is_some-append test (x ∷ xs) ys found =
     elim (cases_Bool (test x)) [
@@ -129,9 +152,10 @@ is_some-append test (x ∷ xs) ys found =
     ]
 
 -- an auction stays announced
-pub is_announced-snoc : (h : List Entry) (e : Entry) (auction : List ℕ)
-    → is_some (announcement_of (announcements h) auction) ≡ true
-    → is_some (announcement_of (announcements (h ++ e ∷ [])) auction) ≡ true
-is_announced-snoc h e auction announced =
-    rw (announcements-snoc h e) (is_some-append (λ (a : Announcement). is_same a.auction auction) (announcements h)
-    (announced_by e.message) announced)
+pub is_announced-snoc : (history : List Entry) (entry : Entry) (auction : List ℕ)
+    → is_some (announcement_of (announcements history) auction) ≡ true
+    → is_some (announcement_of (announcements (history ++ entry ∷ [])) auction) ≡ true
+is_announced-snoc history entry auction announced =
+    rw (announcements-snoc history entry) (is_some-append
+    (λ (announcement : Announcement). is_same announcement.auction auction) (announcements history)
+    (announced_by entry.message) announced)

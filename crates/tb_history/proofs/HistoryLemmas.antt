@@ -1,5 +1,7 @@
 -- Legal histories from their beginnings, and what holds of their entries.
-use Rattle.std.proofs.Common.{ap, length-append, ◌+◌, ◌≡◌, ℕ, ◌<◌, ◌≤◌, ◌&&◌, ◌==◌, Bool, true, false, max, Some, None, inl, inr, List, [], ◌∷◌, ◌++◌, length, get_or, refl, sym, ◌∙◌, subst, arith, append_assoc, append-nil}
+use Rattle.std.proofs.Common.{ap, length-append, ◌+◌, ◌≡◌, ℕ, ◌<◌, ◌≤◌, ◌&&◌, ◌==◌, Bool, true, false}
+use Rattle.std.proofs.Common.{max, Some, None, inl, inr, List, [], ◌∷◌, ◌++◌, length, get_or, refl}
+use Rattle.std.proofs.Common.{sym, ◌∙◌, subst, arith, append_assoc, append-nil}
 use Rattle.std.specs.Prelude.{ℤ, pos}
 use Rattle.std.specs.List.{filter, find, flat_map, list_any, AllPairs}
 use Rattle.std.proofs.lemmas.Bool.{cases_Bool, both_ways, and_from, eq-eqb, or_cases, or_left, or_right}
@@ -21,17 +23,19 @@ use Rattle.tb_history.specs.Roster.{registrations, is_caller, kept}
 use Rattle.tb_history.specs.declared.bids.Bid.{Bid}
 use Rattle.tb_history.specs.declared.bids.Cancel.{Cancel}
 use Rattle.tb_history.specs.declared.bids.Report.{Report}
-use Rattle.tb_history.specs.LiveBids.{is_of, bids_of, is_live, par_of, competitive_in, noncompetitive_in, standing_of, is_report_of, last_position, position_of}
+use Rattle.tb_history.specs.LiveBids.{is_of, bids_of, is_live, par_of, competitive_in, noncompetitive_in}
+use Rattle.tb_history.specs.LiveBids.{standing_of, is_report_of, last_position, position_of}
 use Rattle.tb_history.specs.Verdict.{verdict_on}
-use Rattle.tb_history.specs.Legal.{IsLegal, Empty, Longer, Follows, last_of, seconds_from, running, IsNotEarlier, IsOther}
+use Rattle.tb_history.specs.Legal.{IsLegal, Empty, Longer, Follows, last_of, seconds_from}
+use Rattle.tb_history.specs.Legal.{running, IsNotEarlier, IsOther}
 use Rattle.tb_history.proofs.AcceptedLemmas.{accepted-passes}
 use Rattle.tb_history.proofs.LegalLemmas.{by_entries}
 use Rattle.tb_history.proofs.SameLemmas.{same_message-refl}
 
 -- the last entry of a legal history was accepted on those before it
-pub record IsLast (h : List Entry) (e : Entry) : Type 0 where
-  pub legal : IsLegal h
-  pub follows : Follows h e
+pub record IsLast (history : List Entry) (entry : Entry) : Type 0 where
+  pub legal : IsLegal history
+  pub follows : Follows history entry
 
 -- a list with one more element isn't empty
 push-some : {X : Type 0} (xs : List X) (x : X) → [] ≡ xs ++ x ∷ [] → ⊥
@@ -39,77 +43,88 @@ push-some [] x same = cc
 push-some (y ∷ ys) x same = cc
 
 -- whatever the list is called
-IsLegal-push : (whole : List Entry) → IsLegal whole → (h : List Entry) (e : Entry) → whole ≡ h ++ e ∷ [] → IsLast h e
-IsLegal-push whole Empty h e same = absurd (push-some h e same)
-IsLegal-push whole (Longer before entry legal follows) h e same =
-    let parts = same_from_push before h entry e same in
+IsLegal-push : (whole : List Entry)
+    → IsLegal whole
+    → (history : List Entry) (next_entry : Entry)
+    → whole ≡ history ++ next_entry ∷ []
+    → IsLast history next_entry
+IsLegal-push whole Empty history next_entry same = absurd (push-some history next_entry same)
+IsLegal-push whole (Longer before entry legal follows) history next_entry same =
+    let parts = same_from_push before history entry next_entry same in
     record {
       legal = subst IsLegal parts.0 legal;
-      follows = subst (λ (x : Entry). Follows h x) parts.1
+      follows = subst (λ (x : Entry). Follows history x) parts.1
           (subst (λ (b : List Entry). Follows b entry) parts.0 follows);
     }
 
 -- of a legal history with a last entry
-pub IsLegal-last : (h : List Entry) (e : Entry) → IsLegal (h ++ e ∷ []) → IsLast h e
-IsLegal-last h e legal = IsLegal-push (h ++ e ∷ []) legal h e refl
+pub IsLegal-last : (history : List Entry) (entry : Entry) → IsLegal (history ++ entry ∷ []) → IsLast history entry
+IsLegal-last history entry legal = IsLegal-push (history ++ entry ∷ []) legal history entry refl
 
 -- each beginning is legal
-pub IsLegal-front : (more h : List Entry) → IsLegal (h ++ more) → IsLegal h
-IsLegal-front [] h legal = subst IsLegal (append-nil h) legal
-IsLegal-front (e ∷ more) h legal =
-    (IsLegal-last h e (IsLegal-front more (h ++ e ∷ [])
-    (subst IsLegal (sym (append_assoc h (e ∷ []) more)) legal))).legal
+pub IsLegal-front : (more history : List Entry) → IsLegal (history ++ more) → IsLegal history
+IsLegal-front [] history legal = subst IsLegal (append-nil history) legal
+IsLegal-front (e ∷ more) history legal =
+    (IsLegal-last history e (IsLegal-front more (history ++ e ∷ [])
+    (subst IsLegal (sym (append_assoc history (e ∷ []) more)) legal))).legal
 
 -- and the entry behind it was accepted on it
-pub IsLegal-follows : (more h : List Entry) (e : Entry) → IsLegal (h ++ e ∷ more) → Follows h e
-IsLegal-follows more h e legal =
-    (IsLegal-last h e (IsLegal-front more (h ++ e ∷ [])
-    (subst IsLegal (sym (append_assoc h (e ∷ []) more)) legal))).follows
+pub IsLegal-follows : (more history : List Entry) (entry : Entry)
+    → IsLegal (history ++ entry ∷ more)
+    → Follows history entry
+IsLegal-follows more history entry legal =
+    (IsLegal-last history entry (IsLegal-front more (history ++ entry ∷ [])
+    (subst IsLegal (sym (append_assoc history (entry ∷ []) more)) legal))).follows
 
 -- the last entry's moment is the last one
-pub last_of-push : (seconds : ℕ) (h : List Entry) (e : Entry) → seconds_from seconds (h ++ e ∷ []) ≡ e.moment.seconds
-last_of-push seconds [] e = refl
-last_of-push seconds (x ∷ h) e = last_of-push x.moment.seconds h e
+pub last_of-push : (seconds : ℕ) (history : List Entry) (entry : Entry)
+    → seconds_from seconds (history ++ entry ∷ []) ≡ entry.moment.seconds
+last_of-push seconds [] entry = refl
+last_of-push seconds (x ∷ history) entry = last_of-push x.moment.seconds history entry
 
 -- no entry is later than the last one
 abbrev pub AreInTime : List Entry → Type 0
 AreInTime h = (k : ℕ) (d : Entry) → k < length h → (get_or h k d).moment.seconds ≤ last_of h
 
 -- a last moment is in the range of moments
-last_of-bounds : (h : List Entry) → (seconds : ℕ)
+last_of-bounds : (history : List Entry)
+    → (seconds : ℕ)
     → 946702800 ≤ seconds
     → seconds ≤ 4102444799
-    → (946702800 ≤ seconds_from seconds h) × (seconds_from seconds h ≤ 4102444799)
+    → (946702800 ≤ seconds_from seconds history) × (seconds_from seconds history ≤ 4102444799)
 last_of-bounds [] seconds least most = (least, most)
-last_of-bounds (e ∷ h) seconds least most = last_of-bounds h e.moment.seconds e.moment.not_before e.moment.not_after
+last_of-bounds (e ∷ history) seconds least most =
+    last_of-bounds history e.moment.seconds e.moment.not_before e.moment.not_after
 
 -- the running moment is the later of two
-pub running-seconds : (h : List Entry) (moment : Moment) → (running h moment).seconds ≡ max moment.seconds (last_of h)
+pub running-seconds : (history : List Entry) (moment : Moment)
+    → (running history moment).seconds ≡ max moment.seconds (last_of history)
 unfolding moment_of
-running-seconds h moment =
-    let last = last_of-bounds h 946702800 (omega arith) (omega arith) in
+running-seconds history moment =
+    let last = last_of-bounds history 946702800 (omega arith) (omega arith) in
     omega (arith, last.0, last.1, moment.not_before, moment.not_after)
 
 -- the test keeps no element where none passes
-kept-none : (h : List Entry) (s : List ℕ) (n : ℕ)
-    → kept h s n ≡ None
+kept-none : (history : List Entry) (submitter : List ℕ) (n : ℕ)
+    → kept history submitter n ≡ None
     → (k : ℕ) (d : Entry)
-    → k < length h
-    → (is_same (get_or h k d).submitter s ≡ true)
-    → (get_or h k d).number ≡ n
+    → k < length history
+    → (is_same (get_or history k d).submitter submitter ≡ true)
+    → (get_or history k d).number ≡ n
     → ⊥
 unfolding kept
-kept-none h s n none k d within theirs number =
-    let test : Entry → Bool = λ (e : Entry). is_same e.submitter s && (e.number == n) in
-    let fails : test (get_or h k d) ≡ false = find_none test h none k d within in
-    both_ways (test (get_or h k d)) fails (and_from (is_same (get_or h k d).submitter s) ((get_or h k d).number == n)
-    theirs (eq-eqb (get_or h k d).number n number))
+kept-none history submitter n none k d within theirs number =
+    let test : Entry → Bool = λ (entry : Entry). is_same entry.submitter submitter && (entry.number == n) in
+    let fails : test (get_or history k d) ≡ false = find_none test history none k d within in
+    both_ways (test (get_or history k d)) fails (and_from (is_same (get_or history k d).submitter submitter)
+    ((get_or history k d).number == n)
+    theirs (eq-eqb (get_or history k d).number n number))
 
 -- moments never fall, and a number stands once
-pub record IsOrdered (h : List Entry) : Type 0 where
-  pub in_time : AreInTime h
-  pub moments : AllPairs IsNotEarlier h
-  pub numbers : AllPairs IsOther h
+pub record IsOrdered (history : List Entry) : Type 0 where
+  pub in_time : AreInTime history
+  pub moments : AllPairs IsNotEarlier history
+  pub numbers : AllPairs IsOther history
 
 -- in the empty history there is nothing out of order
 IsOrdered-nil : IsOrdered []
@@ -122,65 +137,87 @@ IsOrdered-nil =
     }
 
 -- and stays so with an accepted entry
-IsOrdered-push : (h : List Entry) (e : Entry) → IsLegal h → IsOrdered h → Follows h e → IsOrdered (h ++ e ∷ [])
-IsOrdered-push h e legal ordered follows =
-    let passed = accepted-passes h e.submitter e.number e.moment e.message follows.accepted in
-    let last : last_of (h ++ e ∷ []) ≡ e.moment.seconds = last_of-push 946702800 h e in
-    let earlier : (k : ℕ) (d : Entry) → k < length h → (get_or h k d).moment.seconds ≤ e.moment.seconds =
+IsOrdered-push : (history : List Entry) (next_entry : Entry)
+    → IsLegal history
+    → IsOrdered history
+    → Follows history next_entry
+    → IsOrdered (history ++ next_entry ∷ [])
+IsOrdered-push history next_entry legal ordered follows =
+    let passed =
+    accepted-passes history next_entry.submitter next_entry.number next_entry.moment next_entry.message
+    follows.accepted in
+    let last : last_of (history ++ next_entry ∷ []) ≡ next_entry.moment.seconds =
+    last_of-push 946702800 history next_entry in
+    let earlier : (k : ℕ) (d : Entry) → k < length history
+    → (get_or history k d).moment.seconds ≤ next_entry.moment.seconds =
     λ k d within. omega (arith, ordered.in_time k d within, follows.in_time) in
     record {
-      in_time = λ k d within. rw last (All-push (λ (x : Entry). x.moment.seconds ≤ e.moment.seconds) h e earlier
+      in_time =
+          λ k d within. rw last (All-push
+          (λ (entry : Entry). entry.moment.seconds ≤ next_entry.moment.seconds) history next_entry earlier
           (omega arith) k d within);
-      moments = all_pairs_push IsNotEarlier h e ordered.moments earlier;
-      numbers = all_pairs_push IsOther h e ordered.numbers
-          (λ k d within same. kept-none h e.submitter e.number passed.unused k d within same.0 same.1);
+      moments = all_pairs_push IsNotEarlier history next_entry ordered.moments earlier;
+      numbers = all_pairs_push IsOther history next_entry ordered.numbers
+          (λ k d within same. kept-none history next_entry.submitter next_entry.number passed.unused k d within same.0
+          same.1);
     }
 
 -- so it is in every legal history
-pub IsLegal-ordered : (h : List Entry) → IsLegal h → IsOrdered h
-IsLegal-ordered h legal = by_entries IsOrdered IsOrdered-nil IsOrdered-push h legal
+pub IsLegal-ordered : (history : List Entry) → IsLegal history → IsOrdered history
+IsLegal-ordered history legal = by_entries IsOrdered IsOrdered-nil IsOrdered-push history legal
 
 -- an accepted message is found under its number
-pub kept-push : (h more : List Entry) (e : Entry)
-    → kept h e.submitter e.number ≡ None → kept (h ++ e ∷ more) e.submitter e.number ≡ Some e
+pub kept-push : (history more : List Entry) (next_entry : Entry)
+    → kept history next_entry.submitter next_entry.number ≡ None
+    → kept (history ++ next_entry ∷ more) next_entry.submitter next_entry.number ≡ Some next_entry
 unfolding kept
-kept-push h more e none =
-    let test : Entry → Bool = λ (x : Entry). is_same x.submitter e.submitter && (x.number == e.number) in
-    let passes : test e ≡ true =
-    and_from (is_same e.submitter e.submitter) (e.number == e.number)
-    ((bytes_eq-Decides e.submitter e.submitter).1 refl) (eq-eqb e.number e.number refl) in
-    let first : find test (e ∷ more) ≡ Some e = rw passes refl in
-    find-append_none test h (e ∷ more) none ∙ first
+kept-push history more next_entry none =
+    let test : Entry → Bool =
+    λ (entry : Entry). is_same entry.submitter next_entry.submitter && (entry.number == next_entry.number) in
+    let passes : test next_entry ≡ true =
+    and_from (is_same next_entry.submitter next_entry.submitter) (next_entry.number == next_entry.number)
+    ((bytes_eq-Decides next_entry.submitter next_entry.submitter).1 refl)
+    (eq-eqb next_entry.number next_entry.number refl) in
+    let first : find test (next_entry ∷ more) ≡ Some next_entry = rw passes refl in
+    find-append_none test history (next_entry ∷ more) none ∙ first
 
 -- a caller stays one
 is_registered-append : (test : Registration → Bool) (xs ys : List Registration)
-    → list_any test xs ≡ true → list_any test (xs ++ ys) ≡ true
+    → list_any test xs ≡ true
+    → list_any test (xs ++ ys) ≡ true
 is_registered-append test xs ys some =
     rw (list_any-append test xs ys) (or_left (list_any test xs) (list_any test ys) some)
 
 -- whoever may send may send later too
-pub is_caller-append : (h more : List Entry) (s : List ℕ)
-    → is_caller (registrations h) s ≡ true → is_caller (registrations (h ++ more)) s ≡ true
+pub is_caller-append : (history more : List Entry) (submitter : List ℕ)
+    → is_caller (registrations history) submitter ≡ true
+    → is_caller (registrations (history ++ more)) submitter ≡ true
 unfolding registrations
-is_caller-append h more s caller =
-    let says : Entry → List Registration = λ (x : Entry). registered_by x.message in
-    rw (flat_map-append says h more)
-    (elim (or_cases (is_same s operator) (list_any (λ (r : Registration). is_same r.submitter s) (flat_map says h))
+is_caller-append history more submitter caller =
+    let says : Entry → List Registration = λ (entry : Entry). registered_by entry.message in
+    rw (flat_map-append says history more)
+    (elim (or_cases (is_same submitter operator) (list_any
+    (λ (registration : Registration). is_same registration.submitter submitter) (flat_map says history))
     caller) [
-      | inl is ↦ or_left (is_same s operator) _ is
-      | inr is ↦ or_right (is_same s operator) (list_any (λ (r : Registration). is_same r.submitter s)
-          (flat_map says h ++ flat_map says more))
-          (is_registered-append (λ (r : Registration). is_same r.submitter s) (flat_map says h) (flat_map says more) is)
+      | inl is ↦ or_left (is_same submitter operator) _ is
+      | inr is ↦
+          or_right (is_same submitter operator) (list_any
+          (λ (registration : Registration). is_same registration.submitter submitter)
+          (flat_map says history ++ flat_map says more))
+          (is_registered-append (λ (registration : Registration). is_same registration.submitter submitter)
+          (flat_map says history) (flat_map says more) is)
     ])
 
 -- an accepted message that is sent again gets its number and moment
-pub repeated-push : (h more : List Entry) (e : Entry) (moment : Moment) → IsLegal (h ++ e ∷ more)
-    → verdict_on (h ++ e ∷ more) e.submitter e.number moment e.message ≡ verdict.Repeat e.number e.moment
-repeated-push h more e moment legal =
-    let follows = IsLegal-follows more h e legal in
-    let passed = accepted-passes h e.submitter e.number e.moment e.message follows.accepted in
-    let caller = is_caller-append h (e ∷ more) e.submitter passed.caller in
-    rw (caller, passed.permitted, kept-push h more e passed.unused, same_message-refl e.message) refl
+pub repeated-push : (history more : List Entry) (entry : Entry) (moment : Moment)
+    → IsLegal (history ++ entry ∷ more)
+    → verdict_on (history ++ entry ∷ more) entry.submitter entry.number moment entry.message
+    ≡ verdict.Repeat entry.number entry.moment
+repeated-push history more entry moment legal =
+    let follows = IsLegal-follows more history entry legal in
+    let passed = accepted-passes history entry.submitter entry.number entry.moment entry.message follows.accepted in
+    let caller = is_caller-append history (entry ∷ more) entry.submitter passed.caller in
+    rw (caller, passed.permitted, kept-push history more entry passed.unused, same_message-refl entry.message) refl
 
 -- the last report is the one that counts
 last_position-push : (position : ℤ) (reported : List Report) (report : Report)

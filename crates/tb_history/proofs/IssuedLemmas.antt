@@ -1,9 +1,12 @@
--- How much of a bill is issued: awards of competitive bids are limited by the offering, and those of noncompetitive bids are
--- bid.
-use Rattle.std.proofs.Common.{◌≡◌, ◌≢◌, ℕ, zero, suc, ◌+◌, ◌-◌, ◌*◌, ◌/◌, ◌%◌, ◌^◌, ◌<◌, ◌≤◌, ◌==◌, ◌&&◌, min, Bool, true, false, cond, is_none, inl, inr, List, [], ◌∷◌, nat_lt, nat_le, length, get_or, sum_by, All, refl, sym, ◌∙◌, subst, arith}
+-- How much of a bill is issued: awards of competitive bids are limited by the offering, and those of noncompetitive
+-- bids are bid.
+use Rattle.std.proofs.Common.{◌≡◌, ◌≢◌, ℕ, zero, suc, ◌+◌, ◌-◌, ◌*◌, ◌/◌, ◌%◌, ◌^◌, ◌<◌, ◌≤◌, ◌==◌, ◌&&◌}
+use Rattle.std.proofs.Common.{min, Bool, true, false, cond, is_none, inl, inr, List, [], ◌∷◌, nat_lt, nat_le}
+use Rattle.std.proofs.Common.{length, get_or, sum_by, All, refl, sym, ◌∙◌, subst, arith}
 use Rattle.std.proofs.Math.Nat.{mul-le-mul_right}
 use Rattle.std.specs.List.{AllPairs, AllByRecursion, filter}
-use Rattle.std.proofs.lemmas.Bool.{cases_Bool, cases_order, both_ways, ltb-true, lt-ltb, leb-true, le-leb, eqb-true, false_from_ne_true}
+use Rattle.std.proofs.lemmas.Bool.{cases_Bool, cases_order, both_ways, ltb-true, lt-ltb}
+use Rattle.std.proofs.lemmas.Bool.{leb-true, le-leb, eqb-true, false_from_ne_true}
 use Rattle.std.proofs.lemmas.Grind.{div_ceil_times}
 use Rattle.std.proofs.lemmas.List.Sums.{sum_by-cons}
 use Rattle.tb_units.proofs.ListLemmas.{AllPairs-head, AllPairs-tail}
@@ -21,7 +24,9 @@ use Rattle.tb_history.specs.Entries.{is_same}
 use Rattle.tb_history.specs.Roster.{enrolments, announcements, is_of_bill, is_settled}
 use Rattle.tb_history.specs.LiveBids.{bids, cancels, is_live, live_bids_in, par_of, noncompetitive_in}
 use Rattle.tb_history.specs.Values.{first_from, rounded_up}
-use Rattle.tb_history.specs.Awarded.{Bidding, rates, bid_at, limit_for, recognised_under, recognised_for, par_under, par_in_all, wanted_in, stop_of, par_at_stop, percent_of, prorated, award_at, awards_under, noncompetitive_of, awarded}
+use Rattle.tb_history.specs.Awarded.{Bidding, rates, bid_at, limit_for, recognised_under, recognised_for, par_under}
+use Rattle.tb_history.specs.Awarded.{par_in_all, wanted_in, stop_of, par_at_stop, percent_of, prorated, award_at}
+use Rattle.tb_history.specs.Awarded.{awards_under, noncompetitive_of, awarded}
 use Rattle.tb_history.specs.Holdings.{bidding_in, award_in, awards_of, issued}
 use Rattle.tb_history.specs.Legal.{IsLegal}
 use Rattle.tb_history.proofs.SameLemmas.{is_same-equal}
@@ -45,7 +50,8 @@ first_from-passes passes from (suc more) number least most holds =
       | inr fails ↦
           let apart : from ≢ number =
           λ same. both_ways (passes from) fails (subst (λ (n : ℕ). passes n ≡ true) (sym same) holds) in
-          rw fails (first_from-passes passes (suc from) more number (omega (arith, least, apart)) (omega (arith, most)) holds)
+          rw fails (first_from-passes passes (suc from) more number (omega (arith, least, apart))
+          (omega (arith, most)) holds)
     ]
 
 -- a quotient of at most some times the divisor is at most so much, rounded up
@@ -105,17 +111,21 @@ hundred_once stop (suc steps) =
     let rest = hundred_once stop steps in
     elim (cases_order steps stop) [
       | inl same ↦
-          let two : nat_lt stop steps ≡ false = false_from_ne_true _ (λ is. omega (arith, same, ltb-true stop steps is)) in
+          let two : nat_lt stop steps ≡ false =
+          false_from_ne_true _ (λ is. omega (arith, same, ltb-true stop steps is)) in
           let three : nat_lt stop (suc steps) ≡ true = lt-ltb stop (suc steps) (omega (arith, same)) in
           let so_far : sum_under (λ n. cond (n == stop) 100 0) steps ≤ 0 = rw two at rest in
           rw three (omega (arith, so_far, cond-le (steps == stop) 100))
       | inr (inl less) ↦
-          let one : (steps == stop) ≡ false = false_from_ne_true _ (λ is. omega (arith, less, eqb-true steps stop is)) in
-          let two : nat_lt stop steps ≡ false = false_from_ne_true _ (λ is. omega (arith, less, ltb-true stop steps is)) in
+          let one : (steps == stop) ≡ false =
+          false_from_ne_true _ (λ is. omega (arith, less, eqb-true steps stop is)) in
+          let two : nat_lt stop steps ≡ false =
+          false_from_ne_true _ (λ is. omega (arith, less, ltb-true stop steps is)) in
           let so_far : sum_under (λ n. cond (n == stop) 100 0) steps ≤ 0 = rw two at rest in
           rw one (omega (arith, so_far))
       | inr (inr more) ↦
-          let one : (steps == stop) ≡ false = false_from_ne_true _ (λ is. omega (arith, more, eqb-true steps stop is)) in
+          let one : (steps == stop) ≡ false =
+          false_from_ne_true _ (λ is. omega (arith, more, eqb-true steps stop is)) in
           let two : nat_lt stop steps ≡ true = lt-ltb stop steps more in
           let three : nat_lt stop (suc steps) ≡ true = lt-ltb stop (suc steps) (omega (arith, more)) in
           let so_far : sum_under (λ n. cond (n == stop) 100 0) steps ≤ 100 = rw two at rest in
@@ -133,7 +143,8 @@ awards_under-most bidding bidder (suc steps) =
       arith,
       awards_under-most bidding bidder steps,
       award_at-most bidding bidder steps,
-      let_through-more (bid_at bidding.live bidder) (cap_of bidding.announcement.offering.value) (limit_for bidding bidder) steps,
+      let_through-more (bid_at bidding.live bidder) (cap_of bidding.announcement.offering.value)
+          (limit_for bidding bidder) steps,
     )
 
 -- what is recognised is at most 35 percent of the offering
@@ -165,6 +176,7 @@ awarded-most bidding bidder offered =
     award_or_none (par_in_all bidding == 0) (awards_under bidding bidder rates) (noncompetitive_of bidding bidder)
     (competitive-most bidding bidder rates offered)
   where
+    -- an award is nothing, or what is awarded of both kinds of bids
     award_or_none : (none : Bool) (competitive noncompetitive : ℕ)
         → competitive ≤ 350000000100
         → cond none 0 (competitive + noncompetitive) ≤ 350000000100 + noncompetitive
@@ -178,40 +190,41 @@ sum_by_most f g (x ∷ xs) less =
     omega (arith, sum_by-cons f x xs, sum_by-cons g x xs, less x, sum_by_most f g xs less)
 
 -- so many each
-sum_by_each : {X : Type 0} (n : ℕ) (xs : List X) → sum_by (λ (x : X). n) xs ≡ n * length xs
-sum_by_each n [] = omega arith
-sum_by_each {X} n (x ∷ xs) = omega (arith, sum_by-cons (λ (y : X). n) x xs, sum_by_each n xs)
+sum_by_each : {X : Type 0} (number : ℕ) (xs : List X) → sum_by (λ (x : X). number) xs ≡ number * length xs
+sum_by_each number [] = omega arith
+sum_by_each {X} number (x ∷ xs) = omega (arith, sum_by-cons (λ (y : X). number) x xs, sum_by_each number xs)
 
 -- where none passes nothing counts
-none_counts : {X : Type 0} (test : X → Bool) (n : ℕ) (xs : List X)
-    → All (λ x. test x ≡ false) xs → sum_by (λ x. cond (test x) n 0) xs ≡ 0
-none_counts test n [] none = refl
-none_counts {X} test n (x ∷ xs) none =
-    let f : X → ℕ = λ y. cond (test y) n 0 in
+none_counts : {X : Type 0} (test : X → Bool) (number : ℕ) (xs : List X)
+    → All (λ x. test x ≡ false) xs
+    → sum_by (λ x. cond (test x) number 0) xs ≡ 0
+none_counts test number [] none = refl
+none_counts {X} test number (x ∷ xs) none =
+    let f : X → ℕ = λ y. cond (test y) number 0 in
     let here : f x ≡ 0 = rw (none 0 x (omega arith)) refl in
     omega (
       arith,
       sum_by-cons f x xs,
       here,
-      none_counts test n xs (λ k d below. none (suc k) d (omega (arith, below))),
+      none_counts test number xs (λ k d below. none (suc k) d (omega (arith, below))),
     )
 
 -- where at most one passes a number counts at most once
-one_counts : {X : Type 0} (test : X → Bool) (n : ℕ) (xs : List X)
+one_counts : {X : Type 0} (test : X → Bool) (number : ℕ) (xs : List X)
     → AllPairs (λ one other. test one ≡ true → test other ≡ false) xs
-    → sum_by (λ x. cond (test x) n 0) xs ≤ n
-one_counts test n [] once = omega arith
-one_counts {X} test n (x ∷ xs) once =
+    → sum_by (λ x. cond (test x) number 0) xs ≤ number
+one_counts test number [] once = omega arith
+one_counts {X} test number (x ∷ xs) once =
     let R : X → X → Type 0 = λ one other. test one ≡ true → test other ≡ false in
-    let f : X → ℕ = λ y. cond (test y) n 0 in
+    let f : X → ℕ = λ y. cond (test y) number 0 in
     elim (cases_Bool (test x)) [
       | inl is ↦
           let rest : sum_by f xs ≡ 0 =
-          none_counts test n xs (λ k d below. AllPairs-head R x xs once k d below is) in
-          omega (arith, sum_by-cons f x xs, rest, cond-le (test x) n)
+          none_counts test number xs (λ k d below. AllPairs-head R x xs once k d below is) in
+          omega (arith, sum_by-cons f x xs, rest, cond-le (test x) number)
       | inr isnt ↦
           let here : f x ≡ 0 = rw isnt refl in
-          omega (arith, sum_by-cons f x xs, here, one_counts test n xs (AllPairs-tail R x xs once))
+          omega (arith, sum_by-cons f x xs, here, one_counts test number xs (AllPairs-tail R x xs once))
     ]
 
 -- what is claimed of a list by some of whom no two claim the same is no more than the list
@@ -251,41 +264,45 @@ apart_names one other third apart same =
     false_from_ne_true _ (λ also. apart (sym (is_same-equal third one same) ∙ is_same-equal third other also))
 
 -- the noncompetitive bids of all bidders of an auction are no more than the bids in it
-noncompetitive-most : (h : List Entry) (a : Announcement)
-    → IsLegal h
-    → sum_by (λ (e : Enrolment). noncompetitive_of (bidding_in h a) e.bidder) (enrolments h)
-    ≤ par_of (filter (λ (bid : Bid). is_same bid.auction a.auction) (bids h))
-noncompetitive-most h a legal =
+noncompetitive-most : (history : List Entry) (announcement : Announcement)
+    → IsLegal history
+    → sum_by (λ (enrolment : Enrolment). noncompetitive_of (bidding_in history announcement) enrolment.bidder)
+    (enrolments history)
+    ≤ par_of (filter (λ (bid : Bid). is_same bid.auction announcement.auction) (bids history))
+noncompetitive-most history announcement legal =
     let amount : Bid → ℕ = λ (bid : Bid). bid.amount.value in
-    let inside : List Bid = filter (λ (bid : Bid). is_same bid.auction a.auction) (bids h) in
-    let live : List Bid = live_bids_in (bids h) (cancels h) a.auction in
-    let distinct = IsLegal-distinct h legal in
+    let inside : List Bid = filter (λ (bid : Bid). is_same bid.auction announcement.auction) (bids history) in
+    let live : List Bid = live_bids_in (bids history) (cancels history) announcement.auction in
+    let distinct = IsLegal-distinct history legal in
     omega (
       arith,
-      claims_most (λ (e : Enrolment) (bid : Bid). is_same bid.bidder e.bidder) amount (enrolments h) (noncompetitive_in live)
+      claims_most (λ (e : Enrolment) (bid : Bid). is_same bid.bidder e.bidder) amount (enrolments history)
+          (noncompetitive_in live)
           (λ bid i j d before within same.
-          apart_names (get_or (enrolments h) i d).bidder (get_or (enrolments h) j d).bidder bid.bidder
+          apart_names (get_or (enrolments history) i d).bidder (get_or (enrolments history) j d).bidder bid.bidder
           (distinct i j d before within) same),
       par_of-some (λ (bid : Bid). is_none bid.rate) live,
-      par_of-some (is_live (cancels h)) inside,
+      par_of-some (is_live (cancels history)) inside,
     )
 
 -- what all bidders are awarded in an auction
-awards_of-most : (h : List Entry) (a : Announcement)
-    → IsLegal h
-    → a.offering.value ≤ 10 ^ 12
-    → awards_of h (enrolments h) a
-    ≤ 350000000100 * 16384 + par_of (filter (λ (bid : Bid). is_same bid.auction a.auction) (bids h))
-awards_of-most h a legal offered =
-    let each : Enrolment → ℕ = λ (e : Enrolment). noncompetitive_of (bidding_in h a) e.bidder in
+awards_of-most : (history : List Entry) (announcement : Announcement)
+    → IsLegal history
+    → announcement.offering.value ≤ 10 ^ 12
+    → awards_of history (enrolments history) announcement
+    ≤ 350000000100 * 16384 + par_of (filter (λ (bid : Bid). is_same bid.auction announcement.auction) (bids history))
+awards_of-most history announcement legal offered =
+    let each : Enrolment → ℕ =
+    λ (enrolment : Enrolment). noncompetitive_of (bidding_in history announcement) enrolment.bidder in
     omega (
       arith,
-      sum_by_most (λ (e : Enrolment). award_in h a e.bidder) (λ (e : Enrolment). 350000000100 + each e) (enrolments h)
-          (λ e. awarded-most (bidding_in h a) e.bidder offered),
-      sum_by_plus (λ (e : Enrolment). 350000000100) each (enrolments h),
-      sum_by_each 350000000100 (enrolments h),
-      IsLegal-enrolments h legal,
-      noncompetitive-most h a legal,
+      sum_by_most (λ (enrolment : Enrolment). award_in history announcement enrolment.bidder)
+          (λ (enrolment : Enrolment). 350000000100 + each enrolment) (enrolments history)
+          (λ enrolment. awarded-most (bidding_in history announcement) enrolment.bidder offered),
+      sum_by_plus (λ (enrolment : Enrolment). 350000000100) each (enrolments history),
+      sum_by_each 350000000100 (enrolments history),
+      IsLegal-enrolments history legal,
+      noncompetitive-most history announcement legal,
     )
 
 -- of some elements no more than of all, where each is in order
@@ -305,24 +322,29 @@ some-most P f g test (x ∷ xs) all less =
     )
 
 -- what is issued of a bill of a legal history is no more than is summed up
-pub IsLegal-issued : (h : List Entry) (cusip : Cusip) → IsLegal h → issued h cusip ≤ most_par
+pub IsLegal-issued : (history : List Entry) (cusip : Cusip) → IsLegal history → issued history cusip ≤ most_par
 unfolding issued
-IsLegal-issued h cusip legal =
+IsLegal-issued history cusip legal =
     let amount : Bid → ℕ = λ (bid : Bid). bid.amount.value in
-    let inside : Announcement → Bid → Bool = λ (a : Announcement) (bid : Bid). is_same bid.auction a.auction in
-    let bid_in : Announcement → ℕ = λ (a : Announcement). par_of (filter (inside a) (bids h)) in
-    let names = IsLegal-names h legal in
+    let inside : Announcement → Bid → Bool = λ (terms : Announcement) (bid : Bid). is_same bid.auction terms.auction in
+    let bid_in : Announcement → ℕ =
+    λ (announcement : Announcement). par_of (filter (inside announcement) (bids history)) in
+    let names = IsLegal-names history legal in
     omega (
       arith,
-      some-most IsInOrder (awards_of h (enrolments h)) (λ (a : Announcement). 350000000100 * 16384 + bid_in a)
-          (λ (a : Announcement). is_of_bill cusip a && is_settled h a.auction) (announcements h)
-          (IsLegal-in_order h legal) (λ a in_order. awards_of-most h a legal (offering_of a in_order)),
-      sum_by_plus (λ (a : Announcement). 350000000100 * 16384) bid_in (announcements h),
-      sum_by_each (350000000100 * 16384) (announcements h),
-      IsLegal-announcements h legal,
-      claims_most inside amount (announcements h) (bids h)
+      some-most IsInOrder (awards_of history (enrolments history))
+          (λ (announcement : Announcement). 350000000100 * 16384 + bid_in announcement)
+          (λ (announcement : Announcement). is_of_bill cusip announcement && is_settled history announcement.auction)
+          (announcements history)
+          (IsLegal-in_order history legal)
+          (λ announcement in_order. awards_of-most history announcement legal (offering_of announcement in_order)),
+      sum_by_plus (λ (announcement : Announcement). 350000000100 * 16384) bid_in (announcements history),
+      sum_by_each (350000000100 * 16384) (announcements history),
+      IsLegal-announcements history legal,
+      claims_most inside amount (announcements history) (bids history)
           (λ bid i j d before within same.
-          apart_names (get_or (announcements h) i d).auction (get_or (announcements h) j d).auction bid.auction
+          apart_names (get_or (announcements history) i d).auction
+          (get_or (announcements history) j d).auction bid.auction
           (names i j d before within) same),
-      IsLegal-bid_par h legal,
+      IsLegal-bid_par history legal,
     )

@@ -6,7 +6,8 @@ use Rattle.tb_message.specs.declared.message.Message.TheVariants as message
 use Rattle.tb_history.specs.declared.bids.Bid.{Bid}
 use Rattle.tb_history.specs.declared.bids.Cancel.{Cancel}
 use Rattle.tb_history.specs.declared.bids.Report.{Report}
-use Rattle.tb_history.specs.Entries.{is_operators, registered_by, enrolled_by, entered_by, announced_by, published_by, settled_by, redeemed_by, bid_by, cancelled_by, reported_by}
+use Rattle.tb_history.specs.Entries.{is_operators, registered_by, enrolled_by, entered_by, announced_by, published_by}
+use Rattle.tb_history.specs.Entries.{settled_by, redeemed_by, bid_by, cancelled_by, reported_by}
 
 -- a choice of two things that are one
 cond_same : {X : Type 0} {x : X} (b : Bool) → x ≡ cond b x x
@@ -14,57 +15,57 @@ cond_same true = refl
 cond_same false = refl
 
 -- only the operator registers
-pub registered_by-others : (m : Message) → is_operators m ≡ false → registered_by m ≡ []
+pub registered_by-others : (sent : Message) → is_operators sent ≡ false → registered_by sent ≡ []
 registered_by-others (message.Register submitter key) not = cc
 registered_by-others other not = refl
 
 -- only the operator enrols
-pub enrolled_by-others : (m : Message) → is_operators m ≡ false → enrolled_by m ≡ []
+pub enrolled_by-others : (sent : Message) → is_operators sent ≡ false → enrolled_by sent ≡ []
 enrolled_by-others (message.Enrol bidder submitter) not = cc
 enrolled_by-others other not = refl
 
 -- only the operator enters holidays
-pub entered_by-others : (m : Message) → is_operators m ≡ false → entered_by m ≡ []
+pub entered_by-others : (sent : Message) → is_operators sent ≡ false → entered_by sent ≡ []
 entered_by-others (message.Holiday day) not = cc
 entered_by-others other not = refl
 
 -- only the operator announces
-pub announced_by-others : (m : Message) → is_operators m ≡ false → announced_by m ≡ []
+pub announced_by-others : (sent : Message) → is_operators sent ≡ false → announced_by sent ≡ []
 announced_by-others (message.Announce terms) not = cc
 announced_by-others other not = refl
 
 -- only the operator publishes
-pub published_by-others : (m : Message) → is_operators m ≡ false → published_by m ≡ []
+pub published_by-others : (sent : Message) → is_operators sent ≡ false → published_by sent ≡ []
 published_by-others (message.Publish auction) not = cc
 published_by-others other not = refl
 
 -- only the operator settles
-pub settled_by-others : (m : Message) → is_operators m ≡ false → settled_by m ≡ []
+pub settled_by-others : (sent : Message) → is_operators sent ≡ false → settled_by sent ≡ []
 settled_by-others (message.Settle auction) not = cc
 settled_by-others other not = refl
 
 -- only the operator redeems
-pub redeemed_by-others : (m : Message) → is_operators m ≡ false → redeemed_by m ≡ []
+pub redeemed_by-others : (sent : Message) → is_operators sent ≡ false → redeemed_by sent ≡ []
 redeemed_by-others (message.Redeem cusip) not = cc
 redeemed_by-others other not = refl
 
 -- a part of the entries that is chosen by their submitters has the bids of those submitters
-pub bid_by-part : (among : List ℕ → Bool) (submitter : List ℕ) (number : ℕ) (m : Message)
-    → filter (λ (b : Bid). among b.submitter) (bid_by submitter number m)
-    ≡ cond (among submitter) (bid_by submitter number m) []
+pub bid_by-part : (among : List ℕ → Bool) (submitter : List ℕ) (number : ℕ) (sent : Message)
+    → filter (λ (bid : Bid). among bid.submitter) (bid_by submitter number sent)
+    ≡ cond (among submitter) (bid_by submitter number sent) []
 bid_by-part among submitter number (message.Bid auction bidder rate amount) = refl
 bid_by-part among submitter number other = cond_same (among submitter)
 
 -- and their cancels
-pub cancelled_by-part : (among : List ℕ → Bool) (submitter : List ℕ) (m : Message)
-    → filter (λ (c : Cancel). among c.submitter) (cancelled_by submitter m)
-    ≡ cond (among submitter) (cancelled_by submitter m) []
+pub cancelled_by-part : (among : List ℕ → Bool) (submitter : List ℕ) (sent : Message)
+    → filter (λ (cancel : Cancel). among cancel.submitter) (cancelled_by submitter sent)
+    ≡ cond (among submitter) (cancelled_by submitter sent) []
 cancelled_by-part among submitter (message.Cancel auction bid) = refl
 cancelled_by-part among submitter other = cond_same (among submitter)
 
 -- and their reports
-pub reported_by-part : (among : List ℕ → Bool) (submitter : List ℕ) (m : Message)
-    → filter (λ (r : Report). among r.submitter) (reported_by submitter m)
-    ≡ cond (among submitter) (reported_by submitter m) []
+pub reported_by-part : (among : List ℕ → Bool) (submitter : List ℕ) (sent : Message)
+    → filter (λ (report : Report). among report.submitter) (reported_by submitter sent)
+    ≡ cond (among submitter) (reported_by submitter sent) []
 reported_by-part among submitter (message.Position auction bidder position) = refl
 reported_by-part among submitter other = cond_same (among submitter)

@@ -1,5 +1,6 @@
 -- What holds of every legal history.
-use Rattle.std.proofs.Common.{◌≡◌, ℕ, Bool, true, not, Option, Some, None, inl, inr, List, [], ◌∷◌, ◌++◌, refl, ap, is_some}
+use Rattle.std.proofs.Common.{◌≡◌, ℕ, Bool, true, not, Option, Some, None, inl, inr}
+use Rattle.std.proofs.Common.{List, [], ◌∷◌, ◌++◌, refl, ap, is_some}
 use Rattle.std.specs.List.{AllByRecursion}
 use Rattle.std.proofs.lemmas.Bool.{cases_Bool, both_ways, not-false}
 use Rattle.tb_units.specs.declared.rate.Rate.{Rate}
@@ -24,21 +25,24 @@ use Rattle.tb_history.proofs.AcceptedLemmas.{IsClear, accepted-passes}
 -- what holds of the empty history, and lasts where an accepted entry is added, holds of every legal history
 pub by_entries : (P : List Entry → Type 0)
     → P []
-    → ((h : List Entry) (e : Entry) → IsLegal h → P h → Follows h e → P (h ++ e ∷ []))
-    → (h : List Entry) → IsLegal h → P h
-by_entries P none more h Empty = none
-by_entries P none more h (Longer before e legal follows) =
-    more before e legal (by_entries P none more before legal) follows
+    → ((history : List Entry) (entry : Entry) → IsLegal history → P history → Follows history entry
+    → P (history ++ entry ∷ []))
+    → (history : List Entry)
+    → IsLegal history
+    → P history
+by_entries P none more history Empty = none
+by_entries P none more history (Longer before entry legal follows) =
+    more before entry legal (by_entries P none more before legal) follows
 
 -- the operator's kinds are the operator's
-permitted-operators : (s : List ℕ) (m : Message)
-    → is_permitted s m ≡ true
-    → is_operators m ≡ true
-    → is_same s operator ≡ true
-permitted-operators s m permitted operators =
-    elim (cases_Bool (is_same s operator)) [
+permitted-operators : (submitter : List ℕ) (sent : Message)
+    → is_permitted submitter sent ≡ true
+    → is_operators sent ≡ true
+    → is_same submitter operator ≡ true
+permitted-operators submitter sent permitted operators =
+    elim (cases_Bool (is_same submitter operator)) [
       | inl is ↦ is
-      | inr isnt ↦ absurd (both_ways (not (is_operators m)) (ap not operators) (rw isnt at permitted))
+      | inr isnt ↦ absurd (both_ways (not (is_operators sent)) (ap not operators) (rw isnt at permitted))
     ]
 
 -- an accepted bid is of an announced auction, and of a bidder that is enrolled under its sender
@@ -67,39 +71,52 @@ IsReported h r =
     (is_some (announcement_of (announcements h) r.auction) ≡ true) × (is_enrolled h r.bidder r.submitter ≡ true)
 
 -- what an accepted message bids is of an announced auction and of the sender's bidder
-bid_by-placed : (h : List Entry) (s : List ℕ) (n : ℕ) (moment : Moment) (m : Message)
-    → AllByRecursion IsClear (rows_of h s moment m)
-    → AllByRecursion (IsPlaced h) (bid_by s n m)
-bid_by-placed h s n moment (message.Bid auction bidder rate amount) clear = (
-  bid_rows-clear (announcement_of (announcements h) auction) (is_enrolled h bidder s)
-      (standing_of (bids h) (cancels h) (reports h) auction bidder) moment rate amount.value clear,
+bid_by-placed : (history : List Entry) (submitter : List ℕ) (number : ℕ) (moment : Moment) (sent : Message)
+    → AllByRecursion IsClear (rows_of history submitter moment sent)
+    → AllByRecursion (IsPlaced history) (bid_by submitter number sent)
+bid_by-placed history submitter number moment (message.Bid auction bidder rate amount) clear = (
+  bid_rows-clear (announcement_of (announcements history) auction) (is_enrolled history bidder submitter)
+      (standing_of (bids history) (cancels history) (reports history) auction bidder) moment rate amount.value clear,
   tt,
 )
-bid_by-placed h s n moment other clear = tt
+bid_by-placed history submitter number moment other clear = tt
 
 -- what an accepted message reports is of an announced auction and of the sender's bidder
-reported_by-placed : (h : List Entry) (s : List ℕ) (moment : Moment) (m : Message)
-    → AllByRecursion IsClear (rows_of h s moment m)
-    → AllByRecursion (IsReported h) (reported_by s m)
-reported_by-placed h s moment (message.Position auction bidder position) clear =
-    (position_rows-clear (announcement_of (announcements h) auction) (is_enrolled h bidder s) moment clear, tt)
-reported_by-placed h s moment other clear = tt
+reported_by-placed : (history : List Entry) (submitter : List ℕ) (moment : Moment) (sent : Message)
+    → AllByRecursion IsClear (rows_of history submitter moment sent)
+    → AllByRecursion (IsReported history) (reported_by submitter sent)
+reported_by-placed history submitter moment (message.Position auction bidder position) clear = (
+  position_rows-clear (announcement_of (announcements history) auction)
+      (is_enrolled history bidder submitter) moment clear,
+  tt,
+)
+reported_by-placed history submitter moment other clear = tt
 
 -- a bid stays placed, and a report reported
-IsPlaced-snoc : (h : List Entry) (e : Entry) (b : Bid) → IsPlaced h b → IsPlaced (h ++ e ∷ []) b
-IsPlaced-snoc h e b placed =
-    (is_announced-snoc h e b.auction placed.0, is_enrolled-snoc h e b.bidder b.submitter placed.1)
+IsPlaced-snoc : (history : List Entry) (entry : Entry) (bid : Bid)
+    → IsPlaced history bid
+    → IsPlaced (history ++ entry ∷ []) bid
+IsPlaced-snoc history entry bid placed = (
+  is_announced-snoc history entry bid.auction placed.0,
+  is_enrolled-snoc history entry bid.bidder bid.submitter placed.1,
+)
 
 -- and a report reported
-IsReported-snoc : (h : List Entry) (e : Entry) (r : Report) → IsReported h r → IsReported (h ++ e ∷ []) r
-IsReported-snoc h e r placed =
-    (is_announced-snoc h e r.auction placed.0, is_enrolled-snoc h e r.bidder r.submitter placed.1)
+IsReported-snoc : (history : List Entry) (entry : Entry) (report : Report)
+    → IsReported history report
+    → IsReported (history ++ entry ∷ []) report
+IsReported-snoc history entry report placed = (
+  is_announced-snoc history entry report.auction placed.0,
+  is_enrolled-snoc history entry report.bidder report.submitter placed.1,
+)
 
--- Each entry's kind is its sender's; each bid and report is of an announced auction, and of a bidder enrolled under its sender.
-pub record IsOrderly (h : List Entry) : Type 0 where
-  pub parties : AllByRecursion (λ (e : Entry). is_operators e.message ≡ true → is_same e.submitter operator ≡ true) h
-  pub bidders : AllByRecursion (IsPlaced h) (bids h)
-  pub reporters : AllByRecursion (IsReported h) (reports h)
+-- Each entry's kind is its sender's; each bid and report is of an announced auction, and of a bidder enrolled under its
+-- sender.
+pub record IsOrderly (history : List Entry) : Type 0 where
+  pub parties : AllByRecursion
+      (λ (entry : Entry). is_operators entry.message ≡ true → is_same entry.submitter operator ≡ true) history
+  pub bidders : AllByRecursion (IsPlaced history) (bids history)
+  pub reporters : AllByRecursion (IsReported history) (reports history)
 
 -- the empty history is orderly
 IsOrderly-nil : IsOrderly []
@@ -107,25 +124,29 @@ unfolding bids reports
 IsOrderly-nil = record { parties = tt; bidders = tt; reporters = tt }
 
 -- and stays so with an accepted entry
-IsOrderly-snoc : (h : List Entry) (e : Entry) → IsLegal h → IsOrderly h → Follows h e → IsOrderly (h ++ e ∷ [])
-IsOrderly-snoc h e legal orderly follows =
-    let passed = accepted-passes h e.submitter e.number e.moment e.message follows.accepted in
+IsOrderly-snoc : (history : List Entry) (entry : Entry)
+    → IsLegal history
+    → IsOrderly history
+    → Follows history entry
+    → IsOrderly (history ++ entry ∷ [])
+IsOrderly-snoc history entry legal orderly follows =
+    let passed = accepted-passes history entry.submitter entry.number entry.moment entry.message follows.accepted in
     let bids_now =
-    AllByRecursion-append _ (bids h) _ orderly.bidders
-    (bid_by-placed h e.submitter e.number e.moment e.message passed.rows) in
+    AllByRecursion-append _ (bids history) _ orderly.bidders
+    (bid_by-placed history entry.submitter entry.number entry.moment entry.message passed.rows) in
     let reports_now =
-    AllByRecursion-append _ (reports h) _ orderly.reporters
-    (reported_by-placed h e.submitter e.moment e.message passed.rows) in
+    AllByRecursion-append _ (reports history) _ orderly.reporters
+    (reported_by-placed history entry.submitter entry.moment entry.message passed.rows) in
     record {
-      parties = AllByRecursion-append _ h (e ∷ []) orderly.parties
-          (permitted-operators e.submitter e.message passed.permitted, tt);
-      bidders = rw (bids-snoc h e) (AllByRecursion-weaker _ _ (IsPlaced-snoc h e)
-          (bids h ++ bid_by e.submitter e.number e.message) bids_now);
+      parties = AllByRecursion-append _ history (entry ∷ []) orderly.parties
+          (permitted-operators entry.submitter entry.message passed.permitted, tt);
+      bidders = rw (bids-snoc history entry) (AllByRecursion-weaker _ _ (IsPlaced-snoc history entry)
+          (bids history ++ bid_by entry.submitter entry.number entry.message) bids_now);
       reporters =
-          rw (reports-snoc h e) (AllByRecursion-weaker _ _ (IsReported-snoc h e)
-          (reports h ++ reported_by e.submitter e.message) reports_now);
+          rw (reports-snoc history entry) (AllByRecursion-weaker _ _ (IsReported-snoc history entry)
+          (reports history ++ reported_by entry.submitter entry.message) reports_now);
     }
 
 -- every legal history is orderly
-pub IsLegal-orderly : (h : List Entry) → IsLegal h → IsOrderly h
-IsLegal-orderly h legal = by_entries IsOrderly IsOrderly-nil IsOrderly-snoc h legal
+pub IsLegal-orderly : (history : List Entry) → IsLegal history → IsOrderly history
+IsLegal-orderly history legal = by_entries IsOrderly IsOrderly-nil IsOrderly-snoc history legal

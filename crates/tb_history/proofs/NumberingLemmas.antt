@@ -1,5 +1,6 @@
 -- Numbers by place stay those of who is registered and announced as the rosters grow, and so do the movements.
-use Rattle.std.proofs.Common.{◌≡◌, ℕ, ◌+◌, ◌==◌, ◌&&◌, Bool, true, false, Option, Some, None, inl, inr, List, [], ◌∷◌, ◌++◌, map, refl, sym, ap, ◌∙◌, subst}
+use Rattle.std.proofs.Common.{◌≡◌, ℕ, ◌+◌, ◌==◌, ◌&&◌, Bool, true, false, Option, Some, None, inl}
+use Rattle.std.proofs.Common.{inr, List, [], ◌∷◌, ◌++◌, map, refl, sym, ap, ◌∙◌, subst}
 use Rattle.std.specs.Prelude.{option_to_list}
 use Rattle.std.specs.List.{AllByRecursion, list_any, position_or_len}
 use Rattle.std.proofs.lemmas.Bool.{cases_Bool, and_parts}
@@ -19,18 +20,21 @@ use Rattle.tb_history.specs.Roster.{registrations, enrolments, announcements, an
 use Rattle.tb_history.specs.Holdings.{award_in, marks, mark_of}
 use Rattle.tb_history.specs.Tables.{mark_rows, left_in, par_rows}
 use Rattle.tb_history.specs.Legal.{IsLegal, Follows}
-use Rattle.tb_history.specs.Moves.{Numbering, numbering_of, credit_of, settled_as, movement_by, movements_by, meaning_by, has_bill}
+use Rattle.tb_history.specs.Moves.{Numbering, numbering_of, credit_of, settled_as, movement_by}
+use Rattle.tb_history.specs.Moves.{movements_by, meaning_by, has_bill}
 use Rattle.tb_history.proofs.PartLemmas.{AllByRecursion-append, AllByRecursion-weaker, AllByRecursion-front}
 use Rattle.tb_history.proofs.SameLemmas.{is_same-equal}
 use Rattle.tb_history.proofs.GrowthLemmas.{registrations-snoc, announcements-snoc, marks-snoc}
 use Rattle.tb_history.proofs.AcceptedLemmas.{IsClear, Passes, accepted-passes}
 use Rattle.tb_history.proofs.LegalLemmas.{by_entries}
 use Rattle.tb_history.proofs.ClosedLemmas.{found-in}
-use Rattle.tb_history.proofs.ToldLemmas.{registered-append, has_bill-append, sender-registered, transfer_rows-clear, IsLegal-enrolled, bill-found, redeem-bill}
+use Rattle.tb_history.proofs.ToldLemmas.{registered-append, has_bill-append, sender-registered, transfer_rows-clear}
+use Rattle.tb_history.proofs.ToldLemmas.{IsLegal-enrolled, bill-found, redeem-bill}
 
 -- the place of what is there stays behind which more comes
 place-append : {X : Type 0} (test : X → Bool) (xs ys : List X)
-    → list_any test xs ≡ true → position_or_len test (xs ++ ys) ≡ position_or_len test xs
+    → list_any test xs ≡ true
+    → position_or_len test (xs ++ ys) ≡ position_or_len test xs
 place-append test [] ys some = absurd cc
 place-append test (x ∷ xs) ys some =
     elim (cases_Bool (test x)) [
@@ -39,52 +43,62 @@ place-append test (x ∷ xs) ys some =
     ]
 
 -- two numberings agree on who is registered and on what is announced
-pub record Agree (one other : Numbering) (h : List Entry) : Type 0 where
-  pub holders : (name : List ℕ) → is_registered (registrations h) name ≡ true → one.holder name ≡ other.holder name
-  pub bills : (bytes : List ℕ) → has_bill (announcements h) bytes ≡ true → one.security bytes ≡ other.security bytes
+pub record Agree (one other : Numbering) (history : List Entry) : Type 0 where
+  pub holders : (name : List ℕ)
+      → is_registered (registrations history) name ≡ true
+      → one.holder name ≡ other.holder name
+  pub bills : (bytes : List ℕ)
+      → has_bill (announcements history) bytes ≡ true
+      → one.security bytes ≡ other.security bytes
 
 -- and so they do on a beginning
-Agree-front : (one other : Numbering) (h : List Entry) (e : Entry) → Agree one other (h ++ e ∷ []) → Agree one other h
-Agree-front one other h e agree = record {
-  holders = λ name known. agree.holders name (rw (registrations-snoc h e)
-      (registered-append (registrations h) (registered_by e.message) name known));
-  bills = λ bytes known. agree.bills bytes (rw (announcements-snoc h e)
-      (has_bill-append (announcements h) (announced_by e.message) bytes known));
+Agree-front : (one other : Numbering) (history : List Entry) (entry : Entry)
+    → Agree one other (history ++ entry ∷ [])
+    → Agree one other history
+Agree-front one other history entry agree = record {
+  holders = λ name known. agree.holders name (rw (registrations-snoc history entry)
+      (registered-append (registrations history) (registered_by entry.message) name known));
+  bills = λ bytes known. agree.bills bytes (rw (announcements-snoc history entry)
+      (has_bill-append (announcements history) (announced_by entry.message) bytes known));
 }
 
 -- places in a longer roster agree with those in the roster
-Agree-places : (h : List Entry) (e : Entry)
-    → Agree (numbering_of (registrations (h ++ e ∷ [])) (announcements (h ++ e ∷ [])))
-    (numbering_of (registrations h) (announcements h)) h
-Agree-places h e = record {
-  holders = λ name known. rw (registrations-snoc h e)
-      (place-append (λ (r : Registration). is_same r.submitter name) (registrations h) (registered_by e.message) known);
-  bills = λ bytes known. rw (announcements-snoc h e)
-      (place-append (λ (a : Announcement). is_same a.cusip.bytes bytes) (announcements h) (announced_by e.message) known);
+Agree-places : (history : List Entry) (entry : Entry)
+    → Agree (numbering_of (registrations (history ++ entry ∷ [])) (announcements (history ++ entry ∷ [])))
+    (numbering_of (registrations history) (announcements history)) history
+Agree-places history entry = record {
+  holders = λ name known. rw (registrations-snoc history entry)
+      (place-append (λ (registration : Registration). is_same registration.submitter name) (registrations history)
+      (registered_by entry.message) known);
+  bills = λ bytes known. rw (announcements-snoc history entry)
+      (place-append (λ (announcement : Announcement). is_same announcement.cusip.bytes bytes) (announcements history)
+      (announced_by entry.message) known);
 }
 
 -- the holder of each pledge is registered
-holders-message : (h : List Entry) (s : List ℕ) (n : ℕ) (moment : Moment) (m : Message)
-    → Passes h s n moment m
-    → AllByRecursion (λ (mark : Mark). is_registered (registrations h) mark.holder ≡ true) (pledged_by s n m)
-holders-message h s n moment (message.Pledge cusip to amount) passed =
-    (sender-registered h s (message.Pledge cusip to amount) passed.caller passed.permitted refl, tt)
-holders-message h s n moment other passed = tt
+holders-message : (history : List Entry) (submitter : List ℕ) (number : ℕ) (moment : Moment) (sent : Message)
+    → Passes history submitter number moment sent
+    → AllByRecursion (λ (mark : Mark). is_registered (registrations history) mark.holder ≡ true)
+    (pledged_by submitter number sent)
+holders-message history submitter number moment (message.Pledge cusip to amount) passed =
+    (sender-registered history submitter (message.Pledge cusip to amount) passed.caller passed.permitted refl, tt)
+holders-message history submitter number moment other passed = tt
 
 -- and stays so with an accepted entry
-holders-push : (h : List Entry) (e : Entry)
-    → IsLegal h
-    → AllByRecursion (λ (mark : Mark). is_registered (registrations h) mark.holder ≡ true) (marks h)
-    → Follows h e
-    → AllByRecursion (λ (mark : Mark). is_registered (registrations (h ++ e ∷ [])) mark.holder ≡ true) (marks (h ++ e ∷ []))
-holders-push h e legal so_far follows =
-    let passed = accepted-passes h e.submitter e.number e.moment e.message follows.accepted in
-    let all = AllByRecursion-append _ (marks h) (pledged_by e.submitter e.number e.message) so_far
-    (holders-message h e.submitter e.number e.moment e.message passed) in
-    rw (marks-snoc h e)
-    (AllByRecursion-weaker _ _ (λ mark known. rw (registrations-snoc h e)
-    (registered-append (registrations h) (registered_by e.message) mark.holder known))
-    (marks h ++ pledged_by e.submitter e.number e.message) all)
+holders-push : (history : List Entry) (entry : Entry)
+    → IsLegal history
+    → AllByRecursion (λ (mark : Mark). is_registered (registrations history) mark.holder ≡ true) (marks history)
+    → Follows history entry
+    → AllByRecursion (λ (mark : Mark). is_registered (registrations (history ++ entry ∷ [])) mark.holder ≡ true)
+    (marks (history ++ entry ∷ []))
+holders-push history entry legal so_far follows =
+    let passed = accepted-passes history entry.submitter entry.number entry.moment entry.message follows.accepted in
+    let all = AllByRecursion-append _ (marks history) (pledged_by entry.submitter entry.number entry.message) so_far
+    (holders-message history entry.submitter entry.number entry.moment entry.message passed) in
+    rw (marks-snoc history entry)
+    (AllByRecursion-weaker _ _ (λ mark known. rw (registrations-snoc history entry)
+    (registered-append (registrations history) (registered_by entry.message) mark.holder known))
+    (marks history ++ pledged_by entry.submitter entry.number entry.message) all)
 
 -- nothing is pledged yet
 holders-nil : AllByRecursion (λ (mark : Mark). is_registered (registrations []) mark.holder ≡ true) (marks [])
@@ -92,131 +106,152 @@ unfolding marks
 holders-nil = tt
 
 -- so it is in every legal history
-IsLegal-holders : (h : List Entry)
-    → IsLegal h
-    → AllByRecursion (λ (mark : Mark). is_registered (registrations h) mark.holder ≡ true) (marks h)
-IsLegal-holders h legal =
-    by_entries (λ h. AllByRecursion (λ (mark : Mark). is_registered (registrations h) mark.holder ≡ true) (marks h))
-    holders-nil holders-push h legal
+IsLegal-holders : (history : List Entry)
+    → IsLegal history
+    → AllByRecursion (λ (mark : Mark). is_registered (registrations history) mark.holder ≡ true) (marks history)
+IsLegal-holders history legal =
+    by_entries (λ history. AllByRecursion (λ (mark : Mark). is_registered (registrations history) mark.holder ≡ true)
+    (marks history))
+    holders-nil holders-push history legal
 
 -- who made a pledge that is found is registered
-mark-holder : (h : List Entry) (s holder : List ℕ) (pledge amount : ℕ) (found : Option Mark)
-    → IsLegal h
-    → mark_of h holder pledge ≡ found
-    → AllByRecursion IsClear (mark_rows found (left_in h found) s amount)
-    → is_registered (registrations h) holder ≡ true
+mark-holder : (history : List Entry) (submitter holder : List ℕ) (pledge amount : ℕ) (found : Option Mark)
+    → IsLegal history
+    → mark_of history holder pledge ≡ found
+    → AllByRecursion IsClear (mark_rows found (left_in history found) submitter amount)
+    → is_registered (registrations history) holder ≡ true
 unfolding mark_of
-mark-holder h s holder pledge amount None legal is clear = absurd (let wrong : true ≡ false = clear.0 in cc)
-mark-holder h s holder pledge amount (Some mark) legal is clear =
+mark-holder history submitter holder pledge amount None legal is clear =
+    absurd (let wrong : true ≡ false = clear.0 in cc)
+mark-holder history submitter holder pledge amount (Some mark) legal is clear =
     let test : Mark → Bool = λ (m : Mark). is_same m.holder holder && (m.number == pledge) in
-    let known : is_registered (registrations h) mark.holder ≡ true =
-    found-in (λ (m : Mark). is_registered (registrations h) m.holder ≡ true) test (marks h) mark (IsLegal-holders h legal) is in
+    let known : is_registered (registrations history) mark.holder ≡ true =
+    found-in (λ (m : Mark). is_registered (registrations history) m.holder ≡ true) test (marks history) mark
+    (IsLegal-holders history legal) is in
     let named : is_same mark.holder holder ≡ true =
-    (and_parts (is_same mark.holder holder) (mark.number == pledge) (find_passes test (marks h) mark is)).0 in
-    subst (λ (name : List ℕ). is_registered (registrations h) name ≡ true) (is_same-equal mark.holder holder named) known
+    (and_parts (is_same mark.holder holder) (mark.number == pledge) (find_passes test (marks history) mark is)).0 in
+    subst (λ (name : List ℕ). is_registered (registrations history) name ≡ true)
+    (is_same-equal mark.holder holder named) known
 
 -- credits by numberings that agree are the same
-credits-agree : (one other : Numbering) (h : List Entry) (a : Announcement) (enrolled : List Enrolment)
-    → Agree one other h
-    → AllByRecursion (λ (x : Enrolment). is_registered (registrations h) x.submitter ≡ true) enrolled
-    → map (credit_of one h a) enrolled ≡ map (credit_of other h a) enrolled
-credits-agree one other h a [] agree known = refl
-credits-agree one other h a (x ∷ enrolled) agree known =
-    let here : credit_of one h a x ≡ credit_of other h a x =
-    ap (λ (number : ℕ). credit_with number (award_in h a x.bidder)) (agree.holders x.submitter known.0) in
-    let rest : map (credit_of one h a) enrolled ≡ map (credit_of other h a) enrolled =
-    credits-agree one other h a enrolled agree known.1 in
+credits-agree : (one other : Numbering) (history : List Entry) (announcement : Announcement) (enrolled : List Enrolment)
+    → Agree one other history
+    → AllByRecursion (λ (enrolment : Enrolment). is_registered (registrations history) enrolment.submitter ≡ true)
+    enrolled
+    → map (credit_of one history announcement) enrolled ≡ map (credit_of other history announcement) enrolled
+credits-agree one other history announcement [] agree known = refl
+credits-agree one other history announcement (x ∷ enrolled) agree known =
+    let here : credit_of one history announcement x ≡ credit_of other history announcement x =
+    ap (λ (number : ℕ). credit_with number (award_in history announcement x.bidder))
+    (agree.holders x.submitter known.0) in
+    let rest : map (credit_of one history announcement) enrolled ≡ map (credit_of other history announcement) enrolled =
+    credits-agree one other history announcement enrolled agree known.1 in
     cc
   where
+    -- a credit of par to the holder of a number
     credit_with : ℕ → ℕ → Credit
     credit_with holder par = record { holder = holder; par = par }
 
 -- and so is what a settlement moves
-settled-agree : (one other : Numbering) (h : List Entry) (auction : List ℕ) (found : Option Announcement)
-    → IsLegal h
-    → Agree one other h
-    → announcement_of (announcements h) auction ≡ found
-    → settled_as one h found ≡ settled_as other h found
-settled-agree one other h auction None legal agree is = refl
-settled-agree one other h auction (Some a) legal agree is =
+settled-agree : (one other : Numbering) (history : List Entry) (auction : List ℕ) (found : Option Announcement)
+    → IsLegal history
+    → Agree one other history
+    → announcement_of (announcements history) auction ≡ found
+    → settled_as one history found ≡ settled_as other history found
+settled-agree one other history auction None legal agree is = refl
+settled-agree one other history auction (Some a) legal agree is =
     let bill : one.security a.cusip.bytes ≡ other.security a.cusip.bytes =
-    agree.bills a.cusip.bytes (bill-found (announcements h) a auction is) in
-    let credits = credits-agree one other h a (enrolments h) agree (IsLegal-enrolled h legal) in
+    agree.bills a.cusip.bytes (bill-found (announcements history) a auction is) in
+    let credits = credits-agree one other history a (enrolments history) agree (IsLegal-enrolled history legal) in
     rw (bill, credits) refl
 
 -- what an accepted message moves is the same by numberings that agree
-movement-agree : (one other : Numbering) (h : List Entry) (s : List ℕ) (n : ℕ) (moment : Moment) (m : Message)
-    → IsLegal h
-    → Agree one other h
-    → Passes h s n moment m
-    → movement_by one h s n m ≡ movement_by other h s n m
-movement-agree one other h s n moment (message.Settle auction) legal agree passed =
-    settled-agree one other h auction (announcement_of (announcements h) auction) legal agree refl
-movement-agree one other h s n moment (message.Transfer cusip to amount) legal agree passed =
-    let clear = transfer_rows-clear h s moment cusip to amount.value passed.rows in
+movement-agree : (one other : Numbering) (history : List Entry) (submitter : List ℕ) (number : ℕ) (moment : Moment)
+    (sent : Message)
+    → IsLegal history
+    → Agree one other history
+    → Passes history submitter number moment sent
+    → movement_by one history submitter number sent ≡ movement_by other history submitter number sent
+movement-agree one other history submitter number moment (message.Settle auction) legal agree passed =
+    settled-agree one other history auction (announcement_of (announcements history) auction) legal agree refl
+movement-agree one other history submitter number moment (message.Transfer cusip to amount) legal agree passed =
+    let clear = transfer_rows-clear history submitter moment cusip to amount.value passed.rows in
     rw (
-      agree.holders s (sender-registered h s (message.Transfer cusip to amount) passed.caller passed.permitted refl),
+      agree.holders submitter (sender-registered history submitter
+          (message.Transfer cusip to amount) passed.caller passed.permitted refl),
       agree.holders to clear.known,
       agree.bills cusip.bytes clear.bill,
     )
     refl
-movement-agree one other h s n moment (message.Pledge cusip to amount) legal agree passed =
-    let clear = transfer_rows-clear h s moment cusip to amount.value
-    (AllByRecursion-front IsClear (par_rows h s moment cusip to amount.value) _ passed.rows) in
+movement-agree one other history submitter number moment (message.Pledge cusip to amount) legal agree passed =
+    let clear = transfer_rows-clear history submitter moment cusip to amount.value
+    (AllByRecursion-front IsClear (par_rows history submitter moment cusip to amount.value) _ passed.rows) in
     rw (
-      agree.holders s (sender-registered h s (message.Pledge cusip to amount) passed.caller passed.permitted refl),
+      agree.holders submitter (sender-registered history submitter
+          (message.Pledge cusip to amount) passed.caller passed.permitted refl),
       agree.holders to clear.known,
       agree.bills cusip.bytes clear.bill,
     )
     refl
-movement-agree one other h s n moment (message.Release holder pledge amount) legal agree passed =
+movement-agree one other history submitter number moment (message.Release holder pledge amount) legal agree passed =
     rw (
-      agree.holders s (sender-registered h s (message.Release holder pledge amount) passed.caller passed.permitted refl),
-      agree.holders holder (mark-holder h s holder pledge amount.value (mark_of h holder pledge) legal refl passed.rows.1),
+      agree.holders submitter (sender-registered history submitter
+          (message.Release holder pledge amount) passed.caller passed.permitted
+          refl),
+      agree.holders holder (mark-holder history submitter holder pledge amount.value
+          (mark_of history holder pledge) legal refl passed.rows.1),
     )
     refl
-movement-agree one other h s n moment (message.Redeem cusip) legal agree passed =
-    rw (agree.bills cusip.bytes (redeem-bill h s moment cusip (bill_of (announcements h) cusip) refl passed.rows)) refl
-movement-agree one other h s n moment other_kind legal agree passed = refl
+movement-agree one other history submitter number moment (message.Redeem cusip) legal agree passed =
+    rw (agree.bills cusip.bytes (redeem-bill history submitter moment cusip
+    (bill_of (announcements history) cusip) refl passed.rows)) refl
+movement-agree one other history submitter number moment other_kind legal agree passed = refl
 
 -- so the movements are, with an accepted entry more
-movements-agree-push : (h : List Entry) (e : Entry)
-    → IsLegal h
-    → ((one other : Numbering) → Agree one other h → movements_by one h ≡ movements_by other h)
-    → Follows h e
-    → (one other : Numbering) → Agree one other (h ++ e ∷ [])
-    → movements_by one (h ++ e ∷ []) ≡ movements_by other (h ++ e ∷ [])
-movements-agree-push h e legal so_far follows one other agree =
-    let passed = accepted-passes h e.submitter e.number e.moment e.message follows.accepted in
-    let front = Agree-front one other h e agree in
-    let before : movements_by one h ≡ movements_by other h = so_far one other front in
-    let next : meaning_by one h e ≡ meaning_by other h e =
-    movement-agree one other h e.submitter e.number e.moment e.message legal front passed in
-    movements_of-push (meaning_by one) h e
-    ∙ (ap (λ (ms : List Movement). ms ++ option_to_list (meaning_by one h e)) before
-    ∙ (ap (λ (m : Option Movement). movements_by other h ++ option_to_list m) next
-    ∙ sym (movements_of-push (meaning_by other) h e)))
+movements-agree-push : (history : List Entry) (entry : Entry)
+    → IsLegal history
+    → ((one other : Numbering) → Agree one other history → movements_by one history ≡ movements_by other history)
+    → Follows history entry
+    → (one other : Numbering)
+    → Agree one other (history ++ entry ∷ [])
+    → movements_by one (history ++ entry ∷ []) ≡ movements_by other (history ++ entry ∷ [])
+movements-agree-push history entry legal so_far follows one other agree =
+    let passed = accepted-passes history entry.submitter entry.number entry.moment entry.message follows.accepted in
+    let front = Agree-front one other history entry agree in
+    let before : movements_by one history ≡ movements_by other history = so_far one other front in
+    let next : meaning_by one history entry ≡ meaning_by other history entry =
+    movement-agree one other history entry.submitter entry.number entry.moment entry.message legal front passed in
+    movements_of-push (meaning_by one) history entry
+    ∙ (ap (λ (ms : List Movement). ms ++ option_to_list (meaning_by one history entry)) before
+    ∙ (ap (λ (m : Option Movement). movements_by other history ++ option_to_list m) next
+    ∙ sym (movements_of-push (meaning_by other) history entry)))
 
 -- in every legal history
-movements-agree : (h : List Entry) → IsLegal h
-    → (one other : Numbering) → Agree one other h → movements_by one h ≡ movements_by other h
-movements-agree h legal =
-    by_entries (λ h. (one other : Numbering) → Agree one other h → movements_by one h ≡ movements_by other h)
-    (λ one other agree. refl) movements-agree-push h legal
+movements-agree : (history : List Entry)
+    → IsLegal history
+    → (one other : Numbering)
+    → Agree one other history
+    → movements_by one history ≡ movements_by other history
+movements-agree history legal =
+    by_entries (λ history. (one other : Numbering) → Agree one other history
+    → movements_by one history ≡ movements_by other history)
+    (λ one other agree. refl) movements-agree-push history legal
 
 -- an entry that is accepted moves what it means on those before it, by the places in their rosters
-pub movements-grow : (h : List Entry) (e : Entry)
-    → IsLegal h
-    → Follows h e
-    → movements_by (numbering_of (registrations (h ++ e ∷ [])) (announcements (h ++ e ∷ []))) (h ++ e ∷ [])
-    ≡ movements_by (numbering_of (registrations h) (announcements h)) h
-    ++ option_to_list (meaning_by (numbering_of (registrations h) (announcements h)) h e)
-movements-grow h e legal follows =
-    let passed = accepted-passes h e.submitter e.number e.moment e.message follows.accepted in
-    let one = numbering_of (registrations (h ++ e ∷ [])) (announcements (h ++ e ∷ [])) in
-    let other = numbering_of (registrations h) (announcements h) in
-    let agree = Agree-places h e in
-    movements_of-push (meaning_by one) h e
-    ∙ (ap (λ (ms : List Movement). ms ++ option_to_list (meaning_by one h e)) (movements-agree h legal one other agree)
-    ∙ ap (λ (m : Option Movement). movements_by other h ++ option_to_list m)
-    (movement-agree one other h e.submitter e.number e.moment e.message legal agree passed))
+pub movements-grow : (history : List Entry) (entry : Entry)
+    → IsLegal history
+    → Follows history entry
+    → movements_by (numbering_of (registrations (history ++ entry ∷ [])) (announcements (history ++ entry ∷ [])))
+    (history ++ entry ∷ [])
+    ≡ movements_by (numbering_of (registrations history) (announcements history)) history
+    ++ option_to_list (meaning_by (numbering_of (registrations history) (announcements history)) history entry)
+movements-grow history entry legal follows =
+    let passed = accepted-passes history entry.submitter entry.number entry.moment entry.message follows.accepted in
+    let one = numbering_of (registrations (history ++ entry ∷ [])) (announcements (history ++ entry ∷ [])) in
+    let other = numbering_of (registrations history) (announcements history) in
+    let agree = Agree-places history entry in
+    movements_of-push (meaning_by one) history entry
+    ∙ (ap (λ (ms : List Movement). ms ++ option_to_list (meaning_by one history entry))
+    (movements-agree history legal one other agree)
+    ∙ ap (λ (m : Option Movement). movements_by other history ++ option_to_list m)
+    (movement-agree one other history entry.submitter entry.number entry.moment entry.message legal agree passed))

@@ -1,5 +1,6 @@
 -- How much all bids of a legal history come to.
-use Rattle.std.proofs.Common.{◌≡◌, ℕ, ◌*◌, ◌^◌, ◌≤◌, ◌++◌, Some, None, List, [], ◌∷◌, length, length-append, sum_by, refl, arith}
+use Rattle.std.proofs.Common.{◌≡◌, ℕ, ◌*◌, ◌^◌, ◌≤◌, ◌++◌, Some, None, List, [], ◌∷◌}
+use Rattle.std.proofs.Common.{length, length-append, sum_by, refl, arith}
 use Rattle.std.proofs.lemmas.Bool.{leb-true}
 use Rattle.std.proofs.lemmas.List.Sums.{sum_by-append, sum_by-cons}
 use Rattle.tb_units.specs.Multiples.{most_par}
@@ -26,16 +27,34 @@ one_bid : (f : Bid → ℕ) (bid : Bid) (most : ℕ) → f bid ≤ most → sum_
 one_bid f bid most few = let none : sum_by f [] ≡ 0 = refl in omega (arith, few, none, sum_by-cons f bid [])
 
 -- a message bids for at most 10^12
-bid_by-par : (s : List ℕ) (n : ℕ) (m : Message)
-    → AreOf (forms_of (kind_of m)) (parts_of m)
-    → par_of (bid_by s n m) ≤ 10 ^ 12
-bid_by-par s n (message.Bid auction bidder None amount) fits =
-    let bid : Bid = record { submitter = s; number = n; auction = auction; bidder = bidder; rate = None; amount = amount } in
+bid_by-par : (submitter : List ℕ) (number : ℕ) (sent : Message)
+    → AreOf (forms_of (kind_of sent)) (parts_of sent)
+    → par_of (bid_by submitter number sent) ≤ 10 ^ 12
+bid_by-par submitter number (message.Bid auction bidder None amount) fits =
+    let bid : Bid =
+    record {
+      submitter =
+          submitter;
+      number = number;
+      auction = auction;
+      bidder = bidder;
+      rate = None;
+      amount = amount;
+    } in
     one_bid (λ (b : Bid). b.amount.value) bid (10 ^ 12) (leb-true amount.value (10 ^ 12) fits.1.1.0)
-bid_by-par s n (message.Bid auction bidder (Some rate) amount) fits =
-    let bid : Bid = record { submitter = s; number = n; auction = auction; bidder = bidder; rate = Some rate; amount = amount } in
+bid_by-par submitter number (message.Bid auction bidder (Some rate) amount) fits =
+    let bid : Bid =
+    record {
+      submitter =
+          submitter;
+      number = number;
+      auction = auction;
+      bidder = bidder;
+      rate = Some rate;
+      amount = amount;
+    } in
     one_bid (λ (b : Bid). b.amount.value) bid (10 ^ 12) (leb-true amount.value (10 ^ 12) fits.1.1.1.0)
-bid_by-par s n other fits = no_bid (λ (b : Bid). b.amount.value) (10 ^ 12)
+bid_by-par submitter number other fits = no_bid (λ (b : Bid). b.amount.value) (10 ^ 12)
 
 -- the bids come to at most 10^12 for each entry
 abbrev IsWithin : List Entry → Type 0
@@ -44,27 +63,31 @@ IsWithin h = par_of (bids h) ≤ 10 ^ 12 * length h
 -- so it is where there are none
 IsWithin-nil : IsWithin []
 unfolding bids
-IsWithin-nil = no_bid (λ (b : Bid). b.amount.value) 0
+IsWithin-nil = no_bid (λ (bid : Bid). bid.amount.value) 0
 
 -- and stays so with an accepted entry
-IsWithin-push : (h : List Entry) (e : Entry) → IsLegal h → IsWithin h → Follows h e → IsWithin (h ++ e ∷ [])
-IsWithin-push h e legal within follows =
+IsWithin-push : (history : List Entry) (entry : Entry)
+    → IsLegal history
+    → IsWithin history
+    → Follows history entry
+    → IsWithin (history ++ entry ∷ [])
+IsWithin-push history entry legal within follows =
     let amount : Bid → ℕ = λ (bid : Bid). bid.amount.value in
-    rw (bids-snoc h e)
+    rw (bids-snoc history entry)
     (omega (
       arith,
-      sum_by-append amount (bids h) (bid_by e.submitter e.number e.message),
-      length-append h (e ∷ []),
+      sum_by-append amount (bids history) (bid_by entry.submitter entry.number entry.message),
+      length-append history (entry ∷ []),
       within,
-      bid_by-par e.submitter e.number e.message follows.in_range.body,
+      bid_by-par entry.submitter entry.number entry.message follows.in_range.body,
     ))
 
 -- all bids of a legal history come to at most 10^12 for each entry there may be
-pub IsLegal-bid_par : (h : List Entry) → IsLegal h → par_of (bids h) ≤ 10 ^ 12 * (4097 * 1048576)
-IsLegal-bid_par h legal =
-    let within : IsWithin h = by_entries IsWithin IsWithin-nil IsWithin-push h legal in
-    omega (arith, within, IsLegal-length h legal)
+pub IsLegal-bid_par : (history : List Entry) → IsLegal history → par_of (bids history) ≤ 10 ^ 12 * (4097 * 1048576)
+IsLegal-bid_par history legal =
+    let within : IsWithin history = by_entries IsWithin IsWithin-nil IsWithin-push history legal in
+    omega (arith, within, IsLegal-length history legal)
 
 -- and so to no more than is summed up
-pub IsLegal-par : (h : List Entry) → IsLegal h → par_of (bids h) ≤ most_par
-IsLegal-par h legal = omega (arith, IsLegal-bid_par h legal)
+pub IsLegal-par : (history : List Entry) → IsLegal history → par_of (bids history) ≤ most_par
+IsLegal-par history legal = omega (arith, IsLegal-bid_par history legal)

@@ -1,5 +1,6 @@
 -- What a part of a list says, and when it says what the whole list does.
-use Rattle.std.proofs.Common.{◌≡◌, Bool, true, false, ◌||◌, cond, if◌then◌else◌, Some, inl, inr, List, [], ◌∷◌, ◌++◌, refl, ap, ◌∙◌}
+use Rattle.std.proofs.Common.{◌≡◌, Bool, true, false, ◌||◌, cond, if◌then◌else◌, Some}
+use Rattle.std.proofs.Common.{inl, inr, List, [], ◌∷◌, ◌++◌, refl, ap, ◌∙◌}
 use Rattle.std.specs.List.{find, filter, flat_map, list_any, AllByRecursion}
 use Rattle.std.proofs.lemmas.Bool.{cases_Bool, cond-true, cond-false, both_ways}
 use Rattle.std.proofs.lemmas.List.Elements.{filter-append}
@@ -19,7 +20,8 @@ flat_map-filter says part (x ∷ xs) quiet =
 -- what the part says is a part of what the list says
 pub flat_map-filtered : {X Y : Type 0} (says : X → List Y) (part : X → Bool) (among : Y → Bool)
     → ((x : X) → filter among (says x) ≡ cond (part x) (says x) [])
-    → (xs : List X) → flat_map says (filter part xs) ≡ filter among (flat_map says xs)
+    → (xs : List X)
+    → flat_map says (filter part xs) ≡ filter among (flat_map says xs)
 flat_map-filtered says part among alike [] = refl
 flat_map-filtered says part among alike (x ∷ xs) =
     let rest = flat_map-filtered says part among alike xs in
@@ -90,13 +92,17 @@ AllByRecursion-from P holds (x ∷ xs) = (holds x, AllByRecursion-from P holds x
 -- what follows of each element follows of all
 pub AllByRecursion-weaker : {X : Type 0} (P Q : X → Type 0)
     → ((x : X) → P x → Q x)
-    → (xs : List X) → AllByRecursion P xs → AllByRecursion Q xs
+    → (xs : List X)
+    → AllByRecursion P xs
+    → AllByRecursion Q xs
 AllByRecursion-weaker P Q weaker [] holds = tt
 AllByRecursion-weaker P Q weaker (x ∷ xs) holds = (weaker x holds.0, AllByRecursion-weaker P Q weaker xs holds.1)
 
 -- what holds of two lists holds of both behind one another
 pub AllByRecursion-append : {X : Type 0} (P : X → Type 0) (xs ys : List X)
-    → AllByRecursion P xs → AllByRecursion P ys → AllByRecursion P (xs ++ ys)
+    → AllByRecursion P xs
+    → AllByRecursion P ys
+    → AllByRecursion P (xs ++ ys)
 AllByRecursion-append P [] ys first later = later
 AllByRecursion-append P (x ∷ xs) ys first later = (first.0, AllByRecursion-append P xs ys first.1 later)
 
@@ -111,12 +117,14 @@ AllByRecursion-filter P test (x ∷ xs) holds =
 
 -- and of each of them
 pub AllByRecursion-front : {X : Type 0} (P : X → Type 0) (xs ys : List X)
-    → AllByRecursion P (xs ++ ys) → AllByRecursion P xs
+    → AllByRecursion P (xs ++ ys)
+    → AllByRecursion P xs
 AllByRecursion-front P [] ys all = tt
 AllByRecursion-front P (x ∷ xs) ys all = (all.0, AllByRecursion-front P xs ys all.1)
 
 -- of those behind too
 pub AllByRecursion-back : {X : Type 0} (P : X → Type 0) (xs ys : List X)
-    → AllByRecursion P (xs ++ ys) → AllByRecursion P ys
+    → AllByRecursion P (xs ++ ys)
+    → AllByRecursion P ys
 AllByRecursion-back P [] ys all = all
 AllByRecursion-back P (x ∷ xs) ys all = AllByRecursion-back P xs ys all.1

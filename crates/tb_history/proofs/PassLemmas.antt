@@ -1,5 +1,6 @@
 -- The movements of a legal history are legal, and tell what it says of accounts.
-use Rattle.std.proofs.Common.{◌≡◌, ℕ, ◌+◌, ◌==◌, ◌&&◌, nat_lt, Bool, true, false, cond, Some, is_some, inl, inr, List, [], ◌∷◌, length, map, sum_by, All, refl, sym, ap, ◌∙◌, arith}
+use Rattle.std.proofs.Common.{◌≡◌, ℕ, ◌+◌, ◌==◌, ◌&&◌, nat_lt, Bool, true, false, cond, Some, is_some, inl, inr}
+use Rattle.std.proofs.Common.{List, [], ◌∷◌, length, map, sum_by, All, refl, sym, ap, ◌∙◌, arith}
 use Rattle.std.specs.Option.{option_map}
 use Rattle.std.specs.List.{AllByRecursion, count_by, find, filter, list_any}
 use Rattle.std.proofs.lemmas.Bool.{cases_Bool}
@@ -15,8 +16,10 @@ use Rattle.tb_history.specs.declared.accounts.Mark.{Mark}
 use Rattle.tb_history.specs.declared.accounts.Release.{Release}
 use Rattle.tb_history.specs.Entries.{is_same}
 use Rattle.tb_history.specs.Roster.{redemptions, is_redeemed}
-use Rattle.tb_history.specs.Holdings.{marks, releases, credited_to, issued, received_by, sent_from, held_of, mark_of, left_of, pledged_of, free_of, open_marks}
-use Rattle.tb_history.specs.Moves.{Numbering, movements_by, IsNumbered, IsBillNumbered, as_moved}
+use Rattle.tb_history.specs.Holdings.{marks, releases, credited_to, issued, received_by, sent_from, held_of}
+use Rattle.tb_history.specs.Holdings.{mark_of, left_of, pledged_of, free_of, open_marks}
+use Rattle.tb_history.specs.Legal.{IsLegal}
+use Rattle.tb_history.specs.Moves.{Numbering, movements_by, IsNumbered, IsBillNumbered, AreNumbered, as_moved}
 use Rattle.tb_history.proofs.ClosedLemmas.{found-in}
 use Rattle.tb_history.proofs.CreditedLemmas.{flipped}
 use Rattle.tb_history.proofs.MovedLemmas.{is_release_of}
@@ -32,116 +35,143 @@ abbrev pub IsKnown : Numbering → Mark → Type 0
 IsKnown numbers mark = IsNumbered numbers mark.holder × IsBillNumbered numbers mark.cusip.bytes
 
 -- the movements tell what the history says of accounts
-pub record AreTold (numbers : Numbering) (participants : List ℕ) (h : List Entry) : Type 0 where
-  pub legal : movements.IsLegal (movements_by numbers h)
-  pub reaches : All (movements.Reaches participants) (movements_by numbers h)
+pub record AreTold (numbers : Numbering) (participants : List ℕ) (history : List Entry) : Type 0 where
+  pub legal : movements.IsLegal (movements_by numbers history)
+  pub reaches : All (movements.Reaches participants) (movements_by numbers history)
   pub brings : (participant : List ℕ) (cusip : Cusip)
-      → IsNumbered numbers participant → IsBillNumbered numbers cusip.bytes
-      → sum_by (brought (numbers.holder participant) (numbers.security cusip.bytes)) (movements_by numbers h)
-      ≡ credited_to h participant cusip + received_by h participant cusip
+      → IsNumbered numbers participant
+      → IsBillNumbered numbers cusip.bytes
+      → sum_by (brought (numbers.holder participant) (numbers.security cusip.bytes)) (movements_by numbers history)
+      ≡ credited_to history participant cusip + received_by history participant cusip
   pub takes : (participant : List ℕ) (cusip : Cusip)
-      → IsNumbered numbers participant → IsBillNumbered numbers cusip.bytes
-      → sum_by (taken (numbers.holder participant) (numbers.security cusip.bytes)) (movements_by numbers h)
-      ≡ sent_from h participant cusip
-  pub issued_is : (cusip : Cusip) → IsBillNumbered numbers cusip.bytes
-      → sum_by (issues (numbers.security cusip.bytes)) (movements_by numbers h) ≡ issued h cusip
-  pub redeemed : (cusip : Cusip) → IsBillNumbered numbers cusip.bytes
-      → moved.is_redeemed (numbers.security cusip.bytes) (movements_by numbers h) ≡ is_redeemed (redemptions h) cusip
-  pub marks_are : pledges.marks (movements_by numbers h) ≡ map (as_moved numbers) (marks h)
-  pub released : (holder : List ℕ) (number : ℕ) → IsNumbered numbers holder
-      → sum_by (pledges.releases (numbers.holder holder) number) (movements_by numbers h)
-      ≡ sum_by (λ (r : Release). r.amount.value) (filter (is_release_of holder number) (releases h))
-  pub known : AllByRecursion (IsKnown numbers) (marks h)
+      → IsNumbered numbers participant
+      → IsBillNumbered numbers cusip.bytes
+      → sum_by (taken (numbers.holder participant) (numbers.security cusip.bytes)) (movements_by numbers history)
+      ≡ sent_from history participant cusip
+  pub issued_is : (cusip : Cusip)
+      → IsBillNumbered numbers cusip.bytes
+      → sum_by (issues (numbers.security cusip.bytes)) (movements_by numbers history) ≡ issued history cusip
+  pub redeemed : (cusip : Cusip)
+      → IsBillNumbered numbers cusip.bytes
+      → moved.is_redeemed (numbers.security cusip.bytes) (movements_by numbers history)
+      ≡ is_redeemed (redemptions history) cusip
+  pub marks_are : pledges.marks (movements_by numbers history) ≡ map (as_moved numbers) (marks history)
+  pub released : (holder : List ℕ) (number : ℕ)
+      → IsNumbered numbers holder
+      → sum_by (pledges.releases (numbers.holder holder) number) (movements_by numbers history)
+      ≡ sum_by (λ (r : Release). r.amount.value) (filter (is_release_of holder number) (releases history))
+  pub known : AllByRecursion (IsKnown numbers) (marks history)
+
+-- a legal history by numbers for all who are registered and announced in it, told by its movements
+pub record IsToldBy (numbers : Numbering) (participants : List ℕ) (history : List Entry) : Type 0 where
+  pub legal : IsLegal history
+  pub numbered : AreNumbered numbers participants history
+  pub told : AreTold numbers participants history
 
 -- so they tell what is held
-pub held-told : (numbers : Numbering) (participants : List ℕ) (h : List Entry) (participant : List ℕ) (cusip : Cusip)
-    → AreTold numbers participants h
+pub held-told : (numbers : Numbering) (participants : List ℕ) (history : List Entry) (participant : List ℕ)
+    (cusip : Cusip)
+    → AreTold numbers participants history
     → IsNumbered numbers participant
     → IsBillNumbered numbers cusip.bytes
-    → moved.held (numbers.holder participant) (numbers.security cusip.bytes) (movements_by numbers h)
-    ≡ held_of h participant cusip
+    → moved.held (numbers.holder participant) (numbers.security cusip.bytes) (movements_by numbers history)
+    ≡ held_of history participant cusip
 unfolding held_of
-held-told numbers participants h participant cusip told own bills =
+held-told numbers participants history participant cusip told own bills =
     rw (told.redeemed cusip bills, told.brings participant cusip own bills, told.takes participant cusip own bills) refl
 
 -- what is left of a pledge
-pub left-told : (numbers : Numbering) (participants : List ℕ) (h : List Entry) (mark : Mark)
-    → AreTold numbers participants h
+pub left-told : (numbers : Numbering) (participants : List ℕ) (history : List Entry) (mark : Mark)
+    → AreTold numbers participants history
     → IsKnown numbers mark
-    → pledges.left_of (movements_by numbers h) (as_moved numbers mark) ≡ left_of h mark
+    → pledges.left_of (movements_by numbers history) (as_moved numbers mark) ≡ left_of history mark
 unfolding left_of
-left-told numbers participants h mark told known =
+left-told numbers participants history mark told known =
     rw (told.redeemed mark.cusip known.1, told.released mark.holder mark.number known.0) refl
 
 -- a pledge of a participant in a bill is one in the movements
-on-told : (numbers : Numbering) (participant : List ℕ) (cusip : Cusip) (mark : Mark) → IsKnown numbers mark
+on-told : (numbers : Numbering) (participant : List ℕ) (cusip : Cusip) (mark : Mark)
+    → IsKnown numbers mark
     → pledges.is_on (numbers.holder participant) (numbers.security cusip.bytes) (as_moved numbers mark)
     ≡ (is_same mark.holder participant && is_same mark.cusip.bytes cusip.bytes)
 on-told numbers participant cusip mark known =
-    rw (known.0 participant, known.1 cusip.bytes, flipped participant mark.holder, flipped cusip.bytes mark.cusip.bytes) refl
+    rw (known.0 participant, known.1 cusip.bytes, flipped participant mark.holder, flipped cusip.bytes mark.cusip.bytes)
+    refl
 
 -- all pledges of a participant in a bill
-pledged-list : (numbers : Numbering) (participants : List ℕ) (h : List Entry) (participant : List ℕ) (cusip : Cusip)
-    (all : List Mark)
-    → AreTold numbers participants h
+pledged-list : (numbers : Numbering) (participants : List ℕ) (history : List Entry) (participant : List ℕ)
+    (cusip : Cusip) (all : List Mark)
+    → AreTold numbers participants history
     → AllByRecursion (IsKnown numbers) all
-    → sum_by (pledges.left_of (movements_by numbers h))
+    → sum_by (pledges.left_of (movements_by numbers history))
     (filter (pledges.is_on (numbers.holder participant) (numbers.security cusip.bytes))
     (map (as_moved numbers) all))
-    ≡ sum_by (left_of h) (filter (λ (mark : Mark). is_same mark.holder participant
+    ≡ sum_by (left_of history) (filter (λ (mark : Mark). is_same mark.holder participant
     && is_same mark.cusip.bytes cusip.bytes) all)
-pledged-list numbers participants h participant cusip [] told known = refl
-pledged-list numbers participants h participant cusip (mark ∷ all) told known =
+pledged-list numbers participants history participant cusip [] told known = refl
+pledged-list numbers participants history participant cusip (mark ∷ all) told known =
     let test : Mark → Bool = λ (m : Mark). is_same m.holder participant && is_same m.cusip.bytes cusip.bytes in
     let on = pledges.is_on (numbers.holder participant) (numbers.security cusip.bytes) in
-    let left = sum_by-filter-cons (pledges.left_of (movements_by numbers h)) on (as_moved numbers mark)
+    let left = sum_by-filter-cons (pledges.left_of (movements_by numbers history)) on (as_moved numbers mark)
     (map (as_moved numbers) all) in
-    let right = sum_by-filter-cons (left_of h) test mark all in
-    let rest = pledged-list numbers participants h participant cusip all told known.1 in
-    let same : cond (on (as_moved numbers mark)) (pledges.left_of (movements_by numbers h) (as_moved numbers mark)) 0
-    ≡ cond (test mark) (left_of h mark) 0 =
-    ap (λ b. cond b (pledges.left_of (movements_by numbers h) (as_moved numbers mark)) 0)
+    let right = sum_by-filter-cons (left_of history) test mark all in
+    let rest = pledged-list numbers participants history participant cusip all told known.1 in
+    let same : cond (on (as_moved numbers mark)) (pledges.left_of (movements_by numbers history)
+    (as_moved numbers mark)) 0
+    ≡ cond (test mark) (left_of history mark) 0 =
+    ap (λ b. cond b (pledges.left_of (movements_by numbers history) (as_moved numbers mark)) 0)
     (on-told numbers participant cusip mark known.0)
-    ∙ ap (λ n. cond (test mark) n 0) (left-told numbers participants h mark told known.0) in
+    ∙ ap (λ n. cond (test mark) n 0) (left-told numbers participants history mark told known.0) in
     left ∙ (omega (arith, same, rest) ∙ sym right)
 
 -- what is pledged
-pub pledged-told : (numbers : Numbering) (participants : List ℕ) (h : List Entry) (participant : List ℕ) (cusip : Cusip)
-    → AreTold numbers participants h
-    → pledges.pledged (numbers.holder participant) (numbers.security cusip.bytes) (movements_by numbers h)
-    ≡ pledged_of h participant cusip
+pub pledged-told : (numbers : Numbering) (participants : List ℕ) (history : List Entry) (participant : List ℕ)
+    (cusip : Cusip)
+    → AreTold numbers participants history
+    → pledges.pledged (numbers.holder participant) (numbers.security cusip.bytes) (movements_by numbers history)
+    ≡ pledged_of history participant cusip
 unfolding pledged_of
-pledged-told numbers participants h participant cusip told =
-    ap (λ (all : List pledges.Mark). sum_by (pledges.left_of (movements_by numbers h))
+pledged-told numbers participants history participant cusip told =
+    ap (λ (all : List pledges.Mark). sum_by (pledges.left_of (movements_by numbers history))
     (filter (pledges.is_on (numbers.holder participant) (numbers.security cusip.bytes)) all)) told.marks_are
-    ∙ pledged-list numbers participants h participant cusip (marks h) told told.known
+    ∙ pledged-list numbers participants history participant cusip (marks history) told told.known
 
 -- and what is free
-pub free-told : (numbers : Numbering) (participants : List ℕ) (h : List Entry) (participant : List ℕ) (cusip : Cusip)
-    → AreTold numbers participants h
+pub free-told : (numbers : Numbering) (participants : List ℕ) (history : List Entry) (participant : List ℕ)
+    (cusip : Cusip)
+    → AreTold numbers participants history
     → IsNumbered numbers participant
     → IsBillNumbered numbers cusip.bytes
-    → pledges.free (numbers.holder participant) (numbers.security cusip.bytes) (movements_by numbers h)
-    ≡ free_of h participant cusip
+    → pledges.free (numbers.holder participant) (numbers.security cusip.bytes) (movements_by numbers history)
+    ≡ free_of history participant cusip
 unfolding free_of
-free-told numbers participants h participant cusip told own bills =
-    rw (held-told numbers participants h participant cusip told own bills, pledged-told numbers participants h participant cusip told) refl
+free-told numbers participants history participant cusip told own bills =
+    rw (
+      held-told numbers participants history participant cusip told own bills,
+      pledged-told numbers participants history participant cusip told,
+    ) refl
 
 -- of all pledges the participant's with something left
-opens-list : (numbers : Numbering) (participants : List ℕ) (h : List Entry) (participant : List ℕ) (all : List Mark)
-    → AreTold numbers participants h
+opens-list : (numbers : Numbering) (participants : List ℕ) (history : List Entry) (participant : List ℕ)
+    (all : List Mark)
+    → AreTold numbers participants history
     → AllByRecursion (IsKnown numbers) all
     → count_by (λ (mark : pledges.Mark). mark.holder == numbers.holder participant
-    && nat_lt 0 (pledges.left_of (movements_by numbers h) mark)) (map (as_moved numbers) all)
-    ≡ length (filter (λ (mark : Mark). is_same mark.holder participant && nat_lt 0 (left_of h mark)) all)
-opens-list numbers participants h participant [] told known = refl
-opens-list numbers participants h participant (mark ∷ all) told known =
-    let test : Mark → Bool = λ (m : Mark). is_same m.holder participant && nat_lt 0 (left_of h m) in
+    && nat_lt 0 (pledges.left_of (movements_by numbers history) mark)) (map (as_moved numbers) all)
+    ≡ length (filter (λ (mark : Mark). is_same mark.holder participant && nat_lt 0 (left_of history mark)) all)
+opens-list numbers participants history participant [] told known = refl
+opens-list numbers participants history participant (mark ∷ all) told known =
+    let test : Mark → Bool = λ (m : Mark). is_same m.holder participant && nat_lt 0 (left_of history m) in
     let open_mark : pledges.Mark → Bool = λ (m : pledges.Mark). m.holder == numbers.holder participant
-    && nat_lt 0 (pledges.left_of (movements_by numbers h) m) in
-    let rest = opens-list numbers participants h participant all told known.1 in
+    && nat_lt 0 (pledges.left_of (movements_by numbers history) m) in
+    let rest = opens-list numbers participants history participant all told known.1 in
     let same : open_mark (as_moved numbers mark) ≡ test mark =
-    rw (known.0.0 participant, flipped participant mark.holder, left-told numbers participants h mark told known.0) refl in
+    rw (
+      known.0.0 participant,
+      flipped participant mark.holder,
+      left-told numbers participants history mark told known.0,
+    )
+    refl in
     let split = sum_by-cons (λ (m : pledges.Mark). cond (open_mark m) 1 0) (as_moved numbers mark)
     (map (as_moved numbers) all) in
     elim (cases_Bool (test mark)) [
@@ -152,14 +182,14 @@ opens-list numbers participants h participant (mark ∷ all) told known =
     ]
 
 -- how many pledges of a participant are open
-pub opens-told : (numbers : Numbering) (participants : List ℕ) (h : List Entry) (participant : List ℕ)
-    → AreTold numbers participants h
-    → pledges.open_marks (numbers.holder participant) (movements_by numbers h) ≡ open_marks h participant
+pub opens-told : (numbers : Numbering) (participants : List ℕ) (history : List Entry) (participant : List ℕ)
+    → AreTold numbers participants history
+    → pledges.open_marks (numbers.holder participant) (movements_by numbers history) ≡ open_marks history participant
 unfolding open_marks
-opens-told numbers participants h participant told =
+opens-told numbers participants history participant told =
     ap (count_by (λ (mark : pledges.Mark). mark.holder == numbers.holder participant
-    && nat_lt 0 (pledges.left_of (movements_by numbers h) mark))) told.marks_are
-    ∙ opens-list numbers participants h participant (marks h) told told.known
+    && nat_lt 0 (pledges.left_of (movements_by numbers history) mark))) told.marks_are
+    ∙ opens-list numbers participants history participant (marks history) told told.known
 
 -- the pledge of a holder and number
 mark-list : (numbers : Numbering) (holder : List ℕ) (number : ℕ) (all : List Mark)
@@ -179,22 +209,22 @@ mark-list numbers holder number (mark ∷ all) known =
     ]
 
 -- as the movements have it
-pub mark-told : (numbers : Numbering) (participants : List ℕ) (h : List Entry) (holder : List ℕ) (number : ℕ)
-    → AreTold numbers participants h
-    → pledges.mark_of (numbers.holder holder) number (movements_by numbers h)
-    ≡ option_map {U = pledges.Mark} (as_moved numbers) (mark_of h holder number)
+pub mark-told : (numbers : Numbering) (participants : List ℕ) (history : List Entry) (holder : List ℕ) (number : ℕ)
+    → AreTold numbers participants history
+    → pledges.mark_of (numbers.holder holder) number (movements_by numbers history)
+    ≡ option_map {U = pledges.Mark} (as_moved numbers) (mark_of history holder number)
 unfolding mark_of
-mark-told numbers participants h holder number told =
+mark-told numbers participants history holder number told =
     ap (find (pledges.is_named (numbers.holder holder) number)) told.marks_are
-    ∙ mark-list numbers holder number (marks h) told.known
+    ∙ mark-list numbers holder number (marks history) told.known
 
 -- a pledge that is found is of a participant and a bill with numbers
-pub known-mark : (numbers : Numbering) (participants : List ℕ) (h : List Entry) (holder : List ℕ) (number : ℕ)
+pub known-mark : (numbers : Numbering) (participants : List ℕ) (history : List Entry) (holder : List ℕ) (number : ℕ)
     (mark : Mark)
-    → AreTold numbers participants h
-    → mark_of h holder number ≡ Some mark
+    → AreTold numbers participants history
+    → mark_of history holder number ≡ Some mark
     → IsKnown numbers mark
 unfolding mark_of
-known-mark numbers participants h holder number mark told found =
-    found-in (IsKnown numbers) (λ (m : Mark). is_same m.holder holder && (m.number == number)) (marks h)
+known-mark numbers participants history holder number mark told found =
+    found-in (IsKnown numbers) (λ (m : Mark). is_same m.holder holder && (m.number == number)) (marks history)
     mark told.known found

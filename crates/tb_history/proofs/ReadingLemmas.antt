@@ -1,5 +1,6 @@
 -- There is one reading of each query.
-use Rattle.std.proofs.Common.{◌≡◌, ◌≢◌, ℕ, ◌*◌, ◌^◌, ◌≤◌, ◌==◌, nat_le, Option, Some, None, inl, inr, List, [], ◌∷◌, length, refl, sym, ap, ◌∙◌, subst, arith}
+use Rattle.std.proofs.Common.{◌≡◌, ◌≢◌, ℕ, ◌*◌, ◌^◌, ◌≤◌, ◌==◌, nat_le, Option, Some, None, inl, inr}
+use Rattle.std.proofs.Common.{List, [], ◌∷◌, length, refl, sym, ap, ◌∙◌, subst, arith}
 use Rattle.std.proofs.Math.Bridge.{le_prop}
 use Rattle.std.proofs.lemmas.Bool.{cases_Bool, both_ways, eqb-true, eq-eqb, leb-true, leb-false}
 use mathlib.Core.HLevel.{is_prop→PathP}
@@ -37,7 +38,9 @@ use Rattle.tb_history.specs.declared.reading.Reading.TheVariants as reading
 use Rattle.tb_history.specs.Roster.{announcements, announcement_of}
 use Rattle.tb_history.specs.Awarded.{Bidding, sought_in, stop_of, awarded}
 use Rattle.tb_history.specs.Holdings.{bidding_in}
-use Rattle.tb_history.specs.Readings.{days_of, AreRecognisedOf, HasFigures, AreFigures, AreResults, IsRateOver, IsInvestment, IsAwardLine, AreAwardLines, AreAwards, bidders_in, IsReading, IsHoldingLine, AreHoldingLines, IsPaidLine, ArePaidLines}
+use Rattle.tb_history.specs.Readings.{days_of, AreRecognisedOf, HasFigures, AreFigures, AreResults, IsRateOver}
+use Rattle.tb_history.specs.Readings.{IsInvestment, IsAwardLine, AreAwardLines, AreAwards, bidders_in, IsReading}
+use Rattle.tb_history.specs.Readings.{IsHoldingLine, AreHoldingLines, IsPaidLine, ArePaidLines}
 
 -- percentages of one number of hundredths are one
 same_percent : (one other : Percent) → one.hundredths ≡ other.hundredths → one ≡ other
@@ -76,7 +79,8 @@ IsCutOf-one : (recognised : List RateLine) (sought days : ℕ) (one other : Cut)
     → one ≡ other
 IsCutOf-one recognised sought days one other is is' =
     let found =
-    IsCut-one recognised sought one.stop.steps other.stop.steps one.percent.hundredths other.percent.hundredths is.is is'.is in
+    IsCut-one recognised sought one.stop.steps other.stop.steps one.percent.hundredths other.percent.hundredths is.is
+    is'.is in
     let stop = found.0 in
     let price : one.price.millionths ≡ other.price.millionths =
     IsPrice-one other.stop.steps days one.price.millionths other.price.millionths
@@ -108,18 +112,20 @@ IsRateOver-one year days millionths one other is is' =
     ]
 
 -- whichever of the two years it is taken over
-IsInvestment-one : (a : Announcement) (millionths one other : ℕ)
-    → IsInvestment a millionths one
-    → IsInvestment a millionths other
+IsInvestment-one : (announcement : Announcement) (millionths one other : ℕ)
+    → IsInvestment announcement millionths one
+    → IsInvestment announcement millionths other
     → one ≡ other
-IsInvestment-one a millionths one other is is' =
+IsInvestment-one announcement millionths one other is is' =
     elim (cases_Bool (one == other)) [
       | inl same ↦ eqb-true one other same
       | inr differs ↦
           let apart : one ≢ other = λ same. both_ways (one == other) differs (eq-eqb one other same) in
-          let common : ¬ (HasLeapDay a.issue.number) =
-          λ leap. apart (IsRateOver-one 366 (days_of a) millionths one other (is.leap leap) (is'.leap leap)) in
-          absurd (apart (IsRateOver-one 365 (days_of a) millionths one other (is.common common) (is'.common common)))
+          let common : ¬ (HasLeapDay announcement.issue.number) =
+          λ leap. apart (IsRateOver-one 366 (days_of announcement) millionths one other (is.leap leap)
+          (is'.leap leap)) in
+          absurd (apart (IsRateOver-one 365 (days_of announcement) millionths one other (is.common common)
+          (is'.common common)))
     ]
 
 -- there is one list of figures
@@ -139,14 +145,16 @@ HasFigures-one bidding one other has has' =
     subst (λ (c : Cut). AreAwardsOf c has.recognised has'.awards) (sym cut)
     (subst (λ (r : List RateLine). AreAwardsOf other.cut r has'.awards) recognised has'.awards_are) in
     let awards : has.awards ≡ has'.awards =
-    AreAwards-one one.cut.stop.steps one.cut.percent.hundredths has.recognised has.awards has'.awards has.awards_are awards' in
+    AreAwards-one one.cut.stop.steps one.cut.percent.hundredths has.recognised has.awards has'.awards has.awards_are
+    awards' in
     let median =
     IsRateOfPart-one 2 has.awards one.median.steps other.median.steps has.median
     (subst (λ (r : List RateLine). IsMedianRate r other.median.steps) (sym awards) has'.median) in
     let low = IsRateOfPart-one 20 has.awards one.low.steps other.low.steps has.low
     (subst (λ (r : List RateLine). IsLowRate r other.low.steps) (sym awards) has'.low) in
     let investment =
-    IsInvestment-one bidding.announcement one.cut.price.millionths one.investment.thousandths other.investment.thousandths has.investment
+    IsInvestment-one bidding.announcement one.cut.price.millionths one.investment.thousandths
+    other.investment.thousandths has.investment
     (subst (λ (c : Cut). IsInvestment bidding.announcement c.price.millionths other.investment.thousandths)
     (sym cut) has'.investment) in
     λ i. record {
@@ -230,11 +238,11 @@ AreAwardLines-one bidding (e ∷ bidders) (x ∷ xs) (y ∷ ys) are are' =
     (AreAwardLines-one bidding bidders xs ys are.1 are'.1)
 
 -- a line of holdings
-IsHoldingLine-one : (h : List Entry) (participant : List ℕ) (cusip : Cusip) (one other : HoldingLine)
-    → IsHoldingLine h participant cusip one
-    → IsHoldingLine h participant cusip other
+IsHoldingLine-one : (history : List Entry) (participant : List ℕ) (cusip : Cusip) (one other : HoldingLine)
+    → IsHoldingLine history participant cusip one
+    → IsHoldingLine history participant cusip other
     → one ≡ other
-IsHoldingLine-one h participant cusip one other is is' =
+IsHoldingLine-one history participant cusip one other is is' =
     let bills : one.cusip ≡ other.cusip = is.which ∙ sym is'.which in
     λ i. record {
       cusip = bills i;
@@ -244,77 +252,80 @@ IsHoldingLine-one h participant cusip one other is is' =
     }
 
 -- and all of them are one
-pub AreHoldingLines-one : (h : List Entry) (participant : List ℕ) (bills : List Announcement)
+pub AreHoldingLines-one : (history : List Entry) (participant : List ℕ) (bills : List Announcement)
     (one other : List HoldingLine)
-    → AreHoldingLines h participant bills one
-    → AreHoldingLines h participant bills other
+    → AreHoldingLines history participant bills one
+    → AreHoldingLines history participant bills other
     → one ≡ other
-AreHoldingLines-one h participant [] [] [] are are' = refl
-AreHoldingLines-one h participant [] [] (line ∷ lines) are are' = absurd are'
-AreHoldingLines-one h participant [] (line ∷ lines) other are are' = absurd are
-AreHoldingLines-one h participant (a ∷ bills) [] other are are' = absurd are
-AreHoldingLines-one h participant (a ∷ bills) (line ∷ lines) [] are are' = absurd are'
-AreHoldingLines-one h participant (a ∷ bills) (x ∷ xs) (y ∷ ys) are are' =
-    same_lists x y xs ys (IsHoldingLine-one h participant a.cusip x y are.0 are'.0)
-    (AreHoldingLines-one h participant bills xs ys are.1 are'.1)
+AreHoldingLines-one history participant [] [] [] are are' = refl
+AreHoldingLines-one history participant [] [] (line ∷ lines) are are' = absurd are'
+AreHoldingLines-one history participant [] (line ∷ lines) other are are' = absurd are
+AreHoldingLines-one history participant (a ∷ bills) [] other are are' = absurd are
+AreHoldingLines-one history participant (a ∷ bills) (line ∷ lines) [] are are' = absurd are'
+AreHoldingLines-one history participant (a ∷ bills) (x ∷ xs) (y ∷ ys) are are' =
+    same_lists x y xs ys (IsHoldingLine-one history participant a.cusip x y are.0 are'.0)
+    (AreHoldingLines-one history participant bills xs ys are.1 are'.1)
 
 -- a line of a redemption
-IsPaidLine-one : (h : List Entry) (cusip : Cusip) (holder : List ℕ) (one other : PaidLine)
-    → IsPaidLine h cusip holder one
-    → IsPaidLine h cusip holder other
+IsPaidLine-one : (history : List Entry) (cusip : Cusip) (holder : List ℕ) (one other : PaidLine)
+    → IsPaidLine history cusip holder one
+    → IsPaidLine history cusip holder other
     → one ≡ other
-IsPaidLine-one h cusip holder one other is is' =
+IsPaidLine-one history cusip holder one other is is' =
     let holders : one.holder ≡ other.holder = is.whose ∙ sym is'.whose in
     λ i. record { holder = holders i; paid = same_dollars one.paid other.paid (is.paid ∙ sym is'.paid) i }
 
 -- and all of them are one
-pub ArePaidLines-one : (h : List Entry) (cusip : Cusip) (holders : List Registration) (one other : List PaidLine)
-    → ArePaidLines h cusip holders one
-    → ArePaidLines h cusip holders other
+pub ArePaidLines-one : (history : List Entry) (cusip : Cusip) (holders : List Registration) (one other : List PaidLine)
+    → ArePaidLines history cusip holders one
+    → ArePaidLines history cusip holders other
     → one ≡ other
-ArePaidLines-one h cusip [] [] [] are are' = refl
-ArePaidLines-one h cusip [] [] (line ∷ lines) are are' = absurd are'
-ArePaidLines-one h cusip [] (line ∷ lines) other are are' = absurd are
-ArePaidLines-one h cusip (r ∷ holders) [] other are are' = absurd are
-ArePaidLines-one h cusip (r ∷ holders) (line ∷ lines) [] are are' = absurd are'
-ArePaidLines-one h cusip (r ∷ holders) (x ∷ xs) (y ∷ ys) are are' =
-    same_lists x y xs ys (IsPaidLine-one h cusip r.submitter x y are.0 are'.0)
-    (ArePaidLines-one h cusip holders xs ys are.1 are'.1)
+ArePaidLines-one history cusip [] [] [] are are' = refl
+ArePaidLines-one history cusip [] [] (line ∷ lines) are are' = absurd are'
+ArePaidLines-one history cusip [] (line ∷ lines) other are are' = absurd are
+ArePaidLines-one history cusip (r ∷ holders) [] other are are' = absurd are
+ArePaidLines-one history cusip (r ∷ holders) (line ∷ lines) [] are are' = absurd are'
+ArePaidLines-one history cusip (r ∷ holders) (x ∷ xs) (y ∷ ys) are are' =
+    same_lists x y xs ys (IsPaidLine-one history cusip r.submitter x y are.0 are'.0)
+    (ArePaidLines-one history cusip holders xs ys are.1 are'.1)
 
 -- an auction has one announcement
-announced-one : (found : Option Announcement) (a b : Announcement) → found ≡ Some a → found ≡ Some b → a ≡ b
-announced-one found a b first second = let both : Some a ≡ Some b = sym first ∙ second in cc
+announced-one : (found : Option Announcement) (announcement b : Announcement)
+    → found ≡ Some announcement
+    → found ≡ Some b
+    → announcement ≡ b
+announced-one found announcement b first second = let both : Some announcement ≡ Some b = sym first ∙ second in cc
 
 -- there is one reading of a query
-pub IsReading-one : (h : List Entry) (caller : List ℕ) (q : Query) (one other : Reading)
-    → IsReading h caller q one
-    → IsReading h caller q other
+pub IsReading-one : (history : List Entry) (caller : List ℕ) (q : Query) (one other : Reading)
+    → IsReading history caller q one
+    → IsReading history caller q other
     → one ≡ other
-IsReading-one h caller (query.Terms auction) (reading.Terms one) (reading.Terms other) is is' =
-    ap reading.Terms (announced-one (announcement_of (announcements h) auction) one other is is')
-IsReading-one h caller (query.Results auction) (reading.Results one) (reading.Results other) is is' =
-    let same = announced-one (announcement_of (announcements h) auction) is'.0 is.0 is'.1 is.1 in
-    ap reading.Results (AreResults-one (bidding_in h is.0) one other is.2
-    (subst (λ (a : Announcement). AreResults (bidding_in h a) other) same is'.2))
-IsReading-one h caller (query.Awards auction) (reading.Awards one) (reading.Awards other) is is' =
-    let same = announced-one (announcement_of (announcements h) auction) is'.0 is.0 is'.1 is.1 in
-    ap reading.Awards (AreAwardLines-one (bidding_in h is.0) (bidders_in h is.0 caller) one other is.2
-    (subst (λ (a : Announcement). AreAwards h a caller other) same is'.2))
-IsReading-one h caller (query.Bids auction) (reading.Bids one) (reading.Bids other) is is' =
+IsReading-one history caller (query.Terms auction) (reading.Terms one) (reading.Terms other) is is' =
+    ap reading.Terms (announced-one (announcement_of (announcements history) auction) one other is is')
+IsReading-one history caller (query.Results auction) (reading.Results one) (reading.Results other) is is' =
+    let same = announced-one (announcement_of (announcements history) auction) is'.0 is.0 is'.1 is.1 in
+    ap reading.Results (AreResults-one (bidding_in history is.0) one other is.2
+    (subst (λ (announcement : Announcement). AreResults (bidding_in history announcement) other) same is'.2))
+IsReading-one history caller (query.Awards auction) (reading.Awards one) (reading.Awards other) is is' =
+    let same = announced-one (announcement_of (announcements history) auction) is'.0 is.0 is'.1 is.1 in
+    ap reading.Awards (AreAwardLines-one (bidding_in history is.0) (bidders_in history is.0 caller) one other is.2
+    (subst (λ (announcement : Announcement). AreAwards history announcement caller other) same is'.2))
+IsReading-one history caller (query.Bids auction) (reading.Bids one) (reading.Bids other) is is' =
     ap reading.Bids (is ∙ sym is')
-IsReading-one h caller query.Holdings (reading.Holdings one) (reading.Holdings other) is is' =
-    ap reading.Holdings (AreHoldingLines-one h caller _ one other is is')
-IsReading-one h caller (query.Redemption cusip) (reading.Redemption one) (reading.Redemption other) is is' =
-    ap reading.Redemption (ArePaidLines-one h cusip _ one other is is')
-IsReading-one h caller (query.Terms auction) (reading.Terms one) other is is' = absurd is'
-IsReading-one h caller (query.Results auction) (reading.Results one) other is is' = absurd is'
-IsReading-one h caller (query.Awards auction) (reading.Awards one) other is is' = absurd is'
-IsReading-one h caller (query.Bids auction) (reading.Bids one) other is is' = absurd is'
-IsReading-one h caller query.Holdings (reading.Holdings one) other is is' = absurd is'
-IsReading-one h caller (query.Redemption cusip) (reading.Redemption one) other is is' = absurd is'
-IsReading-one h caller (query.Terms auction) one other is is' = absurd is
-IsReading-one h caller (query.Results auction) one other is is' = absurd is
-IsReading-one h caller (query.Awards auction) one other is is' = absurd is
-IsReading-one h caller (query.Bids auction) one other is is' = absurd is
-IsReading-one h caller query.Holdings one other is is' = absurd is
-IsReading-one h caller (query.Redemption cusip) one other is is' = absurd is
+IsReading-one history caller query.Holdings (reading.Holdings one) (reading.Holdings other) is is' =
+    ap reading.Holdings (AreHoldingLines-one history caller _ one other is is')
+IsReading-one history caller (query.Redemption cusip) (reading.Redemption one) (reading.Redemption other) is is' =
+    ap reading.Redemption (ArePaidLines-one history cusip _ one other is is')
+IsReading-one history caller (query.Terms auction) (reading.Terms one) other is is' = absurd is'
+IsReading-one history caller (query.Results auction) (reading.Results one) other is is' = absurd is'
+IsReading-one history caller (query.Awards auction) (reading.Awards one) other is is' = absurd is'
+IsReading-one history caller (query.Bids auction) (reading.Bids one) other is is' = absurd is'
+IsReading-one history caller query.Holdings (reading.Holdings one) other is is' = absurd is'
+IsReading-one history caller (query.Redemption cusip) (reading.Redemption one) other is is' = absurd is'
+IsReading-one history caller (query.Terms auction) one other is is' = absurd is
+IsReading-one history caller (query.Results auction) one other is is' = absurd is
+IsReading-one history caller (query.Awards auction) one other is is' = absurd is
+IsReading-one history caller (query.Bids auction) one other is is' = absurd is
+IsReading-one history caller query.Holdings one other is is' = absurd is
+IsReading-one history caller (query.Redemption cusip) one other is is' = absurd is

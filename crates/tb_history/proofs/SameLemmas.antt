@@ -31,7 +31,7 @@ same_rate-refl None = refl
 same_rate-refl (Some rate) = eqb-refl rate.steps
 
 -- a message is the same as itself
-pub same_message-refl : (m : Message) → same_message m m ≡ true
+pub same_message-refl : (sent : Message) → same_message sent sent ≡ true
 unfolding same_message
 same_message-refl (message.Register submitter key) = rw (is_same-refl submitter, is_same-refl key) refl
 same_message-refl (message.Enrol bidder submitter) = rw (is_same-refl bidder, is_same-refl submitter) refl
@@ -98,28 +98,30 @@ twelve true true true true true true true true true true true true holds =
     (refl, refl, refl, refl, refl, refl, refl, refl, refl, refl, refl, refl)
 
 -- announcements that are the same agree in all
-same_terms-agree : (a b : Announcement) → same_terms a b ≡ true → AgreeInAll a b
-same_terms-agree a b same =
+same_terms-agree : (announcement b : Announcement) → same_terms announcement b ≡ true → AgreeInAll announcement b
+same_terms-agree announcement b same =
     let parts =
-    twelve (is_same a.auction b.auction) (is_same a.cusip.bytes b.cusip.bytes)
-    (a.offering.value == b.offering.value)
-    (a.minimum.value == b.minimum.value) (a.nc_ceiling.value == b.nc_ceiling.value)
-    (a.competitive_floor.value == b.competitive_floor.value) (a.nlp_threshold.value == b.nlp_threshold.value)
-    (a.auction_date.number == b.auction_date.number) (a.nc_close == b.nc_close) (a.c_close == b.c_close)
-    (a.issue.number == b.issue.number) (a.maturity.number == b.maturity.number) same in
+    twelve (is_same announcement.auction b.auction) (is_same announcement.cusip.bytes b.cusip.bytes)
+    (announcement.offering.value == b.offering.value)
+    (announcement.minimum.value == b.minimum.value) (announcement.nc_ceiling.value == b.nc_ceiling.value)
+    (announcement.competitive_floor.value == b.competitive_floor.value)
+    (announcement.nlp_threshold.value == b.nlp_threshold.value)
+    (announcement.auction_date.number == b.auction_date.number) (announcement.nc_close == b.nc_close)
+    (announcement.c_close == b.c_close)
+    (announcement.issue.number == b.issue.number) (announcement.maturity.number == b.maturity.number) same in
     record {
-      auction = is_same-equal a.auction b.auction parts.0;
-      cusip = is_same-equal a.cusip.bytes b.cusip.bytes parts.1;
-      offering = eqb-true a.offering.value b.offering.value parts.2;
-      minimum = eqb-true a.minimum.value b.minimum.value parts.3;
-      ceiling = eqb-true a.nc_ceiling.value b.nc_ceiling.value parts.4;
-      floor = eqb-true a.competitive_floor.value b.competitive_floor.value parts.5;
-      threshold = eqb-true a.nlp_threshold.value b.nlp_threshold.value parts.6;
-      date = eqb-true a.auction_date.number b.auction_date.number parts.7;
-      noncompetitive_close = eqb-true a.nc_close b.nc_close parts.8;
-      competitive_close = eqb-true a.c_close b.c_close parts.9;
-      issued = eqb-true a.issue.number b.issue.number parts.10;
-      matures = eqb-true a.maturity.number b.maturity.number parts.11;
+      auction = is_same-equal announcement.auction b.auction parts.0;
+      cusip = is_same-equal announcement.cusip.bytes b.cusip.bytes parts.1;
+      offering = eqb-true announcement.offering.value b.offering.value parts.2;
+      minimum = eqb-true announcement.minimum.value b.minimum.value parts.3;
+      ceiling = eqb-true announcement.nc_ceiling.value b.nc_ceiling.value parts.4;
+      floor = eqb-true announcement.competitive_floor.value b.competitive_floor.value parts.5;
+      threshold = eqb-true announcement.nlp_threshold.value b.nlp_threshold.value parts.6;
+      date = eqb-true announcement.auction_date.number b.auction_date.number parts.7;
+      noncompetitive_close = eqb-true announcement.nc_close b.nc_close parts.8;
+      competitive_close = eqb-true announcement.c_close b.c_close parts.9;
+      issued = eqb-true announcement.issue.number b.issue.number parts.10;
+      matures = eqb-true announcement.maturity.number b.maturity.number parts.11;
     }
 
 -- messages that are the same are equal

@@ -1,5 +1,6 @@
 -- The caller of a key word, the verdict on its messages and the refusals of its queries.
-use Rattle.std.specs.Prelude.{ℕ, Bool, true, false, not, ◌&&◌, is_none, if◌then◌else◌, Option, Some, None, List, [], ◌∷◌}
+use Rattle.std.specs.Prelude.{ℕ, Bool, true, false, not, ◌&&◌, is_none, if◌then◌else◌}
+use Rattle.std.specs.Prelude.{Option, Some, None, List, [], ◌∷◌}
 use Rattle.std.specs.List.{find}
 use Rattle.std.specs.Option.{option_map}
 use Rattle.tb_units.specs.declared.moment.Moment.{Moment}
@@ -17,7 +18,8 @@ use Rattle.tb_message.specs.declared.verdict.Verdict.TheVariants as verdict
 use Rattle.tb_history.specs.declared.roster.Registration.{Registration}
 use Rattle.tb_terms.specs.Rows.{Row, refusal_in}
 use Rattle.tb_history.specs.Entries.{is_same, operator}
-use Rattle.tb_history.specs.Roster.{registrations, announcements, redemptions, announcement_of, bill_of, is_caller, is_published, is_redeemed}
+use Rattle.tb_history.specs.Roster.{registrations, announcements, redemptions, announcement_of}
+use Rattle.tb_history.specs.Roster.{bill_of, is_caller, is_published, is_redeemed}
 use Rattle.tb_history.specs.Verdict.{verdict_on}
 use Rattle.tb_history.specs.Legal.{running}
 
@@ -72,7 +74,8 @@ query_refusal history caller query =
 -- the verdict on a caller's message, if there is such a caller
 abbrev pub verdict_for : List Entry → Option (List ℕ) → ℕ → Moment → Message → Verdict
 verdict_for history None number moment message = verdict.Refused refusal.UnknownKey
-verdict_for history (Some caller) number moment message = verdict_on history caller number (running history moment) message
+verdict_for history (Some caller) number moment message =
+    verdict_on history caller number (running history moment) message
 
 -- and the refusal of its query
 abbrev pub refusal_for : List Entry → Option (List ℕ) → Query → Option Refusal

@@ -1,6 +1,7 @@
--- What is awarded in an auction, as figures of its bidding (31 CFR 356.20 to 356.22; in which way and order the limit is
--- applied, and what is done where bids fall short, are our choice). Rates go by their steps of 0.005 percent.
-use Rattle.std.specs.Prelude.{ℕ, suc, ◌+◌, ◌-◌, ◌*◌, ◌==◌, ◌&&◌, Bool, false, nat_le, nat_lt, min, if◌then◌else◌, Option, Some, None, List, sum_by}
+-- What is awarded in an auction, as figures of its bidding (31 CFR 356.20 to 356.22; in which way and order the limit
+-- is applied, and what is done where bids fall short, are our choice). Rates go by their steps of 0.005 percent.
+use Rattle.std.specs.Prelude.{ℕ, suc, ◌+◌, ◌-◌, ◌*◌, ◌==◌, ◌&&◌, Bool, false, nat_le, nat_lt}
+use Rattle.std.specs.Prelude.{min, if◌then◌else◌, Option, Some, None, List, sum_by}
 use Rattle.std.specs.List.{filter}
 use Rattle.tb_units.specs.declared.rate.Rate.{Rate}
 use Rattle.tb_terms.specs.declared.announcement.Announcement.{Announcement}
@@ -51,11 +52,13 @@ limit_for bidding bidder =
 -- what is recognised of the bidder at rates under this one
 unfoldable pub recognised_under : Bidding → List ℕ → ℕ → ℕ
 recognised_under bidding bidder steps =
-    let_through (bid_at bidding.live bidder) (cap_of bidding.announcement.offering.value) (limit_for bidding bidder) steps
+    let_through (bid_at bidding.live bidder) (cap_of bidding.announcement.offering.value)
+    (limit_for bidding bidder) steps
 
 -- and at this rate
 abbrev pub recognised_for : Bidding → List ℕ → ℕ → ℕ
-recognised_for bidding bidder steps = recognised_under bidding bidder (suc steps) - recognised_under bidding bidder steps
+recognised_for bidding bidder steps =
+    recognised_under bidding bidder (suc steps) - recognised_under bidding bidder steps
 
 -- what is recognised of all bidders at rates under this one
 unfoldable pub par_under : Bidding → ℕ → ℕ
@@ -68,7 +71,8 @@ par_in_all bidding = par_under bidding rates
 -- the amount sought from competitive bids
 abbrev pub sought_in : Bidding → ℕ
 sought_in bidding =
-    sought_of bidding.announcement.offering.value (par_of (noncompetitive_in bidding.live)) bidding.announcement.competitive_floor.value
+    sought_of bidding.announcement.offering.value (par_of (noncompetitive_in bidding.live))
+    bidding.announcement.competitive_floor.value
 
 -- that amount, or all that is recognised where it is less
 unfoldable pub wanted_in : Bidding → ℕ
@@ -84,7 +88,8 @@ par_at_stop bidding = par_under bidding (suc (stop_of bidding)) - par_under bidd
 
 -- the percentage of that, in hundredths of a percent: what is still wanted, rounded up
 unfoldable pub percent_of : Bidding → ℕ
-percent_of bidding = rounded_up (10000 * (wanted_in bidding - par_under bidding (stop_of bidding))) (par_at_stop bidding)
+percent_of bidding =
+    rounded_up (10000 * (wanted_in bidding - par_under bidding (stop_of bidding))) (par_at_stop bidding)
 
 -- a percentage of par, rounded up to the next hundred dollars
 abbrev pub prorated : ℕ → ℕ → ℕ
@@ -103,7 +108,8 @@ awards_under bidding bidder steps = sum_under (award_at bidding bidder) steps
 
 -- the bidder's live noncompetitive bids
 abbrev pub noncompetitive_of : Bidding → List ℕ → ℕ
-noncompetitive_of bidding bidder = par_of (filter (λ (bid : Bid). is_same bid.bidder bidder) (noncompetitive_in bidding.live))
+noncompetitive_of bidding bidder =
+    par_of (filter (λ (bid : Bid). is_same bid.bidder bidder) (noncompetitive_in bidding.live))
 
 -- the bidder's award: noncompetitive bids in full, and nothing to anybody where no competitive bid is recognised
 unfoldable pub awarded : Bidding → List ℕ → ℕ

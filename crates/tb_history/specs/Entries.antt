@@ -62,12 +62,14 @@ redeemed_by other = []
 -- a bid of its sender under its number
 abbrev pub bid_by : List ℕ → ℕ → Message → List Bid
 bid_by submitter number (message.Bid auction bidder rate amount) =
-    record { submitter = submitter; number = number; auction = auction; bidder = bidder; rate = rate; amount = amount } ∷ []
+    record { submitter = submitter; number = number; auction = auction; bidder = bidder; rate = rate; amount = amount }
+    ∷ []
 bid_by submitter number other = []
 
 -- a cancel of the sender's bid
 abbrev pub cancelled_by : List ℕ → Message → List Cancel
-cancelled_by submitter (message.Cancel auction bid) = record { submitter = submitter; auction = auction; bid = bid } ∷ []
+cancelled_by submitter (message.Cancel auction bid) =
+    record { submitter = submitter; auction = auction; bid = bid } ∷ []
 cancelled_by submitter other = []
 
 -- a report of a position

@@ -1,6 +1,7 @@
 -- What participants hold of a bill, and what of it is pledged (31 CFR Part 357, Subpart B; that pledged par stays the
 -- holder's is our choice).
-use Rattle.std.specs.Prelude.{ℕ, ◌+◌, ◌-◌, ◌==◌, ◌&&◌, Bool, not, nat_lt, if◌then◌else◌, Option, List, length, sum_by, take_while}
+use Rattle.std.specs.Prelude.{ℕ, ◌+◌, ◌-◌, ◌==◌, ◌&&◌, Bool, not, nat_lt, if◌then◌else◌}
+use Rattle.std.specs.Prelude.{Option, List, length, sum_by, take_while}
 use Rattle.std.specs.List.{find, filter, flat_map}
 use Rattle.tb_terms.specs.declared.announcement.Announcement.{Announcement}
 use Rattle.tb_terms.specs.declared.cusip.Cusip.{Cusip}
@@ -73,7 +74,8 @@ sent_from history participant cusip =
 unfoldable pub held_of : List Entry → List ℕ → Cusip → ℕ
 held_of history participant cusip =
     if is_redeemed (redemptions history) cusip then 0
-    else credited_to history participant cusip + received_by history participant cusip - sent_from history participant cusip
+    else credited_to history participant cusip
+    + received_by history participant cusip - sent_from history participant cusip
 
 -- the message redeems the bill
 abbrev pub redeems : Cusip → Message → Bool
@@ -117,4 +119,5 @@ free_of history participant cusip = held_of history participant cusip - pledged_
 -- how many pledges of the participant have something left
 unfoldable pub open_marks : List Entry → List ℕ → ℕ
 open_marks history participant =
-    length (filter (λ (mark : Mark). is_same mark.holder participant && nat_lt 0 (left_of history mark)) (marks history))
+    length (filter (λ (mark : Mark). is_same mark.holder participant && nat_lt 0 (left_of history mark))
+    (marks history))

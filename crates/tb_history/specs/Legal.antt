@@ -25,12 +25,16 @@ running history moment = moment_of (max moment.seconds (last_of history))
 pub record Follows (history : List Entry) (entry : Entry) : Type 0 where
   pub in_range : IsInRange entry
   pub in_time : last_of history ≤ entry.moment.seconds
-  pub accepted : verdict_on history entry.submitter entry.number entry.moment entry.message ≡ verdict.Accepted entry.number entry.moment
+  pub accepted : verdict_on history entry.submitter entry.number entry.moment entry.message
+      ≡ verdict.Accepted entry.number entry.moment
 
 -- The empty history is legal, and so is a legal one with an entry that is accepted on it.
 pub data IsLegal : List Entry → Type 0 where
   Empty : IsLegal []
-  Longer : (history : List Entry) (entry : Entry) → IsLegal history → Follows history entry → IsLegal (history ++ entry ∷ [])
+  Longer : (history : List Entry) (entry : Entry)
+      → IsLegal history
+      → Follows history entry
+      → IsLegal (history ++ entry ∷ [])
 
 -- an entry's moment isn't later than another's
 abbrev pub IsNotEarlier : Entry → Entry → Type 0

@@ -31,7 +31,8 @@ is_live cancelled bid = not (is_cancelled cancelled bid.submitter bid.auction bi
 
 -- the live bids of an auction
 abbrev pub live_bids_in : List Bid → List Cancel → List ℕ → List Bid
-live_bids_in all cancelled auction = filter (is_live cancelled) (filter (λ (bid : Bid). is_same bid.auction auction) all)
+live_bids_in all cancelled auction =
+    filter (is_live cancelled) (filter (λ (bid : Bid). is_same bid.auction auction) all)
 
 -- a bid is of the bidder in the auction
 abbrev pub is_of : List ℕ → List ℕ → Bid → Bool

@@ -68,7 +68,8 @@ IsNumbered numbers name = (other : List ℕ) → (numbers.holder name == numbers
 
 -- and so has the bill
 abbrev pub IsBillNumbered : Numbering → List ℕ → Type 0
-IsBillNumbered numbers bytes = (other : List ℕ) → (numbers.security bytes == numbers.security other) ≡ is_same other bytes
+IsBillNumbered numbers bytes =
+    (other : List ℕ) → (numbers.security bytes == numbers.security other) ≡ is_same other bytes
 
 -- a pledge as the movements have it
 abbrev pub as_moved : Numbering → Mark → pledges.Mark
@@ -91,5 +92,7 @@ participants_of numbers registered = map (λ (r : Registration). numbers.holder 
 -- whoever is registered has a number of its own among the participants, and so has each announced bill
 pub record AreNumbered (numbers : Numbering) (participants : List ℕ) (history : List Entry) : Type 0 where
   pub names : (name : List ℕ) → is_registered (registrations history) name ≡ true → IsNumbered numbers name
-  pub listed : (name : List ℕ) → is_registered (registrations history) name ≡ true → Contains participants (numbers.holder name)
+  pub listed : (name : List ℕ)
+      → is_registered (registrations history) name ≡ true
+      → Contains participants (numbers.holder name)
   pub bills : (bytes : List ℕ) → has_bill (announcements history) bytes ≡ true → IsBillNumbered numbers bytes

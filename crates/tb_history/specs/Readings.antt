@@ -1,5 +1,6 @@
 -- What queries are told.
-use Rattle.std.specs.Prelude.{◌≡◌, ◌≢◌, ℕ, ℤ, ◌-◌, ◌*◌, ◌<◌, ◌≤◌, ◌&&◌, Bool, false, nat_lt, Option, Some, None, List, [], ◌∷◌, length, map, slice_index_or}
+use Rattle.std.specs.Prelude.{◌≡◌, ◌≢◌, ℕ, ℤ, ◌-◌, ◌*◌, ◌<◌, ◌≤◌, ◌&&◌, Bool, false, nat_lt, Option}
+use Rattle.std.specs.Prelude.{Some, None, List, [], ◌∷◌, length, map, slice_index_or}
 use Rattle.std.specs.List.{AllPairs, filter, flat_map, list_any, position_or_len}
 use Rattle.tb_units.specs.declared.rate.Rate.{Rate}
 use Rattle.tb_units.specs.declared.lines.RateLine.{RateLine}
@@ -46,7 +47,8 @@ bid_line cancelled bid = record {
 -- the submitter's bids in the auction, in the order of acceptance
 abbrev pub bid_lines : List Bid → List Cancel → List ℕ → List ℕ → List BidLine
 bid_lines all cancelled submitter auction =
-    map (bid_line cancelled) (filter (λ (bid : Bid). is_same bid.submitter submitter && is_same bid.auction auction) all)
+    map (bid_line cancelled) (filter
+    (λ (bid : Bid). is_same bid.submitter submitter && is_same bid.auction auction) all)
 
 -- the days of the bill
 abbrev pub days_of : Announcement → ℕ
@@ -77,7 +79,8 @@ bidder_at enrolled number d = (slice_index_or enrolled number d).bidder
 -- a competitive bid as a line
 abbrev pub line_of : List Enrolment → Bid → Option Rate → List RateLine
 line_of enrolled bid None = []
-line_of enrolled bid (Some rate) = record { rate = rate; bidder = place_of enrolled bid.bidder; amount = bid.amount } ∷ []
+line_of enrolled bid (Some rate) =
+    record { rate = rate; bidder = place_of enrolled bid.bidder; amount = bid.amount } ∷ []
 
 -- the live competitive bids of an auction as lines
 unfoldable pub lines_of : Bidding → List RateLine
@@ -117,7 +120,8 @@ pub record AreResults (bidding : Bidding) (results : Results) : Type 0 where
   pub noncompetitive : results.noncompetitive.value ≡ par_of (noncompetitive_in bidding.live)
   pub figures : AreFigures bidding results.figures
 
--- what is paid for an award: its par at the price of the stop-out rate (where nothing is recognised, nothing is awarded)
+-- what is paid for an award: its par at the price of the stop-out rate (where nothing is recognised, nothing is
+-- awarded)
 pub record IsPaid (bidding : Bidding) (award cents : ℕ) : Type 0 where
   pub millionths : ℕ
   pub price : IsPrice (stop_of bidding) (days_of bidding.announcement) millionths
@@ -132,7 +136,8 @@ pub record IsAwardLine (bidding : Bidding) (bidder : List ℕ) (line : AwardLine
 -- a line for each bidder, in order
 abbrev pub AreAwardLines : Bidding → List Enrolment → List AwardLine → Type 0
 AreAwardLines bidding [] [] = Unit {0}
-AreAwardLines bidding (e ∷ bidders) (line ∷ lines) = IsAwardLine bidding e.bidder line × AreAwardLines bidding bidders lines
+AreAwardLines bidding (e ∷ bidders) (line ∷ lines) =
+    IsAwardLine bidding e.bidder line × AreAwardLines bidding bidders lines
 AreAwardLines bidding [] (line ∷ lines) = ⊥
 AreAwardLines bidding (e ∷ bidders) [] = ⊥
 
@@ -158,7 +163,8 @@ abbrev pub bills : List Announcement → List Announcement
 bills announced = filter (λ (a : Announcement). is_first (bill_of announced a.cusip) a) announced
 
 -- what a participant holds of a bill
-pub record IsHoldingLine (history : List Entry) (participant : List ℕ) (cusip : Cusip) (line : HoldingLine) : Type 0 where
+pub record IsHoldingLine (history : List Entry) (participant : List ℕ) (cusip : Cusip)
+    (line : HoldingLine) : Type 0 where
   pub which : line.cusip ≡ cusip
   pub held : line.held.value ≡ held_of history participant cusip
   pub pledged : line.pledged.value ≡ pledged_of history participant cusip
@@ -176,7 +182,8 @@ AreHoldingLines history participant (a ∷ bills) [] = ⊥
 abbrev pub AreHoldings : List Entry → List ℕ → List HoldingLine → Type 0
 AreHoldings history participant lines =
     AreHoldingLines history participant
-    (filter (λ (a : Announcement). nat_lt 0 (held_of history participant a.cusip)) (bills (announcements history))) lines
+    (filter (λ (a : Announcement). nat_lt 0 (held_of history participant a.cusip)) (bills (announcements history)))
+    lines
 
 -- what a holder was paid
 pub record IsPaidLine (history : List Entry) (cusip : Cusip) (holder : List ℕ) (line : PaidLine) : Type 0 where

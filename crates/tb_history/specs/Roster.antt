@@ -7,7 +7,8 @@ use Rattle.tb_terms.specs.declared.cusip.Cusip.{Cusip}
 use Rattle.tb_message.specs.declared.message.Entry.{Entry}
 use Rattle.tb_history.specs.declared.roster.Registration.{Registration}
 use Rattle.tb_history.specs.declared.roster.Enrolment.{Enrolment}
-use Rattle.tb_history.specs.Entries.{is_same, operator, registered_by, enrolled_by, entered_by, announced_by, published_by, settled_by, redeemed_by}
+use Rattle.tb_history.specs.Entries.{is_same, operator, registered_by, enrolled_by, entered_by}
+use Rattle.tb_history.specs.Entries.{announced_by, published_by, settled_by, redeemed_by}
 
 -- the submitters with their keys, in the order of registration
 unfoldable pub registrations : List Entry → List Registration

@@ -29,8 +29,10 @@ same_terms a b =
 
 -- of one kind, with the same members
 unfoldable pub same_message : Message → Message → Bool
-same_message (message.Register submitter key) (message.Register submitter' key') = is_same submitter submitter' && is_same key key'
-same_message (message.Enrol bidder submitter) (message.Enrol bidder' submitter') = is_same bidder bidder' && is_same submitter submitter'
+same_message (message.Register submitter key) (message.Register submitter' key') =
+    is_same submitter submitter' && is_same key key'
+same_message (message.Enrol bidder submitter) (message.Enrol bidder' submitter') =
+    is_same bidder bidder' && is_same submitter submitter'
 same_message (message.Holiday day) (message.Holiday day') = day.number == day'.number
 same_message (message.Announce terms) (message.Announce terms') = same_terms terms terms'
 same_message (message.Bid auction bidder rate amount) (message.Bid auction' bidder' rate' amount') =

@@ -1,6 +1,7 @@
--- The refusals of each kind of message, in the order in which they are tried, each with its cause (the limits on counts,
--- and that the closing moment itself is late, are our choice).
-use Rattle.std.specs.Prelude.{ℕ, Bool, true, not, ◌==◌, ◌&&◌, ◌||◌, nat_lt, nat_le, is_some, Option, Some, None, List, [], ◌∷◌, ◌++◌, length}
+-- The refusals of each kind of message, in the order in which they are tried, each with its cause (the limits on
+-- counts, and that the closing moment itself is late, are our choice).
+use Rattle.std.specs.Prelude.{ℕ, Bool, true, not, ◌==◌, ◌&&◌, ◌||◌, nat_lt, nat_le, is_some}
+use Rattle.std.specs.Prelude.{Option, Some, None, List, [], ◌∷◌, ◌++◌, length}
 use Rattle.std.specs.List.{list_any}
 use Rattle.tb_units.specs.declared.day.Day.{Day}
 use Rattle.tb_units.specs.declared.rate.Rate.{Rate}
@@ -24,7 +25,9 @@ use Rattle.tb_terms.specs.Rows.{Row}
 use Rattle.tb_rules.specs.BidRule.{Standing, bid_rule, position_rule, late, is_no_par, closing_for}
 use Rattle.tb_history.specs.Values.{day_of, first_from}
 use Rattle.tb_history.specs.Entries.{is_same, operator}
-use Rattle.tb_history.specs.Roster.{registrations, enrolments, holidays, announcements, settlements, redemptions, is_registered, enrolment_of, is_under, is_enrolled, is_entered, announcement_of, bill_of, is_published, is_settled, is_redeemed, unsettled_of}
+use Rattle.tb_history.specs.Roster.{registrations, enrolments, holidays, announcements, settlements, redemptions}
+use Rattle.tb_history.specs.Roster.{is_registered, enrolment_of, is_under, is_enrolled, is_entered, announcement_of}
+use Rattle.tb_history.specs.Roster.{bill_of, is_published, is_settled, is_redeemed, unsettled_of}
 use Rattle.tb_history.specs.LiveBids.{bids, cancels, reports, bid_of, is_cancelled, standing_of}
 use Rattle.tb_history.specs.Holdings.{free_of, open_marks, mark_of, left_of}
 
@@ -34,15 +37,21 @@ full limit count = (refusal.RosterFull, nat_le limit count)
 
 -- register: what is registered already
 abbrev pub register_rows : List Registration → List ℕ → List ℕ → List Row
-register_rows registered submitter key =
-    (refusal.Exists, is_same submitter operator || list_any (λ (r : Registration). is_same r.submitter submitter || is_same r.key key) registered)
+register_rows registered submitter key = (
+  refusal.Exists,
+  is_same submitter operator
+      || list_any (λ (r : Registration). is_same r.submitter submitter || is_same r.key key) registered,
+)
     ∷ full 4096 (length registered)
     ∷ []
 
 -- enrol: who is enrolled and registered already
 abbrev pub enrol_rows : List Enrolment → List Registration → List ℕ → List ℕ → List Row
-enrol_rows enrolled registered bidder submitter =
-    (refusal.OtherSubmitter, is_some (enrolment_of enrolled bidder) && not (is_under submitter (enrolment_of enrolled bidder)))
+enrol_rows enrolled registered bidder submitter = (
+  refusal.OtherSubmitter,
+  is_some (enrolment_of enrolled bidder)
+      && not (is_under submitter (enrolment_of enrolled bidder)),
+)
     ∷ (refusal.Exists, is_some (enrolment_of enrolled bidder))
     ∷ (refusal.UnknownParticipant, not (is_registered registered submitter))
     ∷ full 16384 (length enrolled)
@@ -58,7 +67,8 @@ holiday_rows entered day =
 -- a bill has one maturity
 abbrev pub maturity_rows : Option Announcement → Day → List Row
 maturity_rows None maturity = []
-maturity_rows (Some first) maturity = (refusal.MaturityDiffers first.maturity, not (first.maturity.number == maturity.number)) ∷ []
+maturity_rows (Some first) maturity =
+    (refusal.MaturityDiffers first.maturity, not (first.maturity.number == maturity.number)) ∷ []
 
 -- announce: what is announced already, the first fault of the terms, and whether the bill is redeemed
 abbrev pub announce_rows : List Announcement → Bool → Announcement → List Row
@@ -70,7 +80,8 @@ announce_rows announced redeemed a =
     ∷ full 65536 (length announced)
     ∷ []
 
--- bid and noncompetitive: the auction's announcement, whether the bidder is enrolled under the sender, and what stands of it
+-- bid and noncompetitive: the auction's announcement, whether the bidder is enrolled under the sender, and what stands
+-- of it
 abbrev pub bid_rows : Option Announcement → Bool → Standing → Moment → Option Rate → ℕ → List Row
 bid_rows None enrolled standing moment rate amount = (refusal.UnknownAuction, true) ∷ []
 bid_rows (Some a) enrolled standing moment rate amount =
@@ -105,8 +116,8 @@ settle_rows (Some a) published settled moment =
     ∷ (refusal.AlreadySettled, settled)
     ∷ []
 
--- transfer: the bill's announcement, whether the receiver is registered and whether it is the sender, whether the bill is
--- redeemed, and what is free
+-- transfer: the bill's announcement, whether the receiver is registered and whether it is the sender, whether the bill
+-- is redeemed, and what is free
 abbrev pub transfer_rows : Option Announcement → Bool → Bool → Bool → ℕ → Moment → ℕ → List Row
 transfer_rows None known self redeemed free moment amount = (refusal.UnknownSecurity, true) ∷ []
 transfer_rows (Some a) known self redeemed free moment amount =
@@ -148,13 +159,18 @@ abbrev pub unsettled_rows : Option Announcement → List Row
 unsettled_rows None = []
 unsettled_rows (Some a) = (refusal.Unsettled a.auction, true) ∷ []
 
--- redeem: the bill's announcement, whether the bill is redeemed, its first auction that isn't settled, and the payment day
+-- redeem: the bill's announcement, whether the bill is redeemed, its first auction that isn't settled, and the payment
+-- day
 abbrev pub redeem_rows : Option Announcement → Bool → Option Announcement → List Day → Moment → List Row
 redeem_rows None redeemed unsettled entered moment = (refusal.UnknownSecurity, true) ∷ []
 redeem_rows (Some a) redeemed unsettled entered moment =
     (refusal.AlreadyRedeemed, redeemed)
     ∷ unsettled_rows unsettled
-    ++ (refusal.NotDue (day_of (payment_day entered a.maturity)), nat_lt moment.seconds (start_of (payment_day entered a.maturity)))
+    ++ (
+      refusal.NotDue (day_of (payment_day entered a.maturity)),
+      nat_lt moment.seconds
+          (start_of (payment_day entered a.maturity)),
+    )
     ∷ []
 
 -- the rows of a transfer or a pledge of a sender at a moment
@@ -182,7 +198,8 @@ rows_of history sender moment (message.Position auction bidder position) =
 rows_of history sender moment (message.Publish auction) =
     publish_rows (announcement_of (announcements history) auction) (is_published history auction) moment
 rows_of history sender moment (message.Settle auction) =
-    settle_rows (announcement_of (announcements history) auction) (is_published history auction) (is_settled history auction) moment
+    settle_rows (announcement_of (announcements history) auction) (is_published history auction)
+    (is_settled history auction) moment
 rows_of history sender moment (message.Transfer cusip to amount) = par_rows history sender moment cusip to amount.value
 rows_of history sender moment (message.Pledge cusip to amount) =
     pledge_rows (par_rows history sender moment cusip to amount.value) (open_marks history sender)

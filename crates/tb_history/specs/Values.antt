@@ -18,7 +18,8 @@ day_within-greatest number = omega arith
 
 -- the day of so many days after 1970-01-01
 unfoldable pub day_of : ℕ → Day
-day_of number = record { number = day_within number; not_before = day_within-least number; not_after = day_within-greatest number }
+day_of number =
+    record { number = day_within number; not_before = day_within-least number; not_after = day_within-greatest number }
 
 -- the day of a day's number is that day
 pub day_of-number : (day : Day) → day_of day.number ≡ day

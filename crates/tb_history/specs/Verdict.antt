@@ -23,7 +23,9 @@ is_permitted submitter message = if is_same submitter operator then is_operators
 -- what is told where a message stands under the number: the kept reply, where the message is the same one
 abbrev pub repeated : Entry → Message → Verdict
 repeated entry message =
-    if same_message entry.message message then verdict.Repeat entry.number entry.moment else verdict.Refused refusal.NumberReused
+    if same_message entry.message message
+    then verdict.Repeat entry.number entry.moment
+    else verdict.Refused refusal.NumberReused
 
 -- a number is used once
 abbrev pub number_rows : Option Entry → Message → List (Verdict × Bool)

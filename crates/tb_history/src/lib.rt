@@ -1,5 +1,6 @@
 //! What a history of accepted messages says, the verdict on the next message, and laws of all legal histories. Its only
-//! code are the plain structs that definitions read, the list of a reading's lines, and empty functions that carry the laws.
+//! code are the plain structs that definitions read, the list of a reading's lines, and empty functions that carry the
+//! laws.
 #![tactic(auto)]
 
 mod accounts;

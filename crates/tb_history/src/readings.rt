@@ -65,13 +65,24 @@ pub struct PaidLine {
 
 /// There is one reading of each query on a legal history. It does nothing.
 pub fn readings_are_one()
-    ensures results { (bidding : Bidding) (one other : Results) → AreResults bidding one → AreResults bidding other → one ≡ other }
+    ensures results { (bidding : Bidding) (one other : Results)
+        → AreResults bidding one
+        → AreResults bidding other
+        → one ≡ other }
     ensures awards { (history : List Entry) (a : Announcement) (caller : List ℕ) (one other : List AwardLine)
-        → AreAwards history a caller one → AreAwards history a caller other → one ≡ other }
+        → AreAwards history a caller one
+        → AreAwards history a caller other
+        → one ≡ other }
     ensures holdings { (history : List Entry) (caller : List ℕ) (one other : List HoldingLine)
-        → AreHoldings history caller one → AreHoldings history caller other → one ≡ other }
+        → AreHoldings history caller one
+        → AreHoldings history caller other
+        → one ≡ other }
     ensures redemption { (history : List Entry) (cusip : Cusip) (one other : List PaidLine)
-        → IsRedemption history cusip one → IsRedemption history cusip other → one ≡ other }
+        → IsRedemption history cusip one
+        → IsRedemption history cusip other
+        → one ≡ other }
     ensures readings { (history : List Entry) (caller : List ℕ) (query : Query) (one other : Reading)
-        → IsReading history caller query one → IsReading history caller query other → one ≡ other }
+        → IsReading history caller query one
+        → IsReading history caller query other
+        → one ≡ other }
 {}

@@ -1,5 +1,5 @@
-//! Replies are sealed: until the results of an auction are published, a submitter's replies on it depend on its own entries
-//! and the operator's alone.
+//! Replies are sealed: until the results of an auction are published, a submitter's replies on it depend on its own
+//! entries and the operator's alone.
 ghost use Rattle.std.specs.Prelude.{◌≡◌, ℕ, List, Some, true, false, is_some};
 ghost use Rattle.tb_units.specs.declared.moment.Moment.{Moment};
 ghost use Rattle.tb_message.specs.declared.message.Entry.{Entry};
@@ -17,31 +17,46 @@ ghost use Rattle.tb_history.specs.Readings.{bid_lines};
 
 /// Holds of every legal history, submitter and moment. It does nothing.
 pub fn replies_are_sealed()
-    // The verdict on a message that moves no par is that on the sender's own part of the history. So neither repeats nor
-    // used numbers nor quotas tell of others.
+    // The verdict on a message that moves no par is that on the sender's own part of the history. So neither repeats
+    // nor used numbers nor quotas tell of others.
     ensures verdicts { (history : List Entry) (submitter : List ℕ) (number : ℕ) (moment : Moment) (message : Message)
-        → IsLegal history → moves_par message ≡ false
-        → verdict_on history submitter number moment message ≡ verdict_on (own_part submitter history) submitter number moment message }
+        → IsLegal history
+        → moves_par message ≡ false
+        → verdict_on history submitter number moment message
+        ≡ verdict_on (own_part submitter history) submitter number moment message }
     // Two histories with one own part give one verdict.
-    ensures two_worlds { (one other : List Entry) (submitter : List ℕ) (number : ℕ) (moment : Moment) (message : Message)
-        → IsLegal one → IsLegal other → own_part submitter one ≡ own_part submitter other → moves_par message ≡ false
+    ensures two_worlds { (one other : List Entry) (submitter : List ℕ) (number : ℕ) (moment : Moment)
+        (message : Message)
+        → IsLegal one
+        → IsLegal other
+        → own_part submitter one ≡ own_part submitter other
+        → moves_par message ≡ false
         → verdict_on one submitter number moment message ≡ verdict_on other submitter number moment message }
     // So it is by the sender's key, wherever the running moments agree.
-    ensures by_key { (history : List Entry) (name submitter : List ℕ) (key : Key) (number : ℕ) (moment other : Moment) (message : Message)
-        → IsLegal history → moves_par message ≡ false
+    ensures by_key { (history : List Entry) (name submitter : List ℕ) (key : Key) (number : ℕ) (moment other : Moment)
+        (message : Message)
+        → IsLegal history
+        → moves_par message ≡ false
         → caller_of (registrations history) name key ≡ Some submitter
         → running history moment ≡ running (own_part submitter history) other
         → verdict_for history (caller_of (registrations history) name key) number moment message
-        ≡ verdict_for (own_part submitter history) (caller_of (registrations (own_part submitter history)) name key) number other message }
+        ≡ verdict_for (own_part submitter history) (caller_of (registrations (own_part submitter history)) name key)
+        number other message }
     // A query is refused alike.
     ensures queries { (history : List Entry) (submitter : List ℕ) (query : Query)
-        → IsLegal history → query_refusal history submitter query ≡ query_refusal (own_part submitter history) submitter query }
+        → IsLegal history
+        → query_refusal history submitter query ≡ query_refusal (own_part submitter history) submitter query }
     // Results and awards are refused while they aren't published.
-    ensures unpublished { (history : List Entry) (submitter auction : List ℕ) → is_published history auction ≡ false
-        → (is_some (query_refusal history submitter (query.Results auction)) ≡ true) × (is_some (query_refusal history submitter (query.Awards auction)) ≡ true) }
+    ensures unpublished { (history : List Entry) (submitter auction : List ℕ)
+        → is_published history auction ≡ false
+        → (is_some (query_refusal history submitter (query.Results auction)) ≡ true)
+        × (is_some (query_refusal history submitter (query.Awards auction)) ≡ true) }
     // The terms that are read are the same, and so are the submitter's bids, live and cancelled.
     ensures terms { (history : List Entry) (submitter auction : List ℕ)
-        → IsLegal history → announcement_of (announcements history) auction ≡ announcement_of (announcements (own_part submitter history)) auction }
+        → IsLegal history
+        → announcement_of (announcements history) auction
+        ≡ announcement_of (announcements (own_part submitter history)) auction }
     ensures bids { (history : List Entry) (submitter auction : List ℕ)
-        → bid_lines (bids history) (cancels history) submitter auction ≡ bid_lines (bids (own_part submitter history)) (cancels (own_part submitter history)) submitter auction }
+        → bid_lines (bids history) (cancels history) submitter auction
+        ≡ bid_lines (bids (own_part submitter history)) (cancels (own_part submitter history)) submitter auction }
 {}

@@ -1,5 +1,6 @@
 -- What is exported needs no quotes, and what one record more adds to a text.
-use Rattle.std.proofs.Common.{◌≡◌, ℕ, ◌+◌, ◌≤◌, ◌<◌, ◌/◌, ◌%◌, ◌^◌, List, [], ◌∷◌, ◌++◌, true, false, refl, ap, ◌∙◌, sym, arith, append_assoc, get_or, length, map, take}
+use Rattle.std.proofs.Common.{◌≡◌, ℕ, ◌+◌, ◌≤◌, ◌<◌, ◌/◌, ◌%◌, ◌^◌, List, [], ◌∷◌, ◌++◌, true, false, refl}
+use Rattle.std.proofs.Common.{ap, ◌∙◌, sym, arith, append_assoc, get_or, length, map, take}
 use Rattle.std.specs.Prelude.{Result, Ok, Err, IfOk}
 use Rattle.std.specs.List.{list_all, list_any, AllByRecursion}
 use Rattle.std.specs.Fmt.{decimal}
@@ -53,6 +54,7 @@ high_cents n small =
 high_name_byte : (byte : ℕ) → is_name_byte byte ≡ true → 45 ≤ byte
 high_name_byte byte is = grind (arith, nat_tests, is)
 
+-- so are all bytes of names
 high_name_bytes : (name : Text) → list_all is_name_byte name ≡ true → AllHigh name
 high_name_bytes [] all = tt
 high_name_bytes (byte ∷ name) all =
@@ -67,6 +69,7 @@ high_name name is = high_name_bytes name (grind (arith, is))
 high_cusip_byte : (byte : ℕ) → is_cusip_byte byte ≡ true → 45 ≤ byte
 high_cusip_byte byte is = grind (arith, nat_tests, is)
 
+-- so are all bytes of CUSIPs
 high_cusip_bytes : (bytes : Text) → list_all is_cusip_byte bytes ≡ true → AllHigh bytes
 high_cusip_bytes [] all = tt
 high_cusip_bytes (byte ∷ bytes) all =
@@ -77,7 +80,9 @@ high_cusip : (bytes : Text) → is_cusip bytes ≡ true → AllHigh bytes
 high_cusip bytes is = high_cusip_bytes bytes (grind (arith, is))
 
 -- fields that are high stand as they are, behind a first one
-plain_fields : (field : Text) (fields : Fields) → AllHigh field → AllByRecursion AllHigh fields
+plain_fields : (field : Text) (fields : Fields)
+    → AllHigh field
+    → AllByRecursion AllHigh fields
     → (field_text default_writer field ++ fields_text default_writer fields) ++ 10 ∷ [] ≡ plain_text (field ∷ fields)
 unfolding fields_text
 plain_fields field [] high all = rw (plain_field field high, append-nil field) refl
@@ -87,21 +92,29 @@ plain_fields field (next ∷ fields) high all =
     ∙ ap (λ (t : Text). field ++ 44 ∷ t) (plain_fields next fields all.0 all.1))
 
 -- a record of two such fields or more stands as it is
-plain_record : (field next : Text) (fields : Fields) → AllHigh field → AllHigh next → AllByRecursion AllHigh fields
+plain_record : (field next : Text) (fields : Fields)
+    → AllHigh field
+    → AllHigh next
+    → AllByRecursion AllHigh fields
     → row_text default_writer (field ∷ next ∷ fields) ≡ plain_text (field ∷ next ∷ fields)
 unfolding is_blank
 plain_record field next fields high more all = plain_fields field (next ∷ fields) high (more, all)
 
 -- the record of an award stands as it is
-pub plain_award : (line : AwardLine) → is_name line.bidder ≡ true → line.amount.value < 2 ^ 128
+pub plain_award : (line : AwardLine)
+    → is_name line.bidder ≡ true
+    → line.amount.value < 2 ^ 128
     → line.payment.value < 2 ^ 128
     → row_text default_writer (award_fields line) ≡ plain_text (award_fields line)
 plain_award line named amount payment =
     plain_record line.bidder (decimal line.amount.value) (cents_text line.payment.value ∷ [])
-    (high_name line.bidder named) (high_decimal line.amount.value (omega (arith, amount))) (high_cents line.payment.value payment, tt)
+    (high_name line.bidder named) (high_decimal line.amount.value (omega (arith, amount)))
+    (high_cents line.payment.value payment, tt)
 
 -- so does that of a holding
-pub plain_holding : (line : HoldingLine) → is_cusip line.cusip.bytes ≡ true → line.held.value < 2 ^ 128
+pub plain_holding : (line : HoldingLine)
+    → is_cusip line.cusip.bytes ≡ true
+    → line.held.value < 2 ^ 128
     → line.pledged.value < 2 ^ 128
     → line.free.value < 2 ^ 128
     → row_text default_writer (holding_fields line) ≡ plain_text (holding_fields line)
@@ -114,14 +127,16 @@ plain_holding line checked held pledged free =
 pub one_more : {L : Type 0} (fields_of : L → Fields) (header : Fields) (lines : List L) (place : ℕ) (line : L)
     → line ≡ get_or lines place line
     → place < length lines
-    → header ∷ map fields_of (take (place + 1) lines) ≡ (header ∷ map fields_of (take place lines)) ++ fields_of line ∷ []
+    → header ∷ map fields_of (take (place + 1) lines) ≡ (header ∷ map fields_of (take place lines))
+    ++ fields_of line ∷ []
 one_more {L} fields_of header lines place line is fits =
     ap (λ (r : List L). header ∷ map fields_of r) (take_more lines place line fits)
     ∙ ap (λ (r : List Fields). header ∷ r) (map-append fields_of (take place lines) (get_or lines place line ∷ []))
     ∙ ap (λ (l : L). header ∷ (map fields_of (take place lines) ++ fields_of l ∷ [])) (sym is)
 
 -- what is said of an answer is said of it in other words
-pub in_other_words : {T E : Type 0} (result : Result T E) (P Q : T → Type 0) → ((x : T) → P x → Q x)
+pub in_other_words : {T E : Type 0} (result : Result T E) (P Q : T → Type 0)
+    → ((x : T) → P x → Q x)
     → IfOk result P
     → IfOk result Q
 in_other_words (Ok x) P Q more is = more x is

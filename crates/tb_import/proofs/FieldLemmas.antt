@@ -1,5 +1,6 @@
 -- Fields of records.
-use Rattle.std.proofs.Common.{◌≡◌, ◌≢◌, ℕ, ◌<◌, ◌≤◌, ◌^◌, zero, suc, Option, None, [], ◌∷◌, length, Some, sym, subst, arith}
+use Rattle.std.proofs.Common.{◌≡◌, ◌≢◌, ℕ, ◌<◌, ◌≤◌, ◌^◌, zero, suc, Option, None}
+use Rattle.std.proofs.Common.{[], ◌∷◌, length, Some, sym, subst, arith}
 use Rattle.std.specs.Prelude.{IsUtf8}
 use Rattle.std.specs.Fmt.{decimal}
 use Rattle.std.proofs.lemmas.Str.{IsUtf8-from_ascii}
@@ -13,7 +14,8 @@ not_decimal field number other small writes =
     other (subst IsUtf8 (sym writes) (IsUtf8-from_ascii (decimal number) (IsAscii-decimal number small)))
 
 -- a record of five fields is the list of them
-pub five_at : (fields : Fields) (a b c d e : Text) → length fields ≡ 5
+pub five_at : (fields : Fields) (a b c d e : Text)
+    → length fields ≡ 5
     → Some a ≡ field_at fields 0
     → Some b ≡ field_at fields 1
     → Some c ≡ field_at fields 2
@@ -37,6 +39,8 @@ field_none (field ∷ fields) zero none = cc (none)
 field_none (field ∷ fields) (suc place) none = omega (arith, field_none fields place none)
 
 -- each of the first five places of a record of five has a field
-pub no_field : (fields : Fields) (place : ℕ) → ◌≡◌ {A = Option Text} None (field_at fields place) → place < 5
+pub no_field : (fields : Fields) (place : ℕ)
+    → ◌≡◌ {A = Option Text} None (field_at fields place)
+    → place < 5
     → ¬ (length fields ≡ 5)
 no_field fields place none early five = absurd (omega (arith, field_none fields place none, early, five))

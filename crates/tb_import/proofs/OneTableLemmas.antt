@@ -1,5 +1,6 @@
 -- A table or a first bad record: one of them, and one of it.
-use Rattle.std.proofs.Common.{◌≡◌, ℕ, ◌*◌, ◌<◌, ◌≤◌, List, [], ◌∷◌, ◌++◌, length, map, Option, Some, None, refl, ap, subst, ◌∙◌, sym, inl, inr, arith, length-append}
+use Rattle.std.proofs.Common.{◌≡◌, ℕ, ◌*◌, ◌<◌, ◌≤◌, List, [], ◌∷◌, ◌++◌, length, map, Option, Some}
+use Rattle.std.proofs.Common.{None, refl, ap, subst, ◌∙◌, sym, inl, inr, arith, length-append}
 use Rattle.std.specs.Prelude.{unwrap_or}
 use Rattle.std.proofs.lemmas.Bool.{cases_order}
 use Rattle.std.proofs.lemmas.Fmt.{decimal_injective}
@@ -109,7 +110,8 @@ one_all config state text (first ∷ ones) (next ∷ others) state1 state2 left1
     cc (head, rest)
 
 -- each record of rows is a row
-row_there : (front rest : List Fields) (record_ : Fields) (rows : List Row) → AreRowsOf (front ++ record_ ∷ rest) rows
+row_there : (front rest : List Fields) (record_ : Fields) (rows : List Row)
+    → AreRowsOf (front ++ record_ ∷ rest) rows
     → (row : Row) × IsRowOf record_ row
 row_there [] rest record_ [] are = absurd are
 row_there [] rest record_ (row ∷ rows) are = (row, are.0)
@@ -154,7 +156,8 @@ no_bad_header bytes sent table (inr (inr first)) =
     first.2 is
 
 -- a table has no first bad record
-pub never_both : (bytes : List ℕ) (sent : List (ℕ × Message)) (place : ℕ) → IsTable bytes sent
+pub never_both : (bytes : List ℕ) (sent : List (ℕ × Message)) (place : ℕ)
+    → IsTable bytes sent
     → ¬ (IsFirstBad bytes place)
 never_both bytes sent place table (inl bad) = no_bad_header bytes sent table bad.0
 never_both bytes sent place table (inr bad) = no_bad_row bytes sent place table bad
@@ -178,7 +181,8 @@ no_later : (bytes : List ℕ) (place later : ℕ) (one : HasBadRow bytes place) 
     → ¬ (length one.records < length other.records)
 no_later bytes place later one other less =
     let rest = longer_begins default_config st.StartRecord (strip_bom bytes) (header ∷ one.records)
-    (header ∷ other.records) one.bad other.bad one.begins.0 other.begins.0 one.begins.1 other.begins.1 one.begins.2 other.begins.2
+    (header ∷ other.records) one.bad other.bad one.begins.0 other.begins.0 one.begins.1 other.begins.1 one.begins.2
+    other.begins.2
     (omega (arith, less)) in
     let is : other.records ≡ one.records ++ one.bad ∷ rest.0 = cc (rest.1) in
     not_among bytes place one other.records rest.0 other.rows is other.read other.within
@@ -240,7 +244,9 @@ one_row (number ∷ auction ∷ bidder ∷ rate ∷ amount ∷ []) one other is_
     λ i. record { number = numbers i; auction = auctions i; bidder = bidders i; steps = steps i; amount = amounts i }
 
 -- records are the rows of one list
-one_rows : (records : List Fields) (one other : List Row) → AreRowsOf records one → AreRowsOf records other
+one_rows : (records : List Fields) (one other : List Row)
+    → AreRowsOf records one
+    → AreRowsOf records other
     → one ≡ other
 one_rows [] [] [] are_one are_other = refl
 one_rows [] (row ∷ one) other are_one are_other = absurd are_one
@@ -253,7 +259,8 @@ one_rows (fields ∷ records) (row ∷ one) (next ∷ other) are_one are_other =
     cc (head, tail)
 
 -- a row is of one bid
-one_bid : (number place : ℕ) (one other : Message) (row : Row) → bid_row number one ≡ Some row
+one_bid : (number place : ℕ) (one other : Message) (row : Row)
+    → bid_row number one ≡ Some row
     → bid_row place other ≡ Some row
     → ◌≡◌ {A = ℕ × Message} (number, one) (place, other)
 one_bid number place (message.Bid auction bidder None amount) (message.Bid sale buyer None par) row is_one is_other =
@@ -263,7 +270,8 @@ one_bid number place (message.Bid auction bidder None amount) (message.Bid sale 
     let bidders : bidder ≡ buyer = ap (λ (o : Option Row). (unwrap_or o row).bidder) same in
     let amounts = same_dollars amount par (ap (λ (o : Option Row). (unwrap_or o row).amount) same) in
     cc (numbers, auctions, bidders, amounts)
-one_bid number place (message.Bid auction bidder (Some rate) amount) (message.Bid sale buyer (Some price) par) row is_one
+one_bid number place (message.Bid auction bidder (Some rate) amount)
+    (message.Bid sale buyer (Some price) par) row is_one
     is_other =
     let same = is_one ∙ sym is_other in
     let numbers : number ≡ place = ap (λ (o : Option Row). (unwrap_or o row).number) same in
@@ -273,18 +281,21 @@ one_bid number place (message.Bid auction bidder (Some rate) amount) (message.Bi
     let rates = same_rate rate price (cc (steps)) in
     let amounts = same_dollars amount par (ap (λ (o : Option Row). (unwrap_or o row).amount) same) in
     cc (numbers, auctions, bidders, rates, amounts)
-one_bid number place (message.Bid auction bidder None amount) (message.Bid sale buyer (Some price) par) row is_one is_other =
+one_bid number place (message.Bid auction bidder None amount)
+    (message.Bid sale buyer (Some price) par) row is_one is_other =
     let bad : ◌≡◌ {A = Option ℕ} None (Some price.steps) =
     ap (λ (o : Option Row). (unwrap_or o row).steps) (is_one ∙ sym is_other) in
     cc (bad)
-one_bid number place (message.Bid auction bidder (Some rate) amount) (message.Bid sale buyer None par) row is_one is_other =
+one_bid number place (message.Bid auction bidder (Some rate) amount)
+    (message.Bid sale buyer None par) row is_one is_other =
     let bad : ◌≡◌ {A = Option ℕ} (Some rate.steps) None =
     ap (λ (o : Option Row). (unwrap_or o row).steps) (is_one ∙ sym is_other) in
     cc (bad)
 one_bid number place one other row is_one is_other = cc (is_one, is_other)
 
 -- rows are those of one list of bids
-one_list : (one other : List (ℕ × Message)) (rows : List Row) → map row_of one ≡ map Some rows
+one_list : (one other : List (ℕ × Message)) (rows : List Row)
+    → map row_of one ≡ map Some rows
     → map row_of other ≡ map Some rows
     → one ≡ other
 one_list [] [] [] is_one is_other = refl
@@ -299,7 +310,9 @@ one_list (a ∷ one) (b ∷ other) (row ∷ rows) is_one is_other =
     cc (head, tail)
 
 -- bytes are one table
-pub one_table : (bytes : List ℕ) (one other : List (ℕ × Message)) → IsTable bytes one → IsTable bytes other
+pub one_table : (bytes : List ℕ) (one other : List (ℕ × Message))
+    → IsTable bytes one
+    → IsTable bytes other
     → one ≡ other
 one_table bytes one other is_one is_other =
     let all : header ∷ is_other.records ≡ header ∷ is_one.records =

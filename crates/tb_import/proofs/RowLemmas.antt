@@ -10,7 +10,9 @@ use Rattle.tb_import.specs.Rows.{Fields, AreRowsOf, IsRowOf, first_seen, row_of,
 
 -- the rows of one record more
 pub AreRowsOf-append : (records : List Fields) (rows : List Row) (fields : Fields) (row : Row)
-    → AreRowsOf records rows → IsRowOf fields row → AreRowsOf (records ++ fields ∷ []) (rows ++ row ∷ [])
+    → AreRowsOf records rows
+    → IsRowOf fields row
+    → AreRowsOf (records ++ fields ∷ []) (rows ++ row ∷ [])
 AreRowsOf-append [] [] fields row are is = (is, tt)
 AreRowsOf-append [] (r ∷ rows) fields row are is = absurd are
 AreRowsOf-append (f ∷ records) [] fields row are is = absurd are
@@ -23,19 +25,23 @@ kept-append : (kept rows : List Row) (row : Row)
 kept-append kept [] row = refl
 kept-append kept (r ∷ rows) row = kept-append (insert_key same_row kept r) rows row
 
+-- so it is from the first row on
 pub first_seen-append : (rows : List Row) (row : Row)
     → first_seen (rows ++ row ∷ []) ≡ insert_key same_row (first_seen rows) row
 first_seen-append rows row = kept-append [] rows row
 
 -- a row that was seen leaves what is kept
 pub in_step-seen : (keys : List Row) (sent : List (ℕ × Message)) (row : Row)
-    → map row_of sent ≡ map Some keys → list_any (same_row row) keys ≡ true
+    → map row_of sent ≡ map Some keys
+    → list_any (same_row row) keys ≡ true
     → map row_of sent ≡ map Some (insert_key same_row keys row)
 in_step-seen keys sent row step seen = rw (seen) step
 
 -- a row that wasn't seen is kept with its message
 pub in_step-new : (keys : List Row) (sent : List (ℕ × Message)) (row : Row) (message : Message)
-    → map row_of sent ≡ map Some keys → list_any (same_row row) keys ≡ false → row_of (row.number, message) ≡ Some row
+    → map row_of sent ≡ map Some keys
+    → list_any (same_row row) keys ≡ false
+    → row_of (row.number, message) ≡ Some row
     → map row_of (sent ++ (row.number, message) ∷ []) ≡ map Some (insert_key same_row keys row)
 in_step-new keys sent row message step new is =
     rw (new) (map-append row_of sent ((row.number, message) ∷ [])

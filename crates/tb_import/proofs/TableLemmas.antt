@@ -1,5 +1,6 @@
 -- Tables that end, and tables with a bad record.
-use Rattle.std.proofs.Common.{Bor, ◌≡◌, ◌≢◌, ℕ, ◌+◌, ◌≤◌, List, [], ◌∷◌, ◌++◌, length, map, Some, refl, ap, ◌∙◌, sym, inl, inr, arith}
+use Rattle.std.proofs.Common.{Bor, ◌≡◌, ◌≢◌, ℕ, ◌+◌, ◌≤◌, List, [], ◌∷◌, ◌++◌, length}
+use Rattle.std.proofs.Common.{map, Some, refl, ap, ◌∙◌, sym, inl, inr, arith}
 use Rattle.std.specs.Prelude.{◌⊎◌}
 use Rattle.csv.specs.declared.reader.Reader.{Reader}
 use Rattle.tb_message.specs.declared.message.Message.{Message}
@@ -27,8 +28,8 @@ table_ends bytes records rows keys sent few small all read kept step = record {
 }
 
 -- the record that was read last is the first bad one, where it is no row or one too many
-pub bad_row : (bytes : List ℕ) (records : List Fields) (rows : List Row) (bad : Fields)
-    (reader : Reader (Bor (List ℕ))) (place : ℕ)
+pub bad_row : (bytes : List ℕ) (records : List Fields) (rows : List Row) (bad : Fields) (reader : Reader (Bor (List ℕ)))
+    (place : ℕ)
     → length bytes ≤ most_bytes
     → HasRead bytes (header ∷ records ++ bad ∷ []) reader
     → AreRowsOf records rows
@@ -50,7 +51,9 @@ bad_row bytes records rows bad reader place few begun read here small cause = in
 
 -- a first record that isn't the header is bad
 pub bad_header : (bytes : List ℕ) (first : Fields) (reader : Reader (Bor (List ℕ)))
-    → HasRead bytes (first ∷ []) reader → first ≢ header → IsFirstBad bytes 1
+    → HasRead bytes (first ∷ []) reader
+    → first ≢ header
+    → IsFirstBad bytes 1
 bad_header bytes first reader begun other =
     inl (inr (inr (first, (reader.state, begun.left, begun.reached), other)), refl)
 

@@ -1,15 +1,19 @@
 -- A field that is read is the field that was spelled, and what was spelled is read again.
-use Rattle.std.proofs.Common.{◌≡◌, ℕ, suc, ◌+◌, ◌-◌, ◌^◌, ◌<◌, ◌≤◌, true, false, cond, ltb, List, [], ◌∷◌, ◌++◌, length, get_or, take, drop, Some, None, refl, sym, ap, subst, arith, inl, inr, ℤ}
+use Rattle.std.proofs.Common.{◌≡◌, ℕ, suc, ◌+◌, ◌-◌, ◌^◌, ◌<◌, ◌≤◌, true, false, cond, ltb, List, [], ◌∷◌, ◌++◌, length}
+use Rattle.std.proofs.Common.{get_or, take, drop, Some, None, refl, sym, ap, subst, arith, inl, inr, ℤ}
 use Rattle.std.specs.Prelude.{pos, negsuc}
 use Rattle.std.specs.Option.{option_map}
 use mir.Val.{SFits}
 use Rattle.std.specs.Int.{Width, w16, w32, w64, byte_len, from_be_bytes, to_be_bytes, cast_signed, cast_unsigned}
 use Rattle.std.proofs.lemmas.Bool.{cases_lt, ltb-false, le-ltb}
 use Rattle.std.proofs.lemmas.Bool.Decides.{nat_tests}
-use Rattle.std.proofs.lemmas.List.{take_at, drop_at, take-append-drop, length-append, length-take, get_or-drop, get_or-take, get_or_past}
+use Rattle.std.proofs.lemmas.List.{take_at, drop_at, take-append-drop, length-append, length-take}
+use Rattle.std.proofs.lemmas.List.{get_or-drop, get_or-take, get_or_past}
 use Rattle.std.proofs.lemmas.Int.{of_z-to_z, to_z-of_z, to_z_pos}
-use Rattle.std.proofs.lemmas.Nat.{be_bytes_2, be_bytes_4, be_bytes_8, from_be_bytes-to_be_bytes_2, from_be_bytes-to_be_bytes_4, from_be_bytes-to_be_bytes_8}
-use Rattle.tb_message.specs.Forms.{Form, name, cusip, amount, number, position, rate, day, minute, moment, Part, text, whole, signed, is_of}
+use Rattle.std.proofs.lemmas.Nat.{be_bytes_2, be_bytes_4, be_bytes_8, from_be_bytes-to_be_bytes_2}
+use Rattle.std.proofs.lemmas.Nat.{from_be_bytes-to_be_bytes_4, from_be_bytes-to_be_bytes_8}
+use Rattle.tb_message.specs.Forms.{Form, name, cusip, amount, number, position, rate, day}
+use Rattle.tb_message.specs.Forms.{minute, moment, Part, text, whole, signed, is_of}
 use Rattle.tb_message.specs.Spelling.{spelled}
 use Rattle.tb_message.specs.Reading.{front_at, whole_at, field_at, part_at, ranged}
 use Rattle.tb_message.proofs.Steps.{from_map, from_then, from_test}
@@ -62,13 +66,16 @@ front_is size bytes x fits e =
       })
     ] refl e
   where
+    -- what was found is the front and the rest
     pair_is : (size : ℕ) (bytes : List ℕ) (x : List ℕ × List ℕ)
         → Some (take size bytes, drop size bytes) ≡ Some x
         → (take size bytes, drop size bytes) ≡ x
     pair_is size bytes x e = cc
 
 -- a front of so many is read again, whatever follows it
-front_again : (size : ℕ) (front rest : List ℕ) → length front ≡ size → front_at size (front ++ rest) ≡ Some (front, rest)
+front_again : (size : ℕ) (front rest : List ℕ)
+    → length front ≡ size
+    → front_at size (front ++ rest) ≡ Some (front, rest)
 front_again size front rest len =
     let long : ltb (length (front ++ rest)) size ≡ false = le-ltb _ _ (omega (arith, length-append front rest)) in
     rw (long, take_at front rest size len, drop_at front rest size len) refl
@@ -128,7 +135,8 @@ text_takes : (size : ℕ) (spell : Part → List ℕ) (bytes : List ℕ) (x : Pa
     → option_map (λ front. (text front.0, front.1)) (front_at size bytes) ≡ Some x
     → Takes (spell x.0) x.1 bytes
 text_takes size spell bytes x spells fits e =
-    from_map (λ (x : Part × List ℕ). Takes (spell x.0) x.1 bytes) (λ front. (text front.0, front.1)) (front_at size bytes) x e
+    from_map (λ (x : Part × List ℕ). Takes (spell x.0) x.1 bytes) (λ front. (text front.0, front.1))
+    (front_at size bytes) x e
     (λ front given.
     let is = front_is size bytes front fits given in
     record { joined = rw (spells front.0) is.joined; rest_fits = is.rest })

@@ -13,7 +13,10 @@ use Rattle.tb_message.proofs.Steps.{some_is}
 use Rattle.tb_message.proofs.Same.{messages}
 
 -- queries of one kind with the same values of their members are one
-queries : (one other : Query) → query_kind_of one ≡ query_kind_of other → query_parts_of one ≡ query_parts_of other → one ≡ other
+queries : (one other : Query)
+    → query_kind_of one ≡ query_kind_of other
+    → query_parts_of one ≡ query_parts_of other
+    → one ≡ other
 queries (query.Terms a) (query.Terms b) k p = cc
 queries (query.Results a) (query.Results b) k p = cc
 queries (query.Awards a) (query.Awards b) k p = cc
@@ -38,7 +41,10 @@ asked_by-one (request.Message n m) (request.Query q) e = absurd cc
 asked_by-one (request.Query q) (request.Message n m) e = absurd cc
 
 -- one text asks one request
-pub one_asked : (bytes : List ℕ) (one other : Request) → AnswerOf bytes (Ok one) → AnswerOf bytes (Ok other) → one ≡ other
+pub one_asked : (bytes : List ℕ) (one other : Request)
+    → AnswerOf bytes (Ok one)
+    → AnswerOf bytes (Ok other)
+    → one ≡ other
 one_asked bytes one other a b =
     let said : a.0 ≡ b.0 = some_is a.0 b.0 (sym a.1.1 ∙ b.1.1) in
     let asked : Ok (asked_by one) ≡ Ok (asked_by other) = sym a.2 ∙ ap request_in said ∙ b.2 in

@@ -23,7 +23,9 @@ given_fits form (Some said) at_fault part e =
     ] refl e
 
 -- what a member says is in the range of its form
-pub part_in-fits : (d : Data) (member : Field × Form) (part : Part) → part_in d member ≡ Ok part → is_of member.1 part ≡ true
+pub part_in-fits : (d : Data) (member : Field × Form) (part : Part)
+    → part_in d member ≡ Ok part
+    → is_of member.1 part ≡ true
 unfolding part_in
 part_in-fits d member part e = given_fits member.1 _ member.0 part e
 
@@ -63,6 +65,7 @@ body_in-fits d kind said parts e =
     let given = body_given (parts_in d (members_of kind)) kind said parts e in
     subst (λ (k : Kind). AreOf (forms_of k) parts) given.0 (parts_in-fit d (members_of kind) parts given.1)
   where
+    -- the kind is the one that was read for, and its parts were read
     body_given : (r : Result (List Part) Field) (kind said : Kind) (parts : List Part)
         → result_map {U = Kind × List Part} (λ parts. (kind, parts)) r ≡ Ok (said, parts)
         → (kind ≡ said) × (r ≡ Ok parts)

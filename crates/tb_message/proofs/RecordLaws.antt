@@ -1,5 +1,6 @@
 -- Fields one after another, and whole records: what is read was spelled, and what was spelled is read again.
-use Rattle.std.proofs.Common.{arith, ◌≡◌, ℕ, ◌*◌, ◌≤◌, suc, Bool, true, false, List, [], ◌∷◌, ◌++◌, length, lit≤, Option, Some, None, refl, sym, ap, subst, ◌∙◌, append_assoc, cond}
+use Rattle.std.proofs.Common.{arith, ◌≡◌, ℕ, ◌*◌, ◌≤◌, suc, Bool, true, false, List, [], ◌∷◌, ◌++◌, length, lit≤}
+use Rattle.std.proofs.Common.{Option, Some, None, refl, sym, ap, subst, ◌∙◌, append_assoc, cond}
 use Rattle.std.specs.Option.{option_map}
 use Rattle.std.specs.Prelude.{find, ◌==◌}
 use Rattle.std.specs.List.{All}
@@ -13,7 +14,8 @@ use Rattle.tb_message.specs.declared.kind.Kind.TheVariants as kind
 use Rattle.tb_message.specs.declared.message.Entry.{Entry}
 use Rattle.tb_message.specs.Kinds.{kinds, tag_of, kind_of_tag, forms_of}
 use Rattle.tb_message.specs.Messages.{kind_of, parts_of}
-use Rattle.tb_message.specs.Forms.{Form, name, cusip, amount, number, position, rate, day, minute, moment, Part, text, whole, signed, is_of}
+use Rattle.tb_message.specs.Forms.{Form, name, cusip, amount, number, position, rate, day}
+use Rattle.tb_message.specs.Forms.{minute, moment, Part, text, whole, signed, is_of}
 use Rattle.tb_message.specs.Spelling.{spelled, spelled_all, AreOf, head_forms, head_of, IsInRange, spelling, spellings}
 use Rattle.tb_message.specs.Reading.{part_at, parts_at, message_at, tagged_at, entry_at}
 use Rattle.tb_message.proofs.Steps.{from_map, from_then, some_is}
@@ -113,7 +115,10 @@ record ReadsTagged (bytes : List ℕ) (x : Kind × List Part × List ℕ) : Type
   joined : bytes ≡ (tag_of x.0 ∷ spelled_all (forms_of x.0) x.1) ++ x.2
 
 -- a body that is read was spelled
-tagged_takes : (bytes : List ℕ) (x : Kind × List Part × List ℕ) → IsBytes bytes → tagged_at bytes ≡ Some x → ReadsTagged bytes x
+tagged_takes : (bytes : List ℕ) (x : Kind × List Part × List ℕ)
+    → IsBytes bytes
+    → tagged_at bytes ≡ Some x
+    → ReadsTagged bytes x
 tagged_takes [] x fits e = absurd cc
 tagged_takes (tag ∷ bytes) x fits e =
     from_then (ReadsTagged (tag ∷ bytes)) (λ kind. message_at kind bytes) (kind_of_tag tag) x e
@@ -140,7 +145,8 @@ entry_takes bytes x fits e =
       head = front.fits;
       body = back.fits;
       joined = front.takes.joined ∙ ap (λ (b : List ℕ). spelled_all head_forms head.0 ++ b) back.joined
-          ∙ sym (append_assoc (spelled_all head_forms head.0) (tag_of body.0 ∷ spelled_all (forms_of body.0) body.1) body.2);
+          ∙ sym (append_assoc (spelled_all head_forms head.0)
+          (tag_of body.0 ∷ spelled_all (forms_of body.0) body.1) body.2);
     }))
 
 -- a body that is spelled is read, whatever follows it
@@ -154,7 +160,9 @@ abbrev pub read_of : Entry → List ℕ → Read
 read_of entry rest = (head_of entry, kind_of entry.message, parts_of entry.message, rest)
 
 -- an entry that is spelled is read, whatever follows it
-pub entry_again : (entry : Entry) (rest : List ℕ) → IsInRange entry → entry_at (spelling entry ++ rest) ≡ Some (read_of entry rest)
+pub entry_again : (entry : Entry) (rest : List ℕ)
+    → IsInRange entry
+    → entry_at (spelling entry ++ rest) ≡ Some (read_of entry rest)
 entry_again entry rest fits =
     let kind = kind_of entry.message in
     let parts = parts_of entry.message in
@@ -180,7 +188,8 @@ taken bytes entry rest fits e =
     record { in_range = record { head = reads.head; body = reads.body }; joined = reads.joined }
 
 -- none is taken where none does
-pub not_taken : (bytes : List ℕ) → None ≡ entry_at bytes
+pub not_taken : (bytes : List ℕ)
+    → None ≡ entry_at bytes
     → (entry : Entry)
     → IsInRange entry
     → (rest : List ℕ)
@@ -213,7 +222,8 @@ pub spelling-begins : (one other : Entry) (x y : List ℕ)
     → spelling one ++ x ≡ spelling other ++ y
     → (one ≡ other) × (x ≡ y)
 spelling-begins one other x y in_one in_other e =
-    let alike = same_read one other x y (sym (entry_again one x in_one) ∙ ap entry_at e ∙ entry_again other y in_other) in
+    let alike =
+    same_read one other x y (sym (entry_again one x in_one) ∙ ap entry_at e ∙ entry_again other y in_other) in
     (entries one other alike.0, alike.1)
 
 -- a spelling is of one entry
@@ -239,7 +249,8 @@ spellings-one (one ∷ ones) (other ∷ others) in_ones in_others e =
     let in_one = in_ones 0 one (omega arith) in
     let in_other = in_others 0 other (omega arith) in
     let alike = spelling-begins one other (spellings ones) (spellings others) in_one in_other e in
-    let rest = spellings-one ones others (All-tail IsInRange one ones in_ones) (All-tail IsInRange other others in_others) alike.1 in
+    let rest = spellings-one ones others (All-tail IsInRange one ones in_ones)
+    (All-tail IsInRange other others in_others) alike.1 in
     cc
 
 -- ---- sizes
@@ -259,12 +270,19 @@ spelled-few moment (whole n) fits = lit≤ tt
 spelled-few form part fits = absurd cc
 
 -- and so many fields so many times that
-spelled_all-few : (forms : List Form) (parts : List Part) → AreOf forms parts → length (spelled_all forms parts) ≤ 33 * length forms
+spelled_all-few : (forms : List Form) (parts : List Part)
+    → AreOf forms parts
+    → length (spelled_all forms parts) ≤ 33 * length forms
 spelled_all-few [] [] fits = lit≤ tt
 spelled_all-few [] (part ∷ parts) fits = absurd fits
 spelled_all-few (form ∷ forms) [] fits = absurd fits
 spelled_all-few (form ∷ forms) (part ∷ parts) fits =
-    omega (arith, length-append (spelled form part) (spelled_all forms parts), spelled-few form part fits.0, spelled_all-few forms parts fits.1)
+    omega (
+      arith,
+      length-append (spelled form part) (spelled_all forms parts),
+      spelled-few form part fits.0,
+      spelled_all-few forms parts fits.1,
+    )
 
 -- a kind has at most twelve fields
 forms_of-few : (kind : Kind) → length (forms_of kind) ≤ 12

@@ -16,7 +16,9 @@ pub record IsSame (one other : Entry) : Type 0 where
   pub body : parts_of one.message ≡ parts_of other.message
 
 -- announcements with the same values of their members agree in all
-agree : (one other : Announcement) → parts_of (message.Announce one) ≡ parts_of (message.Announce other) → AgreeInAll one other
+agree : (one other : Announcement)
+    → parts_of (message.Announce one) ≡ parts_of (message.Announce other)
+    → AgreeInAll one other
 agree one other same = record {
   auction = cc;
   cusip = cc;
@@ -38,14 +40,17 @@ messages (message.Register a b) (message.Register c d) k p = cc
 messages (message.Enrol a b) (message.Enrol c d) k p = cc
 messages (message.Holiday a) (message.Holiday b) k p = let x = same_day a b cc in cc
 messages (message.Announce a) (message.Announce b) k p = ap message.Announce (same_announcement a b (agree a b p))
-messages (message.Bid a b (Some r) x) (message.Bid c d (Some s) y) k p = let i = same_rate r s cc in let j = same_dollars x y cc in cc
+messages (message.Bid a b (Some r) x) (message.Bid c d (Some s) y) k p = let i = same_rate r s cc in
+    let j = same_dollars x y cc in cc
 messages (message.Bid a b None x) (message.Bid c d None y) k p = let j = same_dollars x y cc in cc
 messages (message.Cancel a b) (message.Cancel c d) k p = cc
 messages (message.Position a b z) (message.Position c d y) k p = cc
 messages (message.Publish a) (message.Publish b) k p = cc
 messages (message.Settle a) (message.Settle b) k p = cc
-messages (message.Transfer a b x) (message.Transfer c d y) k p = let i = same_cusip a c cc in let j = same_dollars x y cc in cc
-messages (message.Pledge a b x) (message.Pledge c d y) k p = let i = same_cusip a c cc in let j = same_dollars x y cc in cc
+messages (message.Transfer a b x) (message.Transfer c d y) k p = let i = same_cusip a c cc in
+    let j = same_dollars x y cc in cc
+messages (message.Pledge a b x) (message.Pledge c d y) k p = let i = same_cusip a c cc in let j = same_dollars x y cc in
+    cc
 messages (message.Release a b x) (message.Release c d y) k p = let j = same_dollars x y cc in cc
 messages (message.Redeem a) (message.Redeem b) k p = let i = same_cusip a b cc in cc
 messages (message.Bid a b (Some r) x) other k p = cc

@@ -1,5 +1,6 @@
 -- The forms of members and fields, and their values.
-use Rattle.std.specs.Prelude.{Option, Some, None, if◌then◌else◌, ℕ, ◌^◌, ◌==◌, ℤ, List, length, Bool, false, ◌&&◌, nat_le, nat_lt, unsigned_abs}
+use Rattle.std.specs.Prelude.{Option, Some, None, if◌then◌else◌, ℕ, ◌^◌, ◌==◌, ℤ, List, length}
+use Rattle.std.specs.Prelude.{Bool, false, ◌&&◌, nat_le, nat_lt, unsigned_abs}
 use Rattle.tb_units.specs.Names.{is_name}
 
 pub data Form : Type 0 where

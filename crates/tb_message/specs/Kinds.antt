@@ -2,7 +2,10 @@
 use Rattle.std.specs.Prelude.{ℕ, List, [], ◌∷◌, Option, ◌==◌, find, codes, map}
 use Rattle.std.specs.Str.{bytes_eq}
 use Rattle.tb_terms.specs.declared.refusal.Field.{Field}
-use Rattle.tb_terms.specs.declared.refusal.Field.TheVariants.{Submitter, Key, Bidder, Day, Auction, Cusip, Offering, Minimum, Ceiling, Floor, Threshold, Date, NcClose, CClose, Issue, Maturity, Rate, Amount, Bid, Position, To, Holder, Pledge}
+use Rattle.tb_terms.specs.declared.refusal.Field.TheVariants.{Submitter, Key, Bidder, Day, Auction, Cusip, Offering}
+use Rattle.tb_terms.specs.declared.refusal.Field.TheVariants.{Minimum, Ceiling, Floor, Threshold, Date, NcClose}
+use Rattle.tb_terms.specs.declared.refusal.Field.TheVariants.{CClose, Issue, Maturity, Rate, Amount, Bid, Position}
+use Rattle.tb_terms.specs.declared.refusal.Field.TheVariants.{To, Holder, Pledge}
 use Rattle.tb_message.specs.declared.kind.Kind.{Kind}
 use Rattle.tb_message.specs.declared.kind.Kind.TheVariants as kind
 use Rattle.tb_message.specs.Forms.{Form, name, cusip, amount, number, position, rate, day, minute}
@@ -27,7 +30,8 @@ row_of kind.Enrol = (2, codes "enrol", operator, (Bidder, name) ∷ (Submitter, 
 row_of kind.Holiday = (3, codes "holiday", operator, (Day, day) ∷ [])
 row_of kind.Announce = (4, codes "announce", operator, announced)
 row_of kind.Bid = (5, codes "bid", submitter, (Auction, name) ∷ (Bidder, name) ∷ (Rate, rate) ∷ (Amount, amount) ∷ [])
-row_of kind.Noncompetitive = (6, codes "noncompetitive", submitter, (Auction, name) ∷ (Bidder, name) ∷ (Amount, amount) ∷ [])
+row_of kind.Noncompetitive =
+    (6, codes "noncompetitive", submitter, (Auction, name) ∷ (Bidder, name) ∷ (Amount, amount) ∷ [])
 row_of kind.Cancel = (7, codes "cancel", submitter, (Auction, name) ∷ (Bid, number) ∷ [])
 row_of kind.Position = (8, codes "position", submitter, (Auction, name) ∷ (Bidder, name) ∷ (Position, position) ∷ [])
 row_of kind.Publish = (9, codes "publish", operator, (Auction, name) ∷ [])

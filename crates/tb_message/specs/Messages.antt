@@ -31,7 +31,8 @@ parts_of (message.Announce a) =
     text a.auction ∷ text a.cusip.bytes ∷ whole a.offering.value ∷ whole a.minimum.value ∷ whole a.nc_ceiling.value
     ∷ whole a.competitive_floor.value ∷ whole a.nlp_threshold.value ∷ whole a.auction_date.number ∷ whole a.nc_close
     ∷ whole a.c_close ∷ whole a.issue.number ∷ whole a.maturity.number ∷ []
-parts_of (message.Bid auction bidder (Some rate) amount) = text auction ∷ text bidder ∷ whole rate.steps ∷ whole amount.value ∷ []
+parts_of (message.Bid auction bidder (Some rate) amount) =
+    text auction ∷ text bidder ∷ whole rate.steps ∷ whole amount.value ∷ []
 parts_of (message.Bid auction bidder None amount) = text auction ∷ text bidder ∷ whole amount.value ∷ []
 parts_of (message.Cancel auction bid) = text auction ∷ whole bid ∷ []
 parts_of (message.Position auction bidder position) = text auction ∷ text bidder ∷ signed position ∷ []

@@ -1,9 +1,11 @@
 -- Reading records from the left.
-use Rattle.std.specs.Prelude.{ℕ, List, [], ◌∷◌, length, take, drop, Option, Some, None, nat_lt, if◌then◌else◌, option_and_then, option_map}
+use Rattle.std.specs.Prelude.{ℕ, List, [], ◌∷◌, length, take, drop, Option, Some, None}
+use Rattle.std.specs.Prelude.{nat_lt, if◌then◌else◌, option_and_then, option_map}
 use Rattle.std.specs.Option.{option_and_then, option_map}
 use Rattle.std.specs.Int.{Width, w16, w32, w64, byte_len, from_be_bytes, cast_signed}
 use Rattle.tb_message.specs.declared.kind.Kind.{Kind}
-use Rattle.tb_message.specs.Forms.{Form, name, cusip, amount, number, position, rate, day, minute, moment, Part, text, whole, signed, is_of}
+use Rattle.tb_message.specs.Forms.{Form, name, cusip, amount, number, position, rate, day}
+use Rattle.tb_message.specs.Forms.{minute, moment, Part, text, whole, signed, is_of}
 use Rattle.tb_message.specs.Kinds.{kind_of_tag, forms_of}
 use Rattle.tb_message.specs.Spelling.{head_forms}
 
@@ -24,7 +26,8 @@ field_at name bytes = text_at bytes
 field_at cusip bytes = option_map (λ front. (text front.0, front.1)) (front_at 9 bytes)
 field_at amount bytes = whole_at w64 bytes
 field_at number bytes = whole_at w64 bytes
-field_at position bytes = option_map (λ front. (signed (cast_signed w64 (from_be_bytes w64 front.0)), front.1)) (front_at 8 bytes)
+field_at position bytes =
+    option_map (λ front. (signed (cast_signed w64 (from_be_bytes w64 front.0)), front.1)) (front_at 8 bytes)
 field_at rate bytes = whole_at w32 bytes
 field_at day bytes = whole_at w32 bytes
 field_at minute bytes = whole_at w16 bytes
@@ -40,7 +43,8 @@ part_at form bytes = option_and_then (ranged form) (field_at form bytes)
 abbrev pub parts_at : List Form → List ℕ → Option (List Part × List ℕ)
 parts_at [] bytes = Some ([], bytes)
 parts_at (form ∷ forms) bytes =
-    option_and_then (λ first. option_map (λ others. (first.0 ∷ others.0, others.1)) (parts_at forms first.1)) (part_at form bytes)
+    option_and_then (λ first. option_map (λ others. (first.0 ∷ others.0, others.1)) (parts_at forms first.1))
+    (part_at form bytes)
 
 -- a message of a kind: its kind, its parts, and what follows
 abbrev pub message_at : Kind → List ℕ → Option (Kind × List Part × List ℕ)
@@ -53,4 +57,5 @@ tagged_at (tag ∷ bytes) = option_and_then (λ kind. message_at kind bytes) (ki
 -- an entry: what stands in front of the tag, and the message
 abbrev pub entry_at : List ℕ → Option (List Part × Kind × List Part × List ℕ)
 entry_at bytes =
-    option_and_then (λ head. option_map (λ body. (head.0, body.0, body.1, body.2)) (tagged_at head.1)) (parts_at head_forms bytes)
+    option_and_then (λ head. option_map (λ body. (head.0, body.0, body.1, body.2)) (tagged_at head.1))
+    (parts_at head_forms bytes)

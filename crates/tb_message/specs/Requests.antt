@@ -1,5 +1,6 @@
 -- JSON requests: what each member says by its form, and what the whole asks, or the first member that fails.
-use Rattle.std.specs.Prelude.{◌≡◌, ℕ, ◌/◌, ◌%◌, ◌==◌, ℤ, List, [], ◌∷◌, Option, Some, None, Result, Ok, Err, is_some, IsUtf8, if◌then◌else◌, ⊤}
+use Rattle.std.specs.Prelude.{◌≡◌, ℕ, ◌/◌, ◌%◌, ◌==◌, ℤ, List, [], ◌∷◌, Option, Some, None}
+use Rattle.std.specs.Prelude.{Result, Ok, Err, is_some, IsUtf8, if◌then◌else◌, ⊤}
 use Rattle.std.specs.Option.{option_map, option_and_then, ok_or}
 use Rattle.serde_json.specs.Data.{Data}
 use Rattle.serde_json.specs.Read.{read}
@@ -15,7 +16,8 @@ use Rattle.tb_message.specs.declared.query.Request.{Request}
 use Rattle.tb_message.specs.declared.query.Request.TheVariants as request
 use Rattle.tb_message.specs.declared.query.ReadFault.{ReadFault}
 use Rattle.tb_message.specs.declared.query.ReadFault.TheVariants as fault
-use Rattle.tb_message.specs.Forms.{Form, name, cusip, amount, number, position, rate, day, minute, moment, Part, text, whole, signed, in_range}
+use Rattle.tb_message.specs.Forms.{Form, name, cusip, amount, number, position, rate, day, minute}
+use Rattle.tb_message.specs.Forms.{moment, Part, text, whole, signed, in_range}
 use Rattle.tb_message.specs.Kinds.{kind_of_text, members_of}
 use Rattle.tb_message.specs.Queries.{query_of_text, query_members_of, query_kind_of, query_parts_of}
 use Rattle.tb_message.specs.Messages.{kind_of, parts_of}
@@ -45,7 +47,8 @@ signed_in value = option_and_then as_i64 (option_and_then as_number value)
 
 -- the steps of a rate in percent, whose third decimal is 0 or 5
 abbrev pub steps_of : List ℕ → Option ℕ
-steps_of t = option_and_then (λ thousandths. if thousandths % 5 == 0 then Some (thousandths / 5) else None) (thousandths_of t)
+steps_of t =
+    option_and_then (λ thousandths. if thousandths % 5 == 0 then Some (thousandths / 5) else None) (thousandths_of t)
 
 -- what a value says by a form, whatever the range
 abbrev pub said_in : Form → Option Data → Option Part
@@ -93,7 +96,8 @@ body_in d kind = result_map (λ parts. (kind, parts)) (parts_in d (members_of ki
 -- `number` is looked at first, then `kind`, then the members of the kind
 abbrev pub message_in : Data → Result (Part × Kind × List Part) Field
 message_in d =
-    result_and_then (λ n. result_and_then (λ kind. result_map (λ body. (n, body.0, body.1)) (body_in d kind)) (ok_or (message_kind_in d) field.Kind))
+    result_and_then (λ n. result_and_then (λ kind. result_map (λ body. (n, body.0, body.1)) (body_in d kind))
+    (ok_or (message_kind_in d) field.Kind))
     (part_in d (field.Number, number))
 
 -- in a query `number` isn't looked at

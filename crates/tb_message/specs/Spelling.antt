@@ -4,11 +4,13 @@ use Rattle.std.specs.List.{flat_map}
 use Rattle.std.specs.Int.{w16, w32, w64, to_be_bytes, cast_unsigned}
 use Rattle.tb_message.specs.declared.message.Entry.{Entry}
 use Rattle.tb_message.specs.declared.message.Message.{Message}
-use Rattle.tb_message.specs.Forms.{Form, name, cusip, amount, number, position, rate, day, minute, moment, Part, text, whole, signed, is_of}
+use Rattle.tb_message.specs.Forms.{Form, name, cusip, amount, number, position, rate, day}
+use Rattle.tb_message.specs.Forms.{minute, moment, Part, text, whole, signed, is_of}
 use Rattle.tb_message.specs.Kinds.{tag_of, forms_of}
 use Rattle.tb_message.specs.Messages.{kind_of, parts_of}
 
--- a name is one length byte and its bytes, a CUSIP its nine bytes; numbers are big-endian, a position in two's complement
+-- a name is one length byte and its bytes, a CUSIP its nine bytes; numbers are big-endian, a position in two's
+-- complement
 unfoldable pub spelled : Form → Part → List ℕ
 spelled name (text t) = length t ∷ t
 spelled cusip (text t) = t
@@ -34,6 +36,14 @@ AreOf [] (part ∷ parts) = ⊥
 AreOf (form ∷ forms) [] = ⊥
 AreOf (form ∷ forms) (part ∷ parts) = (is_of form part ≡ true) × AreOf forms parts
 
+-- the fields of a message
+abbrev pub fields_of : Message → List ℕ
+fields_of message = spelled_all (forms_of (kind_of message)) (parts_of message)
+
+-- its values are in the ranges of its fields
+abbrev pub FitsFields : Message → Type 0
+FitsFields message = AreOf (forms_of (kind_of message)) (parts_of message)
+
 -- what stands in front of the tag
 abbrev pub head_forms : List Form
 head_forms = name ∷ number ∷ moment ∷ []
@@ -44,18 +54,17 @@ head_of entry = text entry.submitter ∷ whole entry.number ∷ whole entry.mome
 -- the values of the entry are in their ranges
 pub record IsInRange (entry : Entry) : Type 0 where
   pub head : AreOf head_forms (head_of entry)
-  pub body : AreOf (forms_of (kind_of entry.message)) (parts_of entry.message)
+  pub body : FitsFields entry.message
 
 -- a number and a message that an entry can carry
 pub record IsNumbered (n : ℕ) (message : Message) : Type 0 where
   pub number_fits : is_of number (whole n) ≡ true
-  pub message_fits : AreOf (forms_of (kind_of message)) (parts_of message)
+  pub message_fits : FitsFields message
 
 -- submitter, number, moment, tag, and the fields of the kind
 abbrev pub spelling : Entry → List ℕ
 spelling entry =
-    spelled_all head_forms (head_of entry)
-    ++ tag_of (kind_of entry.message) ∷ spelled_all (forms_of (kind_of entry.message)) (parts_of entry.message)
+    spelled_all head_forms (head_of entry) ++ tag_of (kind_of entry.message) ∷ fields_of entry.message
 
 -- the spellings of a list of entries, one behind the other
 abbrev pub spellings : List Entry → List ℕ

@@ -29,6 +29,8 @@ values_of other = []
 
 -- a repeat is told as the message was
 abbrev pub verdict_text : Verdict → List ℕ
-verdict_text (verdict.Accepted number moment) = codes "accepted" ++ spaced (decimal number ∷ decimal moment.seconds ∷ [])
+verdict_text (verdict.Accepted number moment) =
+    codes "accepted" ++ spaced (decimal number ∷ decimal moment.seconds ∷ [])
 verdict_text (verdict.Repeat number moment) = codes "accepted" ++ spaced (decimal number ∷ decimal moment.seconds ∷ [])
-verdict_text (verdict.Refused refused) = codes "refused" ++ spaced (decimal (number_of refused) ∷ name_of refused ∷ values_of refused)
+verdict_text (verdict.Refused refused) =
+    codes "refused" ++ spaced (decimal (number_of refused) ∷ name_of refused ∷ values_of refused)

@@ -139,7 +139,8 @@ impl<'a> Fields<'a> {
 
     #[tactic(auto, unfolding(crate::specs::Reading::part_at), using(std::proofs::lemmas::Bool::Decides::nat_tests))]
     pub(crate) fn moment(&mut self) -> Option<Moment>
-        ensures { option_map (λ x. (whole x.seconds, self.new.rest.now)) result ≡ part_at form.moment self.old.rest.now }
+        ensures { option_map (λ x. (whole x.seconds, self.new.rest.now)) result
+            ≡ part_at form.moment self.old.rest.now }
     {
         let seconds = self.word32()? as u64;
         if seconds < Moment::FIRST || seconds > Moment::LAST {

@@ -6,8 +6,8 @@ use crate::kind::Kind;
 use tb_terms::{Announcement, Cusip};
 use tb_units::{Day, Dollars, Ident, Moment, Rate};
 
-/// What a submitter or the operator asks to be entered. The operator registers, enrols, announces, publishes, settles and
-/// redeems; submitters send the rest.
+/// What a submitter or the operator asks to be entered. The operator registers, enrols, announces, publishes, settles
+/// and redeems; submitters send the rest.
 #[derive(Clone, Copy, Debug, PartialEq, Eq)]
 pub enum Message {
     /// A submitter, and the key by which it is known.
@@ -78,8 +78,8 @@ pub enum Message {
     },
 }
 
-/// A message that was accepted, with its submitter, the submitter's number for it and the running moment. The operator's
-/// entries have the submitter `operator`.
+/// A message that was accepted, with its submitter, the submitter's number for it and the running moment. The
+/// operator's entries have the submitter `operator`.
 #[derive(Clone, Copy, Debug, PartialEq, Eq)]
 pub struct Entry {
     pub submitter: Ident,

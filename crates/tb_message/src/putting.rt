@@ -1,12 +1,9 @@
 //! Entries, spelled as records.
-ghost use Rattle.std.specs.Prelude.{◌≡◌, ◌+◌, ◌≤◌, ◌^◌, ◌++◌, length};
+ghost use Rattle.std.specs.Prelude.{◌≡◌, ◌+◌, ◌≤◌, ◌^◌, ◌++◌, length, Some, None};
 ghost use Rattle.tb_message.specs.Forms.{text, whole, signed};
 ghost use Rattle.tb_message.specs.Forms as form;
-ghost use Rattle.tb_message.specs.Spelling.{spelled, spelling, spelled_all, IsInRange, AreOf};
-ghost use Rattle.tb_message.specs.Messages.{kind_of, parts_of};
+ghost use Rattle.tb_message.specs.Spelling.{spelled, spelling, fields_of, FitsFields, IsInRange};
 ghost use Rattle.tb_message.specs.declared.message.Message.TheVariants as messages;
-ghost use Rattle.tb_message.specs.declared.kind.Kind.TheVariants as kinds;
-ghost use Rattle.tb_message.specs.Kinds.{forms_of};
 
 use crate::message::{Entry, Message};
 use crate::record::Record;
@@ -99,10 +96,19 @@ impl Record {
     }
 
     #[tactic(auto, using(crate::proofs::Texts::joined))]
+    fn names(&mut self, first: &Ident, second: &Ident)
+        requires room { length self.old ≤ 100 }
+        ensures { self.new ≡ self.old ++ (spelled form.name (text first.now) ++ spelled form.name (text second.now)) }
+    {
+        self.name(first);
+        self.name(second);
+    }
+
+    #[tactic(auto, using(crate::proofs::Texts::joined))]
     fn terms(&mut self, terms: &Announcement)
         requires room { length self.old ≤ 100 }
-        requires range { AreOf (forms_of kinds.Announce) (parts_of (messages.Announce terms.now)) }
-        ensures { self.new ≡ self.old ++ spelled_all (forms_of kinds.Announce) (parts_of (messages.Announce terms.now)) }
+        requires range { FitsFields (messages.Announce terms.now) }
+        ensures { self.new ≡ self.old ++ fields_of (messages.Announce terms.now) }
     {
         self.name(&terms.auction);
         self.cusip(&terms.cusip);
@@ -119,20 +125,79 @@ impl Record {
     }
 
     #[tactic(auto, using(crate::proofs::Texts::joined))]
+    fn bid(&mut self, auction: &Ident, bidder: &Ident, rate: Rate, amount: Dollars)
+        requires room { length self.old ≤ 100 }
+        requires range { FitsFields (messages.Bid auction.now bidder.now (Some rate) amount) }
+        ensures { self.new ≡ self.old ++ fields_of (messages.Bid auction.now bidder.now (Some rate) amount) }
+    {
+        self.name(auction);
+        self.name(bidder);
+        self.rate(rate);
+        self.amount(amount);
+    }
+
+    #[tactic(auto, using(crate::proofs::Texts::joined))]
+    fn noncompetitive(&mut self, auction: &Ident, bidder: &Ident, amount: Dollars)
+        requires room { length self.old ≤ 100 }
+        requires range { FitsFields (messages.Bid auction.now bidder.now None amount) }
+        ensures { self.new ≡ self.old ++ fields_of (messages.Bid auction.now bidder.now None amount) }
+    {
+        self.name(auction);
+        self.name(bidder);
+        self.amount(amount);
+    }
+
+    #[tactic(auto, using(crate::proofs::Texts::joined))]
+    fn cancel(&mut self, auction: &Ident, bid: u64)
+        requires room { length self.old ≤ 100 }
+        ensures { self.new ≡ self.old ++ fields_of (messages.Cancel auction.now bid) }
+    {
+        self.name(auction);
+        self.number(bid);
+    }
+
+    #[tactic(auto, using(crate::proofs::Texts::joined))]
+    fn position_report(&mut self, auction: &Ident, bidder: &Ident, position: i64)
+        requires room { length self.old ≤ 100 }
+        ensures { self.new ≡ self.old ++ fields_of (messages.Position auction.now bidder.now position) }
+    {
+        self.name(auction);
+        self.name(bidder);
+        self.position(position);
+    }
+
+    // A transfer, or a pledge: their fields are alike.
+    #[tactic(auto, using(crate::proofs::Texts::joined))]
+    fn movement(&mut self, cusip: &Cusip, to: &Ident, amount: Dollars)
+        requires room { length self.old ≤ 100 }
+        requires range { FitsFields (messages.Transfer cusip.now to.now amount) }
+        ensures { self.new ≡ self.old ++ fields_of (messages.Transfer cusip.now to.now amount) }
+    {
+        self.cusip(cusip);
+        self.name(to);
+        self.amount(amount);
+    }
+
+    #[tactic(auto, using(crate::proofs::Texts::joined))]
+    fn release(&mut self, holder: &Ident, pledge: u64, amount: Dollars)
+        requires room { length self.old ≤ 100 }
+        requires range { FitsFields (messages.Release holder.now pledge amount) }
+        ensures { self.new ≡ self.old ++ fields_of (messages.Release holder.now pledge amount) }
+    {
+        self.name(holder);
+        self.number(pledge);
+        self.amount(amount);
+    }
+
+    #[tactic(auto, using(crate::proofs::Texts::joined))]
     fn body(&mut self, message: &Message)
         requires room { length self.old ≤ 100 }
-        requires range { AreOf (forms_of (kind_of message.now)) (parts_of message.now) }
-        ensures { self.new ≡ self.old ++ spelled_all (forms_of (kind_of message.now)) (parts_of message.now) }
+        requires range { FitsFields message.now }
+        ensures { self.new ≡ self.old ++ fields_of message.now }
     {
         match message {
-            Message::Register { submitter, key } => {
-                self.name(submitter);
-                self.name(key);
-            }
-            Message::Enrol { bidder, submitter } => {
-                self.name(bidder);
-                self.name(submitter);
-            }
+            Message::Register { submitter, key } => self.names(submitter, key),
+            Message::Enrol { bidder, submitter } => self.names(bidder, submitter),
             Message::Holiday { day } => self.day(*day),
             Message::Announce { terms } => self.terms(terms),
             Message::Bid {
@@ -140,50 +205,28 @@ impl Record {
                 bidder,
                 rate: Some(rate),
                 amount,
-            } => {
-                self.name(auction);
-                self.name(bidder);
-                self.rate(*rate);
-                self.amount(*amount);
-            }
+            } => self.bid(auction, bidder, *rate, *amount),
             Message::Bid {
                 auction,
                 bidder,
                 rate: None,
                 amount,
-            } => {
-                self.name(auction);
-                self.name(bidder);
-                self.amount(*amount);
-            }
-            Message::Cancel { auction, bid } => {
-                self.name(auction);
-                self.number(*bid);
-            }
+            } => self.noncompetitive(auction, bidder, *amount),
+            Message::Cancel { auction, bid } => self.cancel(auction, *bid),
             Message::Position {
                 auction,
                 bidder,
                 position,
-            } => {
-                self.name(auction);
-                self.name(bidder);
-                self.position(*position);
-            }
+            } => self.position_report(auction, bidder, *position),
             Message::Publish { auction } | Message::Settle { auction } => self.name(auction),
             Message::Transfer { cusip, to, amount } | Message::Pledge { cusip, to, amount } => {
-                self.cusip(cusip);
-                self.name(to);
-                self.amount(*amount);
+                self.movement(cusip, to, *amount)
             }
             Message::Release {
                 holder,
                 pledge,
                 amount,
-            } => {
-                self.name(holder);
-                self.number(*pledge);
-                self.amount(*amount);
-            }
+            } => self.release(holder, *pledge, *amount),
             Message::Redeem { cusip } => self.cusip(cusip),
         }
     }

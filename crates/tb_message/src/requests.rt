@@ -6,7 +6,8 @@ ghost use Rattle.tb_message.specs.Kinds.{kind_of_text};
 ghost use Rattle.tb_message.specs.Queries.{query_of_text, query_kind_of, query_parts_of};
 ghost use Rattle.tb_message.specs.Messages.{kind_of, parts_of};
 ghost use Rattle.tb_message.specs.Spelling.{IsNumbered};
-ghost use Rattle.tb_message.specs.Requests.{result_map, body_in, message_in, object_in, request_in, query, asked_by, Says, FaultOf, AnswerOf, IsRequestInRange};
+ghost use Rattle.tb_message.specs.Requests.{result_map, body_in, message_in, object_in, request_in, query};
+ghost use Rattle.tb_message.specs.Requests.{asked_by, Says, FaultOf, AnswerOf, IsRequestInRange};
 ghost use Rattle.tb_message.specs.Requests as asked;
 ghost use Rattle.tb_message.specs.declared.kind.Kind.TheVariants as kinds;
 
@@ -220,7 +221,8 @@ fn message_of(kind: Kind, object: &Value) -> Result<Message, Field>
 }
 
 fn query_of(kind: QueryKind, object: &Value) -> Result<Query, Field>
-    ensures { result_map (λ q. query (query_kind_of q) (query_parts_of q)) result ≡ object_in (view object.now) (Some kind) }
+    ensures { result_map (λ q. query (query_kind_of q) (query_parts_of q)) result
+        ≡ object_in (view object.now) (Some kind) }
 {
     match kind {
         QueryKind::Terms => Ok(Query::Terms(members::name(object, Field::Auction)?)),

@@ -215,8 +215,8 @@ impl<'a> Fields<'a> {
 }
 
 impl Entry {
-    /// Reads the entry whose spelling begins the bytes, and tells how many bytes that is. Bytes that begin with no spelling
-    /// are `None`.
+    /// Reads the entry whose spelling begins the bytes, and tells how many bytes that is. Bytes that begin with no
+    /// spelling are `None`.
     pub fn take(bytes: &[u8]) -> Option<(Entry, usize)>
         ensures found { IfSome result (λ x. IsTaken bytes.now x.0 x.1) }
         ensures none { IfNone result

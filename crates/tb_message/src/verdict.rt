@@ -10,8 +10,8 @@ use std::marker::Model;
 use tb_terms::{Refusal, print_day};
 use tb_units::{Day, Ident, Moment, Short};
 
-/// What a message is answered. Accepted and repeated messages are told with their sender's number and the moment of their
-/// entry.
+/// What a message is answered. Accepted and repeated messages are told with their sender's number and the moment of
+/// their entry.
 #[derive(Clone, Copy, Debug, PartialEq, Eq)]
 pub enum Verdict {
     Accepted { number: u64, moment: Moment },

@@ -11,26 +11,33 @@ unfolding items_from
 items_of-nil = refl
 
 -- a word with no hyphen in front is a positional word
-pub items_of-place : (word : Text) (words : List Text) → is_dashed word ≡ false
+pub items_of-place : (word : Text) (words : List Text)
+    → is_dashed word ≡ false
     → items_of (word ∷ words) ≡ place word ∷ items_of words
 unfolding items_from
 items_of-place word words plain = rw (plain) refl
 
 -- the switch
-pub items_of-csv : (word : Text) (words : List Text) → is_dashed word ≡ true → bytes_eq word (codes "--csv") ≡ true
+pub items_of-csv : (word : Text) (words : List Text)
+    → is_dashed word ≡ true
+    → bytes_eq word (codes "--csv") ≡ true
     → items_of (word ∷ words) ≡ csv ∷ items_of words
 unfolding items_from
 items_of-csv word words dashed switch = rw (dashed, switch) refl
 
 -- an option in one word
-pub items_of-equals : (word : Text) (words : List Text) → is_dashed word ≡ true → bytes_eq word (codes "--csv") ≡ false
+pub items_of-equals : (word : Text) (words : List Text)
+    → is_dashed word ≡ true
+    → bytes_eq word (codes "--csv") ≡ false
     → list_any is_equals word ≡ true
     → items_of (word ∷ words) ≡ option (before_first is_equals word) (after_first is_equals word) ∷ items_of words
 unfolding items_from
 items_of-equals word words dashed other equals = rw (dashed, other, equals) refl
 
 -- an option in two words
-pub items_of-name : (word : Text) (words : List Text) → is_dashed word ≡ true → bytes_eq word (codes "--csv") ≡ false
+pub items_of-name : (word : Text) (words : List Text)
+    → is_dashed word ≡ true
+    → bytes_eq word (codes "--csv") ≡ false
     → list_any is_equals word ≡ false
     → items_of (word ∷ words) ≡ items_from (Some word) words
 unfolding items_from

@@ -1,5 +1,6 @@
 -- Key words and the names in them.
-use Rattle.std.proofs.Common.{◌≡◌, ◌≢◌, [], ◌∷◌, ◌++◌, refl, true, false, Some, None, Option, codes, ◌∙◌, ap, sym, subst, inl, inr, take, drop, arith}
+use Rattle.std.proofs.Common.{◌≡◌, ◌≢◌, [], ◌∷◌, ◌++◌, refl, true, false, Some, None, Option}
+use Rattle.std.proofs.Common.{codes, ◌∙◌, ap, sym, subst, inl, inr, take, drop, arith}
 use Rattle.std.specs.Prelude.{◌==◌, IfSome, IfNone, unwrap_or}
 use Rattle.std.specs.List.{list_all}
 use Rattle.std.specs.Str.{bytes_eq}
@@ -52,13 +53,15 @@ key_says text caller read = elim (cases_Bool (bytes_eq (take 3 text) (codes "op:
 ]
 
 -- the key that a text is read as
-pub key_some : (text : Text) (read : Option Key) → read ≡ key_of text
+pub key_some : (text : Text) (read : Option Key)
+    → read ≡ key_of text
     → IfSome read (λ caller. IsKey caller × (text ≡ key_text caller))
 key_some text None is = tt
 key_some text (Some caller) is = key_says text caller (sym is)
 
 -- a text that is read as no key is the text of none
-pub key_none : (text : Text) (read : Option Key) → read ≡ key_of text
+pub key_none : (text : Text) (read : Option Key)
+    → read ≡ key_of text
     → IfNone read ((caller : Key) → IsKey caller → text ≢ key_text caller)
 key_none text (Some caller) is = tt
 key_none text None is = λ caller held same.

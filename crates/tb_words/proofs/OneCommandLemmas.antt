@@ -1,5 +1,6 @@
 -- No two commands have the same words.
-use Rattle.std.proofs.Common.{◌≡◌, ℕ, ◌+◌, ◌<◌, ◌^◌, List, [], ◌∷◌, Bool, true, false, Some, refl, sym, subst, ap, ◌∙◌, arith, codes, get_or}
+use Rattle.std.proofs.Common.{◌≡◌, ℕ, ◌+◌, ◌<◌, ◌^◌, List, [], ◌∷◌, Bool, true, false, Some}
+use Rattle.std.proofs.Common.{refl, sym, subst, ap, ◌∙◌, arith, codes, get_or}
 use Rattle.std.specs.Prelude.{if◌then◌else◌}
 use Rattle.std.specs.Fmt.{decimal}
 use Rattle.std.proofs.lemmas.Fmt.{decimal_injective}
@@ -20,15 +21,21 @@ one_text : (values : List Text) (one other : Text) → values ≡ one ∷ [] →
 one_text values one other is_one is_other = let same : one ∷ [] ≡ other ∷ [] = sym is_one ∙ is_other in cc (same)
 
 -- a text writes one number
-one_number : (values : List Text) (one other : ℕ) → one < 2 ^ 64 → other < 2 ^ 64
-    → values ≡ decimal one ∷ [] → values ≡ decimal other ∷ []
+one_number : (values : List Text) (one other : ℕ)
+    → one < 2 ^ 64
+    → other < 2 ^ 64
+    → values ≡ decimal one ∷ []
+    → values ≡ decimal other ∷ []
     → one ≡ other
 one_number values one other one_small other_small is_one is_other =
     decimal_injective one other one_small other_small (one_text values (decimal one) (decimal other) is_one is_other)
 
 -- a text is the text of one key
-one_key : (values : List Text) (one other : Key) → IsKey one → IsKey other
-    → values ≡ key_text one ∷ [] → values ≡ key_text other ∷ []
+one_key : (values : List Text) (one other : Key)
+    → IsKey one
+    → IsKey other
+    → values ≡ key_text one ∷ []
+    → values ≡ key_text other ∷ []
     → one ≡ other
 one_key values one other one_held other_held is_one is_other =
     let same : Some one ≡ Some other =
@@ -55,7 +62,8 @@ one_query (query.Redemption bill) (query.Redemption named) same =
 one_query one other same = absurd (cc (same))
 
 -- the word `full` stands or doesn't
-one_full : (one other : Bool) → (if one then codes "full" ∷ [] else []) ≡ (if other then codes "full" ∷ [] else [])
+one_full : (one other : Bool)
+    → (if one then codes "full" ∷ [] else []) ≡ (if other then codes "full" ∷ [] else [])
     → one ≡ other
 one_full true true same = refl
 one_full true false same = cc (same)
@@ -66,12 +74,15 @@ one_full false false same = refl
 abbrev tag_of : Text → ℕ
 tag_of name = get_or name 0 0 + get_or name 2 0
 
+-- one name has one such number
 same_tag : (one other : Text) → one ≡ other → tag_of one ≡ tag_of other
 same_tag one other same = ap tag_of same
 
 -- the items behind a command's name are those of one command of this name
-one_spelled : (one other : Command) (items : List Item) → name_of one ≡ name_of other
-    → Spells one items → Spells other items
+one_spelled : (one other : Command) (items : List Item)
+    → name_of one ≡ name_of other
+    → Spells one items
+    → Spells other items
     → one ≡ other
 one_spelled (command.Award full) (command.Award other) items named is_one is_other =
     ap command.Award (one_full full other (sym is_one.line.places ∙ is_other.line.places))
@@ -93,7 +104,8 @@ one_spelled (command.Import operator caller) (command.Import name other) items n
     let keys : caller ≡ other = one_key _ caller other is_one.in_range.1 is_other.in_range.1 is_one.line.options.1.0
     is_other.line.options.1.0 in
     cc (names, keys)
-one_spelled (command.Report operator caller asked csv) (command.Report name other query switch) items named is_one is_other =
+one_spelled (command.Report operator caller asked csv)
+    (command.Report name other query switch) items named is_one is_other =
     let names : operator ≡ name = one_text _ operator name is_one.line.options.0 is_other.line.options.0 in
     let keys : caller ≡ other = one_key _ caller other is_one.in_range.1 is_other.in_range.1 is_one.line.options.1.0
     is_other.line.options.1.0 in
@@ -110,7 +122,9 @@ one_spelled (command.Trial seed count) (command.Trial start size) items named is
 one_spelled one other items named is_one is_other = absurd (omega (arith, same_tag (name_of one) (name_of other) named))
 
 -- words are those of one command
-pub one_command : (words : List Text) (one other : Command) → AreWordsOf one words → AreWordsOf other words
+pub one_command : (words : List Text) (one other : Command)
+    → AreWordsOf one words
+    → AreWordsOf other words
     → one ≡ other
 one_command words one other is_one is_other =
     let same : name_of one ∷ is_one.0 ≡ name_of other ∷ is_other.0 = sym is_one.1 ∙ is_other.1 in

@@ -1,5 +1,6 @@
 -- What stands behind the name of a command, read from the left.
-use Rattle.std.specs.Prelude.{ℕ, ◌==◌, ◌&&◌, List, [], ◌∷◌, Bool, true, false, if◌then◌else◌, Option, Some, None, codes, slice_index, length, nat_lt}
+use Rattle.std.specs.Prelude.{ℕ, ◌==◌, ◌&&◌, List, [], ◌∷◌, Bool, true, false, if◌then◌else◌}
+use Rattle.std.specs.Prelude.{Option, Some, None, codes, slice_index, length, nat_lt}
 use Rattle.std.specs.List.{list_any, before_first, after_first, filter_map}
 use Rattle.std.specs.Str.{bytes_eq}
 

@@ -1,5 +1,6 @@
 -- The parts of a line, as they are read.
-use Rattle.std.specs.Prelude.{◌≡◌, ℕ, zero, suc, List, [], ◌∷◌, map, string_bytes, Bool, true, false, Option, Some, None, codes, count_by}
+use Rattle.std.specs.Prelude.{◌≡◌, ℕ, zero, suc, List, [], ◌∷◌, map, string_bytes, Bool}
+use Rattle.std.specs.Prelude.{true, false, Option, Some, None, codes, count_by}
 use Rattle.std.specs.List.{list_all}
 use Rattle.tb_words.specs.declared.items.Items.{Items}
 use Rattle.tb_words.specs.declared.items.Item as declared

@@ -1,5 +1,6 @@
 //! The parts of a line: positional words, options and the switch.
-ghost use Rattle.std.specs.Prelude.{◌≡◌, ◌≢◌, ℕ, ◌≤◌, [], ◌∷◌, ◌++◌, map, string_bytes, length, true, false, codes, Option, IfSome, IfNone, MatchOption, count_by};
+ghost use Rattle.std.specs.Prelude.{◌≡◌, ◌≢◌, ℕ, ◌≤◌, [], ◌∷◌, ◌++◌, map, string_bytes, length, true, false};
+ghost use Rattle.std.specs.Prelude.{codes, Option, IfSome, IfNone, MatchOption, count_by};
 ghost use Rattle.std.specs.List.{list_all, list_any};
 ghost use Rattle.std.specs.Str.{bytes_eq};
 ghost use Rattle.std.specs.Option.{option_map};
@@ -10,7 +11,8 @@ ghost use Rattle.tb_words.specs.Items.{Text, items_of, places_in, values_in, is_
 ghost use Rattle.tb_words.specs.Lines.{Line, Says, option_names, times};
 ghost use Rattle.tb_message.specs.declared.key.Key.{Key};
 ghost use Rattle.tb_words.specs.Commands.{IsKey, key_text};
-ghost use Rattle.tb_words.specs.Parts.{texts_of, names_of, only_of, standing_of, item_of, IsShapeOf, HasOptionsAlone, HasPlacesAlone};
+ghost use Rattle.tb_words.specs.Parts.{texts_of, names_of, only_of, standing_of, item_of};
+ghost use Rattle.tb_words.specs.Parts.{IsShapeOf, HasOptionsAlone, HasPlacesAlone};
 
 use crate::items::{Item, Items};
 use tb_message::Key;

@@ -31,22 +31,40 @@ percent_of-requires-clause-at_stop c =
 
 pub percent_of-requires-clause-fits : goal.percent_of-requires-clause-fits
 percent_of-requires-clause-fits c =
-    omega (arith, c.par-at_stop.ensures, par_on-le Equal c.stop_of-stop.result.steps c.args.lines.now, c.requires.lines.fits)
+    omega (
+      arith,
+      c.par-at_stop.ensures,
+      par_on-le Equal c.stop_of-stop.result.steps c.args.lines.now,
+      c.requires.lines.fits,
+    )
 
 pub price-requires : goal.price-requires
 price-requires c =
     let stop = c.stop_of-stop.ensures in
     let line : RateLine = record { rate = c.stop_of-stop.result; bidder = 0; amount = c.args.sought } in
-    subst (λ (steps : _). HasPrice steps c.args.days.count) (stop.rate line) (c.requires.priced stop.place line stop.within)
+    subst (λ (steps : _). HasPrice steps c.args.days.count) (stop.rate line)
+    (c.requires.priced stop.place line stop.within)
 
 pub invariant_of-result : goal.invariant_of-result
 invariant_of-result c = record {
-  in_range = omega (arith, c.par-below.ensures, par_on-le Less c.stop_of-stop.result.steps c.args.lines.now, c.requires.lines.fits);
+  in_range =
+      omega (
+        arith,
+        c.par-below.ensures,
+        par_on-le Less c.stop_of-stop.result.steps c.args.lines.now,
+        c.requires.lines.fits,
+      );
 }
 
 pub invariant_of-result-2 : goal.invariant_of-result-2
 invariant_of-result-2 c = record {
-  in_range = omega (arith, c.par-at_stop.ensures, par_on-le Equal c.stop_of-stop.result.steps c.args.lines.now, c.requires.lines.fits);
+  in_range =
+      omega (
+        arith,
+        c.par-at_stop.ensures,
+        par_on-le Equal c.stop_of-stop.result.steps c.args.lines.now,
+        c.requires.lines.fits,
+      );
 }
 
 pub returns : goal.returns
@@ -55,7 +73,9 @@ returns c =
     let below = c.par-below.ensures ∙ par_on-is Less c.stop_of-stop.result.steps c.args.lines.now in
     let at_stop = c.par-at_stop.ensures ∙ par_on-is Equal c.stop_of-stop.result.steps c.args.lines.now in
     record {
-      is = IsCut-stop c.requires.lines.order c.stop_of-stop.ensures c.percent_of.result.hundredths line c.requires.lines.amounts
+      is =
+          IsCut-stop c.requires.lines.order c.stop_of-stop.ensures c.percent_of.result.hundredths line
+          c.requires.lines.amounts
           (rw (below, at_stop) at c.percent_of.ensures);
       price = c.price.ensures;
       below = below;

@@ -11,4 +11,5 @@ pub returns-clause-short : goal.returns-clause-short
 returns-clause-short c = AreAwards-short
 
 pub returns-clause-within : goal.returns-clause-within
-returns-clause-within c recognised awards stop percent small hundreds are = AreAwards-within stop percent recognised awards small hundreds are
+returns-clause-within c recognised awards stop percent small hundreds are =
+    AreAwards-within stop percent recognised awards small hundreds are

@@ -6,4 +6,5 @@ use Rattle.tb_award.proofs.laws.one_recognition.Goals as goal
 
 pub returns : goal.returns
 returns c lines positions offering one other are are' =
-    AreRecognised-one (bid_in lines) (cap_of offering) (limits_by offering positions) (length positions) one other are are'
+    AreRecognised-one (bid_in lines) (cap_of offering) (limits_by offering positions)
+    (length positions) one other are are'

@@ -10,4 +10,5 @@ returns-clause-hundreds c lines positions offering recognised are hundreds =
 
 pub returns-clause-limited : goal.returns-clause-limited
 returns-clause-limited c lines positions offering recognised bidder are =
-    recognised_of-le (bid_in lines) (cap_of offering) (limits_by offering positions) (length positions) bidder recognised are
+    recognised_of-le (bid_in lines) (cap_of offering) (limits_by offering positions)
+    (length positions) bidder recognised are

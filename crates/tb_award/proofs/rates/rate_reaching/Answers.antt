@@ -28,7 +28,9 @@ returns-then-sum-part c = λ awards are.
     let so_far = c.loop-line.invariant.sum awards are in
     let line = c.line-item.result in
     let below = c.loop-line-test.true in
-    let next = awards-next c.args.cut.now lines awards k line c.award-sum.result.value are below c.line-item.is c.award-sum.ensures in
+    let next =
+    awards-next c.args.cut.now lines awards k line c.award-sum.result.value are below c.line-item.is
+    c.award-sum.ensures in
     IsStop-here c.args.cut.now lines awards c.args.part k line are below c.line-item.is
     (omega (arith, so_far, c.loop-line.invariant.short)) (omega (arith, so_far, next))
 
@@ -53,7 +55,8 @@ loop-line-preserved c =
             c.loop-line.invariant.bound,
             sum_by_more amount_of lines k line below,
             ap amount_of c.line-item.is,
-            award-le cut.stop.steps cut.percent.hundredths line.rate.steps line.amount.value award cut.percent.in_range c.award-sum.ensures,
+            award-le cut.stop.steps cut.percent.hundredths line.rate.steps line.amount.value award cut.percent.in_range
+                c.award-sum.ensures,
           );
       short = omega arith;
     }
@@ -65,5 +68,6 @@ returns c = λ awards are.
     let all = take_all c.loop-line.line-index awards (omega (arith, size)) in
     let sum = c.loop-line.invariant.sum awards are ∙ ap total_of all in
     subst (λ (line : RateLine). IsStop awards c.args.part line.rate.steps) c.index-lines-lines.is
-    (IsStop-last c.args.cut.now lines awards c.args.part c.index-lines-lines.result are c.requires.some c.index-lines-lines.is
+    (IsStop-last c.args.cut.now lines awards c.args.part c.index-lines-lines.result are c.requires.some
+    c.index-lines-lines.is
     (omega (arith, sum, c.loop-line.invariant.short)))

@@ -10,7 +10,9 @@ use Rattle.tb_award.proofs.rates.sum_of.Goals as goal
 pub overflow_add-sum : goal.overflow_add-sum
 overflow_add-sum c =
     let so_far = c.loop-line in
-    let fits = sum-fits c.args.cut.now c.args.lines.now so_far.line-index so_far.sum c.requires.amounts c.requires.fits so_far.invariant in
+    let fits =
+    sum-fits c.args.cut.now c.args.lines.now so_far.line-index so_far.sum c.requires.amounts c.requires.fits
+    so_far.invariant in
     omega (arith, fits, c.award-sum.result.in_range)
 
 pub loop-line-preserved : goal.loop-line-preserved
@@ -23,9 +25,11 @@ loop-line-preserved c =
     let cut = c.args.cut.now in
     let step : take (k + 1) lines ≡ take k lines ++ line ∷ [] =
     take_more lines k line c.loop-line-test.true ∙ ap (λ (l : RateLine). take k lines ++ l ∷ []) (sym c.line-item.is) in
-    subst (λ (ls : List RateLine). AwardsSumTo c.args.cut.now ls (c.loop-line.sum + c.award-sum.result.value)) (sym step) (
+    subst (λ (ls : List RateLine). AwardsSumTo c.args.cut.now ls (c.loop-line.sum + c.award-sum.result.value))
+    (sym step) (
       so_far.0 ++ award ∷ [],
-      AreAwards_push cut.stop.steps cut.percent.hundredths (take k lines) so_far.0 line award so_far.1 refl refl c.award-sum.ensures,
+      AreAwards_push cut.stop.steps cut.percent.hundredths
+          (take k lines) so_far.0 line award so_far.1 refl refl c.award-sum.ensures,
       omega (arith, so_far.2, total_of_push so_far.0 award),
     )
 

@@ -6,7 +6,8 @@ use Rattle.tb_award.proofs.recognising.read_on.Goals as goal
 
 pub returns-then-is_same_bid-clause-reading : goal.returns-then-is_same_bid-clause-reading
 returns-then-is_same_bid-clause-reading c = λ lines order reading.
-    IsReading-more reading c.args.line c.capped.result (c.if-is_same_bid.ensures.0 refl) c.capped.ensures.same c.capped.ensures.amount
+    IsReading-more reading c.args.line c.capped.result
+    (c.if-is_same_bid.ensures.0 refl) c.capped.ensures.same c.capped.ensures.amount
 
 pub returns-clause-reading : goal.returns-clause-reading
 returns-clause-reading c = λ lines order reading.

@@ -34,12 +34,15 @@ loop-place-preserved g c =
       reading = elim c.match-reading.branch [
         | in-None w ↦
             (let none = rw w.in-None.is at c.loop-place.invariant.reading in
-            let first : take (place + 1) lines ≡ [] ++ line ∷ [] = more ∙ ap (λ (n : ℕ). take n lines ++ line ∷ []) none.0 in
+            let first : take (place + 1) lines ≡ [] ++ line ∷ [] =
+            more ∙ ap (λ (n : ℕ). take n lines ++ line ∷ []) none.0 in
             rw (first, w.recognised-is, w.taken-is, w.reading-is)
-            (IsReading-next none.1 line w.capped.result none_before known w.capped.ensures.same w.capped.ensures.amount))
+            (IsReading-next none.1 line w.capped.result none_before known w.capped.ensures.same
+            w.capped.ensures.amount))
         | in-Some w ↦
             (let reading = rw w.in-Some.is at c.loop-place.invariant.reading in
-            rw (more, w.recognised-is, w.taken-is, w.reading-is) (w.read_on.ensures.reading (take place lines) order reading))
+            rw (more, w.recognised-is, w.taken-is, w.reading-is)
+            (w.read_on.ensures.reading (take place lines) order reading))
       ];
       room = elim c.match-reading.branch [
         | in-None w ↦ rw w.recognised-is c.loop-place.invariant.room

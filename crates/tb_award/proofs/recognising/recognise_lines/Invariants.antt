@@ -8,7 +8,8 @@ abbrev pub invariant-loop-place : goal.invariant-loop-place
 invariant-loop-place g l = record {
   reading : MatchOption l.reading
       ((l.place ≡ 0) × AreSettledOf [] l.positions l.offering.value l.recognised.items l.taken.items)
-      (λ bid. IsReadingOf (take l.place (g.B.Lines.lines_of l.lines)) l.positions l.offering.value l.recognised.items l.taken.items bid);
+      (λ bid. IsReadingOf (take l.place (g.B.Lines.lines_of l.lines)) l.positions l.offering.value l.recognised.items
+      l.taken.items bid);
   room : vec_capacity l.recognised ≡ vec_capacity l.initial.recognised;
   taken_room : vec_capacity l.taken ≡ vec_capacity l.initial.taken;
   steps : l.steps ≤ l.initial.steps + l.place * g.B.Lines.cost l.lines;

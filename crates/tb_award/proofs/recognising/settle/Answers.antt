@@ -13,6 +13,7 @@ returns-clause-settled c = λ lines reading.
     let within : bidder < length taken = omega arith in
     let limit : c.limit.result.value ≡ limits_by c.args.offering.value c.args.positions.now bidder = search rules in
     let before : c.index.result.now ≡ slice_index taken bidder = get_or_read taken bidder _ within c.index.ensures 0 in
-    let old : c.index_mut.result.now ≡ slice_index taken bidder = get_or_read taken bidder _ within c.index_mut.ensures.value 0 in
+    let old : c.index_mut.result.now ≡ slice_index taken bidder =
+    get_or_read taken bidder _ within c.index_mut.ensures.value 0 in
     let is = c.min-amount.ensures ∙ ap₂ (λ l t. min c.args.bid.amount.value (l - t)) limit before in
     AreSettled-kept reading _ c.keep.ensures.recognised is (refl, refl) old

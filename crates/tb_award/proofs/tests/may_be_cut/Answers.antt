@@ -1,4 +1,5 @@
-use Rattle.std.proofs.Common.{◌≡◌, ◌+◌, ◌<◌, ◌∷◌, [], ◌++◌, length, take, get_or, sym, subst, ap, ◌∙◌, refl, arith, inl, inr}
+use Rattle.std.proofs.Common.{◌≡◌, ◌+◌, ◌<◌, ◌∷◌, [], ◌++◌, length, take, get_or}
+use Rattle.std.proofs.Common.{sym, subst, ap, ◌∙◌, refl, arith, inl, inr}
 use Rattle.std.proofs.lemmas.Bool.{cases_lt}
 use Rattle.std.proofs.lemmas.List.{get_or_default, take_more}
 use Rattle.std.proofs.lemmas.List.Sums.{sum_by_push}
@@ -17,13 +18,16 @@ loop-place-preserved c =
     let step : take (place + 1) lines ≡ take place lines ++ line ∷ [] =
     take_more lines place line below ∙ ap (λ last. take place lines ++ last ∷ []) c.line-line.ensures in
     record {
-      sum = ap (λ n. n + line.amount.value) c.loop-place.invariant.sum ∙ sym (ap total_of step ∙ sum_by_push amount_of (take place lines) line);
+      sum =
+          ap (λ n. n + line.amount.value) c.loop-place.invariant.sum
+          ∙ sym (ap total_of step ∙ sum_by_push amount_of (take place lines) line);
       fits = omega arith;
       priced = λ k d within. elim (cases_lt k place) [
         | inl less ↦ c.loop-place.invariant.priced k d less
         | inr more ↦
             (let same : place ≡ k = omega arith in
-            let here : line ≡ get_or lines k d = sym c.line-line.ensures ∙ get_or_default lines place line d below ∙ ap (λ n. get_or lines n d) same in
+            let here : line ≡ get_or lines k d =
+            sym c.line-line.ensures ∙ get_or_default lines place line d below ∙ ap (λ n. get_or lines n d) same in
             subst (λ (l : RateLine). HasPrice l.rate.steps days) here (c.if-not-above_zero.ensures.price.0 refl))
       ];
     }

@@ -8,5 +8,6 @@ use Rattle.tb_award.proofs.tests.sorted_bids_of.Goals as goal
 pub returns : goal.returns
 returns g c =
     IfOk-weaker c.new.result _ _
-    (λ sorted same. All-permutation (λ (line : RateLine). line.bidder < c.args.bidders) c.in_ok-bids.bids.items sorted same c.in_ok-bids.ensures)
+    (λ sorted same. All-permutation
+    (λ (line : RateLine). line.bidder < c.args.bidders) c.in_ok-bids.bids.items sorted same c.in_ok-bids.ensures)
     c.new.ensures

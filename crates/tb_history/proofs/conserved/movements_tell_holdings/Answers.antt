@@ -24,8 +24,8 @@ returns-clause-free c numbers participants history participant cusip legal are k
 
 pub returns-clause-paid : goal.returns-clause-paid
 returns-clause-paid c numbers participants history participant cusip legal are known bill =
-    paid-told numbers participants history participant cusip legal are
-    (IsLegal-told numbers participants history legal are)
+    paid-told numbers participants history participant cusip
+    (record { legal = legal; numbered = are; told = IsLegal-told numbers participants history legal are })
     (are.names participant known) (are.bills cusip.bytes bill)
 
 pub returns-clause-mark : goal.returns-clause-mark

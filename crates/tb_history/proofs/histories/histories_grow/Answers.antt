@@ -1,5 +1,6 @@
 -- Each clause is a lemma on legal histories.
-use Rattle.tb_history.proofs.HistoryLemmas.{IsLegal-front, IsLegal-follows, IsLegal-ordered, running-seconds, repeated-push, position_of-push, standing-cancelled, standing-counted}
+use Rattle.tb_history.proofs.HistoryLemmas.{IsLegal-front, IsLegal-follows, IsLegal-ordered, running-seconds}
+use Rattle.tb_history.proofs.HistoryLemmas.{repeated-push, position_of-push, standing-cancelled, standing-counted}
 use Rattle.tb_history.proofs.LengthLemmas.{IsLegal-length}
 use Rattle.tb_history.proofs.histories.histories_grow.Goals as goal
 

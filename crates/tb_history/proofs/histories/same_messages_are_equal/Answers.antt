@@ -9,7 +9,7 @@ pub returns : goal.returns
 returns c = record {
   same = λ one other. (
     λ same. same_message-equal one other same,
-    λ equal. subst (λ (m : Message). same_message one m ≡ true) equal
+    λ equal. subst (λ (message : Message). same_message one message ≡ true) equal
         (same_message-refl one),
   );
 }

@@ -1,5 +1,6 @@
 -- Each clause is a lemma on readings.
-use Rattle.tb_history.proofs.ReadingLemmas.{AreResults-one, AreAwardLines-one, AreHoldingLines-one, ArePaidLines-one, IsReading-one}
+use Rattle.tb_history.proofs.ReadingLemmas.{AreResults-one, AreAwardLines-one, AreHoldingLines-one}
+use Rattle.tb_history.proofs.ReadingLemmas.{ArePaidLines-one, IsReading-one}
 use Rattle.tb_history.proofs.readings.readings_are_one.Goals as goal
 
 pub returns-clause-results : goal.returns-clause-results

@@ -17,7 +17,7 @@ returns-clause-verdicts c history submitter number moment message legal still =
 pub returns-clause-two_worlds : goal.returns-clause-two_worlds
 returns-clause-two_worlds c one other submitter number moment message legal_one legal_other alike still =
     IsLegal-sealed submitter one legal_one number moment message still
-    ∙ (ap (λ (h : List Entry). verdict_on h submitter number moment message) alike
+    ∙ (ap (λ (history : List Entry). verdict_on history submitter number moment message) alike
     ∙ sym (IsLegal-sealed submitter other legal_other number moment message still))
 
 pub returns-clause-by_key : goal.returns-clause-by_key

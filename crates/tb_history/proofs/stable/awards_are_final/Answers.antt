@@ -3,7 +3,8 @@ use Rattle.std.proofs.Common.{◌++◌}
 use Rattle.tb_history.proofs.HistoryLemmas.{IsLegal-front}
 use Rattle.tb_history.proofs.ClosedLemmas.{announced-more}
 use Rattle.tb_history.specs.Holdings.{bidding_in}
-use Rattle.tb_history.proofs.StableLemmas.{AreSame-more, closed-announced, closing-come, stop_of-alike, percent_of-alike}
+use Rattle.tb_history.proofs.StableLemmas.{AreSame-more, closed-announced, closing-come}
+use Rattle.tb_history.proofs.StableLemmas.{stop_of-alike, percent_of-alike}
 use Rattle.tb_history.proofs.stable.awards_are_final.Goals as goal
 
 pub returns-clause-closed : goal.returns-clause-closed

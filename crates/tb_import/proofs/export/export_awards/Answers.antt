@@ -19,7 +19,8 @@ loop-award-preserved c =
 
 pub returns : goal.returns
 returns c =
-    let all = take_all c.loop-award.award-index c.lines-award-items.result.now (omega (arith, c.loop-award-test.false)) in
+    let all = take_all c.loop-award.award-index c.lines-award-items.result.now
+    (omega (arith, c.loop-award-test.false)) in
     let whole : HasWritten (awards_table c.args.awards.now) c.loop-award.writer =
     subst (λ (lines : List AwardLine). HasWritten (awards_table lines) c.loop-award.writer)
     (all ∙ c.lines-award-items.ensures) c.loop-award.invariant in

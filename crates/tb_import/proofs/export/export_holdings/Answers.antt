@@ -19,7 +19,8 @@ loop-holding-preserved c =
 
 pub returns : goal.returns
 returns c =
-    let all = take_all c.loop-holding.holding-index c.lines-holding-items.result.now (omega (arith, c.loop-holding-test.false)) in
+    let all = take_all c.loop-holding.holding-index c.lines-holding-items.result.now
+    (omega (arith, c.loop-holding-test.false)) in
     let whole : HasWritten (holdings_table c.args.holdings.now) c.loop-holding.writer =
     subst (λ (lines : List HoldingLine). HasWritten (holdings_table lines) c.loop-holding.writer)
     (all ∙ c.lines-holding-items.ensures) c.loop-holding.invariant in

@@ -6,7 +6,8 @@ use Rattle.tb_import.proofs.records.five_of.Goals as goal
 pub returns-clause-five : goal.returns-clause-five
 returns-clause-five c =
     five_at (fields_of c.args.fields.now) c.in_ok-number.number.now c.in_ok-auction.auction.now
-    c.in_ok-bidder.bidder.now c.in_ok-rate.rate.now c.in_ok-amount.amount.now (search rules) (search rules) (search rules)
+    c.in_ok-bidder.bidder.now c.in_ok-rate.rate.now c.in_ok-amount.amount.now (search rules) (search rules)
+    (search rules)
     (search rules) (search rules) (search rules)
 
 pub returns-in_err-number-clause-other : goal.returns-in_err-number-clause-other
