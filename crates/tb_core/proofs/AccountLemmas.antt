@@ -1,15 +1,15 @@
 -- The accounts tell what has moved, and each accepted message is done on them.
-use Rattle.std.proofs.Common.{◌≡◌, ℕ, ◌+◌, ◌<◌, ◌≤◌, Bool, true, false, not, Some, None, inl, inr, List, [], ◌∷◌, length, nat_lt, refl, sym, ap, subst, arith, append-nil}
+use Rattle.std.proofs.Common.{◌≡◌, ℕ, ◌+◌, ◌<◌, ◌≤◌, Bool, true, false, Some, None, inl, inr, List, [], ◌∷◌, length, refl, sym, ap, subst, arith, append-nil}
 use Rattle.std.specs.Prelude.{◌↔◌, IsErr, IsOk, OnOk, Result, Ok, Err}
 use Rattle.std.specs.List.{position, position_or_len}
-use Rattle.std.proofs.lemmas.Bool.{cases_Bool, ltb-false}
-use Rattle.std.proofs.lemmas.List.Sums.{prefix_len-le-length}
+use Rattle.std.proofs.lemmas.Bool.{cases_Bool}
 use Rattle.tb_terms.specs.declared.announcement.Announcement.{Announcement}
 use Rattle.tb_terms.specs.declared.terms.Terms.{Terms}
 use Rattle.tb_holdings.specs.Book.{Book}
 use Rattle.tb_core.specs.Auctions.{announced_in}
 use Rattle.tb_core.specs.Accounting.{TellsNext}
-use Rattle.tb_core.proofs.FindLemmas.{position-place}
+use Rattle.tb_shelf.proofs.FindLemmas.{position-place}
+use Rattle.tb_core.proofs.FindLemmas.{position-none}
 use Rattle.tb_movements.specs.Movements.{Movement}
 use Rattle.tb_movements.specs.Told.{IsTold}
 
@@ -19,7 +19,8 @@ tells_nothing book movements told = subst (λ (ms : List Movement). IsTold ms bo
 
 -- the place of an announcement is that of its terms
 pub placed_at : (test : Announcement → Bool) (auctions : List Terms)
-    → position_or_len test (announced_in auctions) ≡ position_or_len (λ (terms : Terms). test terms.announcement) auctions
+    → position_or_len test (announced_in auctions)
+    ≡ position_or_len (λ (terms : Terms). test terms.announcement) auctions
 placed_at test [] = refl
 placed_at test (terms ∷ auctions) =
     elim (cases_Bool (test terms.announcement)) [
@@ -45,14 +46,10 @@ pub may_do : {T E : Type 0} (result : Result T E) (May Done : Type 0)
 may_do (Ok x) May Done when may done = done
 may_do (Err e) May Done when may done = absurd (let wrong : false ≡ true = when.1 may in cc)
 
--- where the element is found it is within, and else the place is behind all
+-- an element that is found stands at the first place that passes
 pub place_found : {X : Type 0} (p : X → Bool) (xs : List X) (i : ℕ) → position p xs ≡ Some i → i ≡ position_or_len p xs
 place_found p xs i found = sym (position-place p xs i found).1
 
+-- and where none is found that place is behind all
 pub place_missing : {X : Type 0} (p : X → Bool) (xs : List X) → position p xs ≡ None → length xs ≡ position_or_len p xs
-place_missing p xs none =
-    elim (cases_Bool (nat_lt (position_or_len p xs) (length xs))) [
-      | inl below ↦ let wrong : Some (position_or_len p xs) ≡ None = rw below at none in cc
-      | inr past ↦
-          omega (arith, ltb-false (position_or_len p xs) (length xs) past, prefix_len-le-length (λ x. not (p x)) xs)
-    ]
+place_missing p xs none = sym (position-none p xs none)

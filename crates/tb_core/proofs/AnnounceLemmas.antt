@@ -25,7 +25,8 @@ announce-fault announced redeemed a refused unknown fault =
     let faults : List Row = fault_rows (fault_of a) in
     let dated : List Row = maturity_rows (bill_of announced a.cusip) a.maturity in
     rw unknown
-    (refusal_in-front (faults ++ dated) (last_rows announced redeemed) refused (refusal_in-front faults dated refused fault))
+    (refusal_in-front (faults ++ dated) (last_rows announced redeemed) refused
+    (refusal_in-front faults dated refused fault))
 
 -- they have none
 pub announce-later : (announced : List Announcement) (redeemed : Bool) (a : Announcement)

@@ -36,7 +36,8 @@ shown-never : (h : List Entry) (s auction other : List ℕ) (q : List ℕ → Qu
     → ⊥
 shown-never h s auction other q shown same not_yet passed =
     refused-not (query_refusal h s (q other))
-    (shown (subst (λ (name : List ℕ). is_published h name ≡ false) (sym (is_same-equal other auction same)) not_yet)) passed
+    (shown (subst (λ (name : List ℕ). is_published h name ≡ false) (sym (is_same-equal other auction same)) not_yet))
+    passed
 
 -- what is read on an auction that isn't published is read on the own part
 pub IsReading-own : (h : List Entry) (s auction : List ℕ) (q : Query) (answer : Reading)
@@ -49,10 +50,12 @@ pub IsReading-own : (h : List Entry) (s auction : List ℕ) (q : Query) (answer 
 IsReading-own h s auction (query.Terms other) (reading.Terms terms) legal asks not_yet passed is =
     ap (λ announced. announcement_of announced other) (announcements-own s h (IsLegal-orderly h legal)) ∙ is
 IsReading-own h s auction (query.Results other) (reading.Results results) legal asks not_yet passed is =
-    absurd (shown-never h s auction other query.Results (λ none. shown-refused h s other (query.Results other) none refl) asks
+    absurd (shown-never h s auction other query.Results
+    (λ none. shown-refused h s other (query.Results other) none refl) asks
     not_yet passed)
 IsReading-own h s auction (query.Awards other) (reading.Awards lines) legal asks not_yet passed is =
-    absurd (shown-never h s auction other query.Awards (λ none. shown-refused h s other (query.Awards other) none refl) asks
+    absurd (shown-never h s auction other query.Awards (λ none. shown-refused h s other (query.Awards other) none refl)
+    asks
     not_yet passed)
 IsReading-own h s auction (query.Bids other) (reading.Bids lines) legal asks not_yet passed is =
     is ∙ bid_lines-own s h other
@@ -71,7 +74,8 @@ figures-close : (h : List Entry) (auction : List ℕ) (a : Announcement) (figure
     → AreCloseFigures (bidding_in h a) figures
 figures-close h auction a None legal found are = tt
 figures-close h auction a (Some figures) legal found are =
-    let close = IsLegal-close h auction a are.recognised are.awards figures.cut.stop.steps figures.cut.percent.hundredths
+    let close = IsLegal-close h auction a are.recognised are.awards figures.cut.stop.steps
+    figures.cut.percent.hundredths
     legal found are.recognition are.cut.is are.awards_are in
     record {
       recognised = are.recognised;

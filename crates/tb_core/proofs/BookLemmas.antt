@@ -46,7 +46,7 @@ use Rattle.tb_core.proofs.ShelfLemmas.{lines-changed, lines-opened, lines-taken,
 use Rattle.tb_core.proofs.StandingLemmas.{par_of-filter}
 
 -- the lines that the live bids of an auction are
-abbrev lines_in : List Entry → List ℕ → List BookLine
+abbrev pub lines_in : List Entry → List ℕ → List BookLine
 lines_in h auction = map (book_line_of (enrolments h)) (live_bids_in (bids h) (cancels h) auction)
 
 -- what is known of a legal history and the next message
@@ -57,7 +57,8 @@ pub record IsNext (h : List Entry) (s : List ℕ) (n : ℕ) (moment : Moment) (m
   pub rows : AllByRecursion IsClear (rows_of h s moment m)
 
 -- an accepted entry is next
-pub Follows-next : (h : List Entry) (e : Entry) → IsLegal h → Follows h e → IsNext h e.submitter e.number e.moment e.message
+pub Follows-next : (h : List Entry) (e : Entry) → IsLegal h → Follows h e
+    → IsNext h e.submitter e.number e.moment e.message
 Follows-next h e legal follows =
     let passed = accepted-passes h e.submitter e.number e.moment e.message follows.accepted in
     record {
@@ -68,7 +69,7 @@ Follows-next h e legal follows =
     }
 
 -- an accepted bid is of a bidder that is enrolled under its sender
-bid_rows-known : (found : Option Announcement) (enrolled : Bool) (standing : Standing) (moment : Moment)
+pub bid_rows-known : (found : Option Announcement) (enrolled : Bool) (standing : Standing) (moment : Moment)
     (rate : Option Rate) (amount : ℕ)
     → AllByRecursion IsClear (bid_rows found enrolled standing moment rate amount)
     → enrolled ≡ true
@@ -76,7 +77,7 @@ bid_rows-known None enrolled standing moment rate amount clear = let wrong : tru
 bid_rows-known (Some a) enrolled standing moment rate amount clear = not-false enrolled clear.0
 
 -- no cancel is of a number that isn't used
-uncancelled : (h : List Entry) (s auction : List ℕ) (n : ℕ) (cancelled : List Cancel)
+pub uncancelled : (h : List Entry) (s auction : List ℕ) (n : ℕ) (cancelled : List Cancel)
     → kept h s n ≡ None
     → AllByRecursion (λ (c : Cancel). IsUsed h c.submitter c.bid) cancelled
     → is_cancelled cancelled s auction n ≡ false
@@ -99,7 +100,8 @@ shelved-announce : (h : List Entry) (a : Announcement) (old new : Shelved)
     → IsOpened a.auction old new
     → AreShelved (enrolments h) (bids h) (cancels h) new.books
 shelved-announce h a old new orderly unknown books opened auction =
-    subst (λ (now : List NamedBook). IfSome (book_in now auction) (λ book. IsPermutation (lines_in h auction) book.lines))
+    subst (λ (now : List NamedBook). IfSome (book_in now auction)
+    (λ book. IsPermutation (lines_in h auction) book.lines))
     (sym opened.books)
     (lines-opened old.books opened.named auction (lines_in h auction) (books.lines auction)
     (λ own.
@@ -205,7 +207,14 @@ shelved-message : (h : List Entry) (s : List ℕ) (n : ℕ) (moment : Moment) (m
 shelved-message h s n moment (message.Announce a) old new next books goes =
     AreNow-same h new.books (shelved-announce h a old new next.orderly next.rows.0 books goes)
 shelved-message h s n moment (message.Bid auction bidder rate amount) old new next books goes =
-    let bid : Bid = record { submitter = s; number = n; auction = auction; bidder = bidder; rate = rate; amount = amount } in
+    let bid : Bid = record {
+      submitter = s;
+      number = n;
+      auction = auction;
+      bidder = bidder;
+      rate = rate;
+      amount = amount;
+    } in
     let live : is_live (cancels h) bid ≡ true =
     rw (uncancelled h s auction n (cancels h) next.unused next.numbered.cancels_used) refl in
     rw (append-nil (enrolments h), append-nil (cancels h)) (shelved-bid h bid old.books new.books live books goes)
@@ -216,7 +225,8 @@ shelved-message h s n moment (message.Cancel auction number) old new next books 
     let out : IsOut (enrolments h) (Some found.bid) auction number old.books new.books =
     subst (λ (x : Option Bid). IsOut (enrolments h) x auction number old.books new.books) found.is goes in
     rw (append-nil (enrolments h), append-nil (bids h))
-    (shelved-cancel h s auction number found.bid old.books new.books next.orderly next.numbered found.is found.still books out)
+    (shelved-cancel h s auction number found.bid old.books new.books next.orderly next.numbered found.is found.still
+    books out)
 shelved-message h s n moment (message.Enrol bidder submitter) old new next books goes =
     rw (append-nil (bids h), append-nil (cancels h), goes)
     (shelved-enrol h ((record { bidder = bidder; submitter = submitter }) ∷ []) old.books next.orderly books)
@@ -238,7 +248,9 @@ names-message h s n (message.Cancel auction number) old new books goes =
     rw (append-nil (announcements h))
     (names-out (enrolments h) (bid_of (bids h) s auction number) auction number old.books new.books goes ∙ books.names)
   where
-    names-out : (enrolled : List Enrolment) (found : Option Bid) (auction : List ℕ) (number : ℕ) (old new : List NamedBook)
+    -- a bid that leaves its book leaves the names
+    names-out : (enrolled : List Enrolment) (found : Option Bid) (auction : List ℕ) (number : ℕ)
+        (old new : List NamedBook)
         → IsOut enrolled found auction number old new → names_in new ≡ names_in old
     names-out enrolled None auction number old new out = ap names_in out
     names-out enrolled (Some bid) auction number old new out = out.names
@@ -256,7 +268,8 @@ AreBooks-push h e old new legal follows books goes =
       names = names-message h e.submitter e.number e.message old new books goes.books
           ∙ ap (map (λ (a : Announcement). a.auction)) (sym (announcements-snoc h e));
       lines = rw (enrolments-snoc h e, bids-snoc h e, cancels-snoc h e)
-          (shelved-message h e.submitter e.number e.moment e.message old new (Follows-next h e legal follows) books goes.books);
+          (shelved-message h e.submitter e.number e.moment e.message old new (Follows-next h e legal follows)
+          books goes.books);
     }
 
 -- in the empty history there is no book
@@ -288,6 +301,35 @@ takes-line : (line : BookLine) (lines : List BookLine) (found : Option Bids)
 takes-line line lines None has room step = tt
 takes-line line lines (Some book) has room step = step book has (leb-true 1 book.spare room)
 
+-- a bid under a number that isn't used has another line than each that stands in the book of its auction
+pub apart-lines : (h : List Entry) (bid : Bid) (lines : List BookLine)
+    → IsOrderly h
+    → AreNumbered h
+    → kept h bid.submitter bid.number ≡ None
+    → is_enrolled h bid.bidder bid.submitter ≡ true
+    → IsPermutation (lines_in h bid.auction) lines
+    → All (IsOther (place_of (enrolments h) bid.bidder) bid.number) lines
+apart-lines h bid lines orderly numbered none enrolled has =
+    let line_of = book_line_of (enrolments h) in
+    let live = live_bids_in (bids h) (cancels h) bid.auction in
+    let Apart : BookLine → Type 0 = IsOther (place_of (enrolments h) bid.bidder) bid.number in
+    let fails : AllByRecursion (λ (b : Bid). is_bid bid.submitter bid.number b ≡ false) (bids h) =
+    none-of h bid.submitter bid.number (bids h) none numbered.bids_used in
+    let both : AllByRecursion (λ (b : Bid). Apart (line_of b)) live =
+    All-live (λ b. Apart (line_of b)) (bids h) (cancels h) bid.auction (joined (bids h) orderly.bidders fails) in
+    All-permutation Apart (lines_in h bid.auction) lines has
+    (All-map Apart line_of live (All-from (λ b. Apart (line_of b)) live both))
+  where
+    -- each of the bids has another line, where it is placed and isn't the one under the number
+    joined : (all : List Bid)
+        → AllByRecursion (IsPlaced h) all
+        → AllByRecursion (λ (b : Bid). is_bid bid.submitter bid.number b ≡ false) all
+        → AllByRecursion (λ (b : Bid). IsOther (place_of (enrolments h) bid.bidder) bid.number
+        (book_line_of (enrolments h) b)) all
+    joined [] placed apart = tt
+    joined (b ∷ all) placed apart =
+        (other-line h bid.submitter bid.number bid.bidder b enrolled placed.0 apart.0, joined all placed.1 apart.1)
+
 -- the books can take an accepted bid that has a place
 takes-bid : (h : List Entry) (bid : Bid) (books : List NamedBook)
     → IsOrderly h
@@ -299,32 +341,17 @@ takes-bid : (h : List Entry) (bid : Bid) (books : List NamedBook)
     → option_map_or (λ (book : Bids). nat_le 1 book.spare) (book_in books bid.auction) true ≡ true
     → IfSome (book_in books bid.auction) (TakesLine (book_line_of (enrolments h) bid))
 takes-bid h bid books orderly numbered none enrolled few are room =
-    let line_of = book_line_of (enrolments h) in
     let amount : Bid → ℕ = λ b. b.amount.value in
-    let live = live_bids_in (bids h) (cancels h) bid.auction in
-    let Apart : BookLine → Type 0 = IsOther (place_of (enrolments h) bid.bidder) bid.number in
-    let fails : AllByRecursion (λ (b : Bid). is_bid bid.submitter bid.number b ≡ false) (bids h) =
-    none-of h bid.submitter bid.number (bids h) none numbered.bids_used in
-    let both : AllByRecursion (λ (b : Bid). Apart (line_of b)) live =
-    All-live (λ b. Apart (line_of b)) (bids h) (cancels h) bid.auction (joined (bids h) orderly.bidders fails) in
     let sum : par_of (bids h ++ bid ∷ []) ≡ par_of (bids h) + amount bid =
     sum_by-append amount (bids h) (bid ∷ []) ∙ omega (arith, sum_by-cons amount bid []) in
-    takes-line (line_of bid) (lines_in h bid.auction) (book_in books bid.auction) (are.lines bid.auction) room
+    takes-line (book_line_of (enrolments h) bid) (lines_in h bid.auction) (book_in books bid.auction)
+    (are.lines bid.auction) room
     (λ book has spare. record {
       room = omega (arith, spare);
       new = HasBid-none (place_of (enrolments h) bid.bidder) bid.number book.lines
-          (All-permutation Apart (lines_in h bid.auction) book.lines has
-          (All-map Apart line_of live (All-from (λ b. Apart (line_of b)) live both)));
+          (apart-lines h bid book.lines orderly numbered none enrolled has);
       fits = omega (arith, par-within h bid.auction book.lines has, sum, few);
     })
-  where
-    joined : (all : List Bid)
-        → AllByRecursion (IsPlaced h) all
-        → AllByRecursion (λ (b : Bid). is_bid bid.submitter bid.number b ≡ false) all
-        → AllByRecursion (λ (b : Bid). IsOther (place_of (enrolments h) bid.bidder) bid.number (book_line_of (enrolments h) b)) all
-    joined [] placed apart = tt
-    joined (b ∷ all) placed apart =
-        (other-line h bid.submitter bid.number bid.bidder b enrolled placed.0 apart.0, joined all placed.1 apart.1)
 
 -- what room the shelf has for the next message
 pub record HasNextRoom (m : Message) (shelf : Shelved) : Type 0 where
@@ -340,7 +367,14 @@ pub takes-message : (h : List Entry) (s : List ℕ) (n : ℕ) (moment : Moment) 
     → TakesMessage (enrolments h) s n m shelf
 takes-message h s n moment (message.Announce a) shelf next few books room = room.ready refl
 takes-message h s n moment (message.Bid auction bidder rate amount) shelf next few books room =
-    let bid : Bid = record { submitter = s; number = n; auction = auction; bidder = bidder; rate = rate; amount = amount } in
+    let bid : Bid = record {
+      submitter = s;
+      number = n;
+      auction = auction;
+      bidder = bidder;
+      rate = rate;
+      amount = amount;
+    } in
     let enrolled : is_enrolled h bidder s ≡ true =
     bid_rows-known (announcement_of (announcements h) auction) (is_enrolled h bidder s)
     (standing_of (bids h) (cancels h) (reports h) auction bidder) moment rate amount.value next.rows in

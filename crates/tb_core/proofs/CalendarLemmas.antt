@@ -84,12 +84,15 @@ pub among_there : (days : List Day) (place : ℕ) (day d : Day) (number : ℕ)
 among_there days place day d number within same =
     elim (cases_Bool (day.number == number)) [
       | inl is ↦
-          let there : is_among days number ≡ true = among_at days place d number within (same ∙ eqb-true day.number number is) in
+          let there : is_among days number ≡ true =
+          among_at days place d number within (same ∙ eqb-true day.number number is) in
           rw there refl
       | inr isnt ↦ rw isnt (sym (or_false (is_among days number)))
     ]
   where
-    among_at : (xs : List Day) (k : ℕ) (d : Day) (n : ℕ) → k < length xs → (get_or xs k d).number ≡ n → is_among xs n ≡ true
+    -- what stands at a place is among them
+    among_at : (xs : List Day) (k : ℕ) (d : Day) (n : ℕ) → k < length xs → (get_or xs k d).number ≡ n
+        → is_among xs n ≡ true
     among_at [] k d n short is = absurd (omega (arith, short))
     among_at (x ∷ xs) zero d n short is = or_left (x.number == n) (is_among xs n) (eq-eqb x.number n is)
     among_at (x ∷ xs) (suc k) d n short is =
@@ -104,6 +107,7 @@ pub order_insert : (days : List Day) (place : ℕ) (day : Day)
 order_insert days place day order at new =
     AllPairs-insert (λ (one other : Day). one.number < other.number) days place day at.within order before behind
   where
+    -- the days before the place are before the day
     before : (k : ℕ) (d : Day) → 0 ≤ k → k < place → (get_or days k d).number < day.number
     before k d from below =
         let read : get_or (take place days) k d ≡ get_or days k d = get_or-take place days k d below in
@@ -111,10 +115,12 @@ order_insert days place day order at new =
         (subst (λ (x : Day). nat_lt x.number day.number ≡ true) read
         (at.passed k d (omega (arith, below, at.within, length-take place days))))
 
+    -- the one at the place is behind it
     here : (d : Day) → place < length days → day.number < (get_or days place d).number
     here d within =
         omega (arith, ltb-false (get_or days place d).number day.number (at.stops d within), new d within)
 
+    -- and so are those behind the place
     behind : (k : ℕ) (d : Day) → place ≤ k → k < length days → day.number < (get_or days k d).number
     behind k d from within =
         elim (cases_lt place k) [
@@ -145,7 +151,8 @@ parted days day order = λ i j d within short earlier.
     elim (cases_eq i j) [
       | inl at ↦ rw at earlier
       | inr apart ↦
-          let before : (get_or days i d).number < (get_or days j d).number = order i j d (omega (arith, within, apart)) short in
+          let before : (get_or days i d).number < (get_or days j d).number =
+          order i j d (omega (arith, within, apart)) short in
           lt-ltb (get_or days i d).number day.number
           (omega (arith, before, ltb-true (get_or days j d).number day.number earlier))
     ]

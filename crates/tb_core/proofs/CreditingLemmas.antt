@@ -9,7 +9,6 @@ use Rattle.tb_movements.specs.Credits.{CreditsBook}
 use Rattle.tb_history.specs.declared.roster.Registration.{Registration}
 use Rattle.tb_history.specs.declared.roster.Enrolment.{Enrolment}
 use Rattle.tb_history.specs.Awarded.{Bidding, awarded}
-use Rattle.tb_history.specs.Readings.{bidder_at}
 use Rattle.tb_core.specs.Crediting.{credit_for, credits_for}
 
 -- the credits so far, and one more
@@ -55,14 +54,3 @@ next_fits submitters bidding bidders place e security par first now short is awa
       award,
       limit,
     )
-
--- the award of the bidder of a place
-pub award_named : (bidding : Bidding) (bidders : List Enrolment) (place : ℕ) (e : Enrolment) (par : ℕ)
-    → bidding.enrolled ≡ bidders
-    → e ≡ get_or bidders place e
-    → par ≡ awarded bidding (bidder_at bidding.enrolled place e)
-    → par ≡ awarded bidding e.bidder
-award_named bidding bidders place e par same is award =
-    award
-    ∙ (ap (λ (es : List Enrolment). awarded bidding (get_or es place e).bidder) same
-    ∙ ap (λ (x : Enrolment). awarded bidding x.bidder) (sym is))

@@ -53,6 +53,7 @@ IsTaken-kept old kept new keeps taken = record {
     lines = λ some. omega (arith, keeps.lasts, keeps.lines, has.lines (omega (arith, some, keeps.lasts)));
     bidders_too = λ some. omega (arith, keeps.lasts, keeps.bidders, has.bidders_too (omega (arith, some, keeps.lasts)));
     positions = λ some. omega (arith, keeps.lasts, keeps.positions, has.positions (omega (arith, some, keeps.lasts)));
+    awards = λ some. omega (arith, keeps.lasts, keeps.awards, has.awards (omega (arith, some, keeps.lasts)));
   });
 }
 
@@ -91,9 +92,9 @@ accounts_left room before after old new more has left =
     omega (arith, step, has, left)
 
 -- a message enrols a bidder at most
-one_bidder : (m : Message) → length (enrolled_by m) ≤ 1
-one_bidder (message.Enrol bidder submitter) = omega arith
-one_bidder other = omega arith
+pub one-bidder : (m : Message) → length (enrolled_by m) ≤ 1
+one-bidder (message.Enrol bidder submitter) = omega arith
+one-bidder other = omega arith
 
 -- so there is room for one message fewer
 pub HasRoom-left : (s : List ℕ) (n : ℕ) (m : Message) (old kept new : Tables)
@@ -106,7 +107,12 @@ pub HasRoom-left : (s : List ℕ) (n : ℕ) (m : Message) (old kept new : Tables
 HasRoom-left s n m old kept new keeps entered accounts takes rows room has =
     let all : HasEntered s n m old new = HasEntered-kept s n m old kept new keeps entered in
     let more : length new.bidders.list ≤ length old.bidders.list + 1 =
-    omega (arith, ap (λ (es : List Enrolment). length es) all.bidders, length-append old.bidders.list (enrolled_by m), one_bidder m) in
+    omega (
+      arith,
+      ap (λ (es : List Enrolment). length es) all.bidders,
+      length-append old.bidders.list (enrolled_by m),
+      one-bidder m,
+    ) in
     record {
       rows = rows room (HasRows-kept (room + 1) old kept keeps has.rows);
       accounts = subst (λ (book : Book). HasAccountRoom room (length new.bidders.list) book) (sym accounts) (record {

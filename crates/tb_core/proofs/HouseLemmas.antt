@@ -21,13 +21,14 @@ use Rattle.tb_history.specs.declared.bids.Bid.{Bid}
 use Rattle.tb_history.specs.Roster.{enrolments}
 use Rattle.tb_history.specs.LiveBids.{par_of}
 use Rattle.tb_history.proofs.GrowthLemmas.{bids-snoc}
-use Rattle.tb_core.specs.Rooms.{Fits, HasRoomAhead, KeepsRoom, TakesRoom, announces, behind, has_place}
+use Rattle.tb_core.specs.Rooms.{Fits, HasRoomAhead, KeepsRoom, TakesRoom, announces, behind_all, has_place}
 use Rattle.tb_core.specs.Shelving.{TakesMessage}
+use Rattle.tb_core.proofs.EnterLemmas.{one-bidder}
 use Rattle.tb_core.proofs.BookLemmas.{Follows-next, HasNextRoom, takes-message}
 use Rattle.tb_core.proofs.KeptLemmas.{IsKeptShelf-both, KeepsRoom-kept}
 use Rattle.tb_core.proofs.NumberLemmas.{IsLegal-bidders}
 use Rattle.tb_history.proofs.ParLemmas.{IsLegal-par}
-use Rattle.tb_core.proofs.RoomLemmas.{TakesRoom-by, behind_length}
+use Rattle.tb_core.proofs.RoomLemmas.{TakesRoom-by, length-behind}
 
 -- so it is in accounts
 room_max : (one other bidders spare : ℕ)
@@ -45,7 +46,8 @@ room_max one other bidders spare first second =
     ]
 
 -- room for one number and for another is room for the greater
-HasRows-max : (one other : ℕ) (tables : Tables) → HasRows one tables → HasRows other tables → HasRows (max one other) tables
+HasRows-max : (one other : ℕ) (tables : Tables) → HasRows one tables → HasRows other tables
+    → HasRows (max one other) tables
 HasRows-max one other tables first second = record {
   submitters = omega (arith, first.submitters, second.submitters);
   bidders = omega (arith, first.bidders, second.bidders);
@@ -62,7 +64,8 @@ HasRows-max one other tables first second = record {
 }
 
 -- and so it is everywhere
-HasRoom-max : (one other : ℕ) (tables : Tables) → HasRoom one tables → HasRoom other tables → HasRoom (max one other) tables
+HasRoom-max : (one other : ℕ) (tables : Tables) → HasRoom one tables → HasRoom other tables
+    → HasRoom (max one other) tables
 HasRoom-max one other tables first second = record {
   rows = HasRows-max one other tables first.rows second.rows;
   accounts = record {
@@ -106,7 +109,7 @@ house_more old new before after more list spare sure same keeps roomy scratch ro
 }
 
 -- room for bids and bidders is room for fewer
-HasScratch-less : (bids bidders fewer less : ℕ) (scratch : Scratch)
+pub HasScratch-less : (bids bidders fewer less : ℕ) (scratch : Scratch)
     → fewer ≤ bids
     → less ≤ bidders
     → HasScratch bids bidders scratch
@@ -115,17 +118,13 @@ HasScratch-less bids bidders fewer less scratch few small has = record {
   lines = λ some. omega (arith, few, has.lines some);
   bidders_too = λ some. omega (arith, small, has.bidders_too some);
   positions = λ some. omega (arith, small, has.positions some);
+  awards = λ some. omega (arith, small, has.awards some);
 }
 
 -- a message bids once at most
 one-bid : (s : List ℕ) (n : ℕ) (m : Message) → length (bid_by s n m) ≤ 1
 one-bid s n (message.Bid auction bidder rate amount) = omega arith
 one-bid s n other = omega arith
-
--- and enrols one bidder at most
-one-bidder : (m : Message) → length (enrolled_by m) ≤ 1
-one-bidder (message.Enrol bidder submitter) = omega arith
-one-bidder other = omega arith
 
 -- so a settlement finds its room for one message fewer
 scratch_push : (before after : Tables) (s : List ℕ) (n : ℕ) (m : Message)
@@ -138,7 +137,8 @@ scratch_push before after s n m entered has =
     let bidders : length after.bidders.list ≡ length before.bidders.list + length (enrolled_by m) =
     ap length entered.bidders ∙ length-append before.bidders.list (enrolled_by m) in
     HasScratch-less (length before.bids.list + 1) (length before.bidders.list + 1) (length after.bids.list)
-    (length after.bidders.list) after.scratch (omega (arith, bids, one-bid s n m)) (omega (arith, bidders, one-bidder m))
+    (length after.bidders.list) after.scratch (omega (arith, bids, one-bid s n m))
+    (omega (arith, bidders, one-bidder m))
     (entered.scratch.has (length before.bids.list) (length before.bidders.list) has)
 
 -- with an accepted entry it has room for one fewer
@@ -203,10 +203,13 @@ pub takes-entry : (h : List Entry) (tables : Tables) (room : ℕ) (e : Entry)
 takes-entry h tables room e tied follows fits =
     subst (λ (es : List Enrolment). TakesMessage es e.submitter e.number e.message tables.shelf) (sym tied.bidders_are)
     (takes-message h e.submitter e.number e.moment e.message tables.shelf (Follows-next h e tied.legal follows)
-    (subst (λ (bs : List Bid). par_of bs ≤ most_par) (bids-snoc h e) (IsLegal-par (h ++ e ∷ []) (Longer h e tied.legal follows)))
+    (subst (λ (bs : List Bid). par_of bs ≤ most_par) (bids-snoc h e)
+    (IsLegal-par (h ++ e ∷ []) (Longer h e tied.legal follows)))
     tied.books_are (next-room e.message room tables fits))
   where
-    next-room : (m : Message) (room : ℕ) (tables : Tables) → Fits (room_of room tables) (m ∷ []) → HasNextRoom m tables.shelf
+    -- room for a message alone is what the shelf needs for it
+    next-room : (m : Message) (room : ℕ) (tables : Tables) → Fits (room_of room tables) (m ∷ [])
+        → HasNextRoom m tables.shelf
     next-room m room tables fits =
         let place = and_parts (has_place tables.shelf.books 1 m) true fits.ahead.places in
         record {
@@ -238,8 +241,9 @@ takes-room h old new before after s n m roomy entered less =
     })
 
 -- with room for as many rows as there are messages, and for what they need ahead, they fit
-pub fits_more : (room : ℕ) (tables : Tables) (ahead : List Entry) (m : Message)
-    → length ahead + 1 ≤ room
-    → HasRoomAhead tables.shelf tables.scratch.lasts (behind ahead m)
-    → Fits (room_of room tables) (behind ahead m)
-fits_more room tables ahead m rows has = record { rows = omega (arith, rows, behind_length ahead m); ahead = has }
+pub fits_more : (room : ℕ) (tables : Tables) (ahead : List Entry) (messages : List (ℕ × Message))
+    → length ahead + length messages ≤ room
+    → HasRoomAhead tables.shelf tables.scratch.lasts (behind_all ahead messages)
+    → Fits (room_of room tables) (behind_all ahead messages)
+fits_more room tables ahead messages rows has =
+    record { rows = omega (arith, rows, length-behind ahead messages); ahead = has }

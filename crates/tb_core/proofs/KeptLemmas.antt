@@ -22,7 +22,8 @@ goes-same None = tt
 goes-same (Some book) = record { lines = refl; room = omega arith }
 
 -- and what keeps its lines twice has kept them
-goes-both : (one two three : Option Bids) → Goes IsKeptBook one two → Goes IsKeptBook two three → Goes IsKeptBook one three
+goes-both : (one two three : Option Bids) → Goes IsKeptBook one two → Goes IsKeptBook two three
+    → Goes IsKeptBook one three
 goes-both None None three first second = second
 goes-both None (Some two) three first second = absurd first
 goes-both (Some one) None three first second = absurd first
@@ -37,7 +38,8 @@ goes-kept : (auction : List ℕ) (old new : List NamedBook)
 goes-kept auction old new changed other =
     elim (cases_Bool (is_same auction other)) [
       | inl is ↦
-          subst (λ (name : List ℕ). Goes IsKeptBook (book_in old name) (book_in new name)) (is_same-equal auction other is)
+          subst (λ (name : List ℕ). Goes IsKeptBook (book_in old name) (book_in new name))
+          (is_same-equal auction other is)
           changed.changed
       | inr isnt ↦
           subst (λ (found : Option Bids). Goes IsKeptBook (book_in old other) found) (sym (changed.others other isnt))
@@ -105,7 +107,8 @@ lines-kept (Some before) (Some after) lines goes has =
     subst (λ (now : List BookLine). IsPermutation lines now) (sym goes.lines) has
 
 -- so the books are still those of the history
-pub AreBooks-kept : (h : List Entry) (old new : Shelved) → AreBooks h old.books → IsKeptShelf old new → AreBooks h new.books
+pub AreBooks-kept : (h : List Entry) (old new : Shelved) → AreBooks h old.books → IsKeptShelf old new
+    → AreBooks h new.books
 AreBooks-kept h old new books kept =
     record {
       names = kept.names ∙ books.names;
@@ -152,7 +155,8 @@ KeepsRoom-kept old new rows kept settling messages fits =
       rows = omega (arith, fits.rows, rows);
       ahead = record {
         ready = omega (arith, fits.ahead.ready, kept.ready);
-        places = list_all-weaker (has_place old.shelf.books (length messages)) (has_place new.shelf.books (length messages))
+        places = list_all-weaker (has_place old.shelf.books (length messages))
+            (has_place new.shelf.books (length messages))
             messages (λ m has. has_place-kept old.shelf new.shelf (length messages) m kept has) fits.ahead.places;
         settling = λ settles. omega (arith, fits.ahead.settling settles, settling);
       };

@@ -1,3 +1,4 @@
+pub mod EqualLemmas
 pub mod FindLemmas
 pub mod StandingLemmas
 pub mod AccountLemmas
@@ -9,6 +10,7 @@ pub mod ReadyLemmas
 pub mod ParRowLemmas
 pub mod ShownLemmas
 pub mod HouseLemmas
+pub mod TakenBackLemmas
 pub mod EnterLemmas
 pub mod KeptLemmas
 pub mod RoomLemmas

@@ -35,7 +35,8 @@ position-append test (x ∷ xs) ys found =
     ]
 
 -- a bidder that is under somebody is enrolled
-pub under-some : (submitter : List ℕ) (found : Option Enrolment) → is_under submitter found ≡ true → is_some found ≡ true
+pub under-some : (submitter : List ℕ) (found : Option Enrolment) → is_under submitter found ≡ true
+    → is_some found ≡ true
 under-some submitter None under = absurd cc
 under-some submitter (Some e) under = refl
 
@@ -173,8 +174,10 @@ meant-other s name n auction bid apart own =
     let theirs : is_same bid.auction name ≡ false =
     subst (λ (x : List ℕ). is_same x name ≡ false) (sym (is_same-equal bid.auction auction own))
     (flipped auction name ∙ apart) in
-    ap (λ b. not (is_same bid.submitter s && b && (bid.number == n))) theirs ∙ never (is_same bid.submitter s) (bid.number == n)
+    ap (λ b. not (is_same bid.submitter s && b && (bid.number == n))) theirs
+    ∙ never (is_same bid.submitter s) (bid.number == n)
   where
+    -- a test with a part that fails fails
     never : (a b : Bool) → not (a && false && b) ≡ true
     never true b = refl
     never false b = refl
@@ -190,7 +193,8 @@ live-cancel_other all cancelled c auction apart =
     ∙ filter_all (λ (b : Bid). not (is_meant c.submitter c.auction c.bid b)) (live_bids_in all cancelled auction)
     (All-filter (is_live cancelled) P (filter own all)
     (λ k d within.
-    meant-other c.submitter c.auction c.bid auction (get_or (filter own all) k d) apart (filter_passes own all k d within)))
+    meant-other c.submitter c.auction c.bid auction (get_or (filter own all) k d) apart
+    (filter_passes own all k d within)))
 
 -- all pass where none fails
 all-but : {X : Type 0} (test : X → Bool) (xs : List X)

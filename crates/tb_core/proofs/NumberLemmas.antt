@@ -139,9 +139,11 @@ cancelled_by-used h s moment (message.Cancel auction n) used clear =
     (is_cancelled (cancels h) s auction n) moment clear in
     let test : Bid → Bool = λ (b : Bid). is_same b.submitter s && is_same b.auction auction && (b.number == n) in
     let passes : test found.bid ≡ true = find_passes test (bids h) found.bid found.is in
-    let both = and_parts (is_same found.bid.submitter s && is_same found.bid.auction auction) (found.bid.number == n) passes in
+    let both = and_parts (is_same found.bid.submitter s && is_same found.bid.auction auction)
+    (found.bid.number == n) passes in
     let names = and_parts (is_same found.bid.submitter s) (is_same found.bid.auction auction) both.0 in
-    let own : is_bid s n found.bid ≡ true = and_from (is_same found.bid.submitter s) (found.bid.number == n) names.0 both.1 in (
+    let own : is_bid s n found.bid ≡ true =
+    and_from (is_same found.bid.submitter s) (found.bid.number == n) names.0 both.1 in (
       is_bid-used h s n found.bid own
           (found-in (λ (b : Bid). IsUsed h b.submitter b.number) test (bids h) found.bid used found.is),
       tt,
@@ -194,11 +196,13 @@ AreNumbered-push h e legal numbered follows =
       bids_used = rw (bids-snoc h e)
           (AllByRecursion-append (λ (b : Bid). IsUsed now b.submitter b.number) (bids h)
           (bid_by e.submitter e.number e.message)
-          (AllByRecursion-weaker (λ (b : Bid). IsUsed h b.submitter b.number) (λ (b : Bid). IsUsed now b.submitter b.number)
+          (AllByRecursion-weaker (λ (b : Bid). IsUsed h b.submitter b.number)
+          (λ (b : Bid). IsUsed now b.submitter b.number)
           (λ b used. IsUsed-snoc h e b.submitter b.number used) (bids h) numbered.bids_used)
           (bid_by-used now e.submitter e.number e.message (IsUsed-last h e passed.unused)));
       cancels_used = rw (cancels-snoc h e)
-          (AllByRecursion-weaker (λ (c : Cancel). IsUsed h c.submitter c.bid) (λ (c : Cancel). IsUsed now c.submitter c.bid)
+          (AllByRecursion-weaker (λ (c : Cancel). IsUsed h c.submitter c.bid)
+          (λ (c : Cancel). IsUsed now c.submitter c.bid)
           (λ c used. IsUsed-snoc h e c.submitter c.bid used) (cancels h ++ cancelled_by e.submitter e.message)
           (AllByRecursion-append (λ (c : Cancel). IsUsed h c.submitter c.bid) (cancels h)
           (cancelled_by e.submitter e.message) numbered.cancels_used

@@ -49,8 +49,10 @@ use Rattle.tb_core.specs.House.{AreTied}
 use Rattle.tb_core.proofs.TiedLemmas.{numbers-tied}
 
 -- the movements of a legal history tell its holdings
-pub told_places : (h : List Entry) → IsLegal h → AreTold (numbers_of h) (participants_of (numbers_of h) (registrations h)) h
-told_places h legal = IsLegal-told (numbers_of h) (participants_of (numbers_of h) (registrations h)) h legal (places-numbered h)
+pub told_places : (h : List Entry) → IsLegal h
+    → AreTold (numbers_of h) (participants_of (numbers_of h) (registrations h)) h
+told_places h legal =
+    IsLegal-told (numbers_of h) (participants_of (numbers_of h) (registrations h)) h legal (places-numbered h)
 
 -- what is free in the book is what the history says
 pub free_tied : (h : List Entry) (tables : Tables)
@@ -65,13 +67,17 @@ free_tied h tables tied name cusip known bill =
     let numbers : Numbering = numbers_of h in
     let participants : List ℕ = participants_of numbers (registrations h) in
     let are : AreNumbered numbers participants h = places-numbered h in
-    let figures : HasFigures (moved_in h) tables.accounts = HasFigures-told (moved_in h) tables.accounts tied.accounts_tell in
-    ap (λ (n : Numbering). book_free (n.holder name) (n.security cusip.bytes) tables.accounts) (numbers-tied h tables tied)
+    let figures : HasFigures (moved_in h) tables.accounts =
+    HasFigures-told (moved_in h) tables.accounts tied.accounts_tell in
+    ap (λ (n : Numbering). book_free (n.holder name) (n.security cusip.bytes) tables.accounts)
+    (numbers-tied h tables tied)
     ∙ (figures.frees (numbers.holder name) (numbers.security cusip.bytes)
-    ∙ free-told numbers participants h name cusip (told_places h tied.legal) (are.names name known) (are.bills cusip.bytes bill))
+    ∙ free-told numbers participants h name cusip (told_places h tied.legal) (are.names name known)
+    (are.bills cusip.bytes bill))
 
 -- what the look-ups of a transfer or a pledge give
-pub record HasFound (tables : Tables) (sender to : List ℕ) (cusip : Cusip) (found : Option Terms) (known own redeemed : Bool)
+pub record HasFound (tables : Tables) (sender to : List ℕ) (cusip : Cusip) (found : Option Terms)
+    (known own redeemed : Bool)
     (free : Dollars) : Type 0 where
   pub terms : announcement_in found ≡ bill_of (announced_in tables.auctions.list) cusip
   pub receiver : known ≡ is_registered tables.submitters.list to
@@ -91,14 +97,25 @@ pub tied_transfer : (h : List Entry) (tables : Tables)
     → transfer_rows (announcement_in found) known own redeemed free.value moment amount
     ≡ par_rows h sender moment cusip to amount
 tied_transfer h tables tied sender moment cusip to amount registered found known own redeemed free looked =
-    rw (looked.terms, looked.receiver, looked.self, looked.bill, tied.auctions_are, tied.submitters_are, tied.redeemed_are)
+    rw (
+      looked.terms,
+      looked.receiver,
+      looked.self,
+      looked.bill,
+      tied.auctions_are,
+      tied.submitters_are,
+      tied.redeemed_are,
+    )
     (by_bill (bill_of (announcements h) cusip) refl)
   where
+    -- whether the bill is announced or not
     by_bill : (bill : Option Announcement)
         → bill_of (announcements h) cusip ≡ bill
-        → transfer_rows bill (is_registered (registrations h) to) (is_same to sender) (is_redeemed (redemptions h) cusip)
+        → transfer_rows bill (is_registered (registrations h) to) (is_same to sender)
+        (is_redeemed (redemptions h) cusip)
         free.value moment amount
-        ≡ transfer_rows bill (is_registered (registrations h) to) (is_same to sender) (is_redeemed (redemptions h) cusip)
+        ≡ transfer_rows bill (is_registered (registrations h) to) (is_same to sender)
+        (is_redeemed (redemptions h) cusip)
         (free_of h sender cusip) moment amount
     by_bill None is = refl
     by_bill (Some a) is =
@@ -115,7 +132,8 @@ pub opens_tied : (h : List Entry) (tables : Tables)
     ≡ open_marks h name
 opens_tied h tables tied name =
     let numbers : Numbering = numbers_of h in
-    let figures : HasFigures (moved_in h) tables.accounts = HasFigures-told (moved_in h) tables.accounts tied.accounts_tell in
+    let figures : HasFigures (moved_in h) tables.accounts =
+    HasFigures-told (moved_in h) tables.accounts tied.accounts_tell in
     ap (λ (n : Numbering). open_marks_of (n.holder name) tables.accounts) (numbers-tied h tables tied)
     ∙ (figures.opens (numbers.holder name)
     ∙ opens-told numbers (participants_of numbers (registrations h)) h name (told_places h tied.legal))
@@ -125,7 +143,8 @@ kept_tied : (h : List Entry) (tables : Tables)
     → AreTied h tables
     → (holder : List ℕ) (number : ℕ)
     → kept_mark_of ((numbers_in tables.submitters.list tables.auctions.list).holder holder) number tables.accounts
-    ≡ option_map (as_kept (moved_in h)) (option_map {U = pledges.Mark} (as_moved (numbers_of h)) (mark_of h holder number))
+    ≡ option_map (as_kept (moved_in h))
+    (option_map {U = pledges.Mark} (as_moved (numbers_of h)) (mark_of h holder number))
 kept_tied h tables tied holder number =
     let numbers : Numbering = numbers_of h in
     ap (λ (n : Numbering). kept_mark_of (n.holder holder) number tables.accounts) (numbers-tied h tables tied)
@@ -134,11 +153,13 @@ kept_tied h tables tied holder number =
     (mark-told numbers (participants_of numbers (registrations h)) h holder number (told_places h tied.legal)))
 
 -- the rows of a mark that is found
-tied_mark : (h : List Entry) (sender : List ℕ) (amount : ℕ) (found : Option FoundMark) (kept : Option KeptMark) (mark : Option Mark)
+tied_mark : (h : List Entry) (sender : List ℕ) (amount : ℕ) (found : Option FoundMark) (kept : Option KeptMark)
+    (mark : Option Mark)
     → IsLegal h
     → is_registered (registrations h) sender ≡ true
     → IsNone found ↔ (kept ≡ None)
-    → IfSome found (λ (m : FoundMark). (holder number : ℕ) × (kept ≡ Some (new_mark holder number m.pledgee m.security m.left.value)))
+    → IfSome found (λ (m : FoundMark). (holder number : ℕ)
+    × (kept ≡ Some (new_mark holder number m.pledgee m.security m.left.value)))
     → kept ≡ option_map (as_kept (moved_in h)) (option_map {U = pledges.Mark} (as_moved (numbers_of h)) mark)
     → ((m : Mark) → mark ≡ Some m → pledges.left_of (moved_in h) (as_moved (numbers_of h) m) ≡ left_of h m)
     → kept_rows found ((numbers_of h).holder sender) amount ≡ mark_rows mark (left_in h mark) sender amount
@@ -150,9 +171,11 @@ tied_mark h sender amount (Some f) kept None legal registered none some is left 
 tied_mark h sender amount (Some f) kept (Some m) legal registered none some is left =
     let numbers : Numbering = numbers_of h in
     let are : AreNumbered numbers (participants_of numbers (registrations h)) h = places-numbered h in
-    let there : Some (as_kept (moved_in h) (as_moved numbers m)) ≡ Some (new_mark some.0 some.1 f.pledgee f.security f.left.value) =
+    let there : Some (as_kept (moved_in h) (as_moved numbers m))
+    ≡ Some (new_mark some.0 some.1 f.pledgee f.security f.left.value) =
     sym is ∙ some.2 in
-    let kept_as : as_kept (moved_in h) (as_moved numbers m) ≡ new_mark some.0 some.1 f.pledgee f.security f.left.value = cc in
+    let kept_as : as_kept (moved_in h) (as_moved numbers m) ≡ new_mark some.0 some.1 f.pledgee f.security f.left.value =
+    cc in
     let pledgee : numbers.holder m.pledgee ≡ f.pledgee = ap (λ (k : KeptMark). k.pledgee) kept_as in
     let left_is : left_of h m ≡ f.left.value = sym (left m refl) ∙ ap (λ (k : KeptMark). k.left) kept_as in
     let theirs : (numbers.holder sender == f.pledgee) ≡ is_same m.pledgee sender =
@@ -169,10 +192,12 @@ pub tied_release : (h : List Entry) (tables : Tables)
     → is_registered (registrations h) sender ≡ true
     → (found : Option FoundMark)
     → IsNone found
-    ↔ (kept_mark_of ((numbers_in tables.submitters.list tables.auctions.list).holder holder) number tables.accounts ≡ None)
+    ↔ (kept_mark_of ((numbers_in tables.submitters.list tables.auctions.list).holder holder) number tables.accounts
+    ≡ None)
     → IfSome found (λ (m : FoundMark).
     kept_mark_of ((numbers_in tables.submitters.list tables.auctions.list).holder holder) number tables.accounts
-    ≡ Some (new_mark ((numbers_in tables.submitters.list tables.auctions.list).holder holder) number m.pledgee m.security m.left.value))
+    ≡ Some (new_mark ((numbers_in tables.submitters.list tables.auctions.list).holder holder)
+    number m.pledgee m.security m.left.value))
     → kept_release_rows found ((numbers_in tables.submitters.list tables.auctions.list).holder sender) amount
     ≡ release_rows (mark_of h holder number) (left_in h (mark_of h holder number)) sender amount
 tied_release h tables tied sender holder number amount registered found none some =
@@ -190,10 +215,12 @@ tied_release h tables tied sender holder number amount registered found none som
     registered none (named found some) (kept_tied h tables tied holder number) left in
     rw caller (ap (λ (rs : List Row). (refusal.NotMultiple, is_no_par amount) ∷ rs) rows)
   where
+    -- the holder's number and the pledge's are the two numbers
     named : (f : Option FoundMark)
         → IfSome f (λ (m : FoundMark).
         kept_mark_of ((numbers_in tables.submitters.list tables.auctions.list).holder holder) number tables.accounts
-        ≡ Some (new_mark ((numbers_in tables.submitters.list tables.auctions.list).holder holder) number m.pledgee m.security m.left.value))
+        ≡ Some (new_mark ((numbers_in tables.submitters.list tables.auctions.list).holder holder)
+        number m.pledgee m.security m.left.value))
         → IfSome f (λ (m : FoundMark). (one under : ℕ)
         × (kept_mark_of ((numbers_in tables.submitters.list tables.auctions.list).holder holder) number tables.accounts
         ≡ Some (new_mark one under m.pledgee m.security m.left.value)))

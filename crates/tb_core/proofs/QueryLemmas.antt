@@ -44,13 +44,15 @@ pub passed-announced : (h : List Entry) (caller auction : List ℕ) (q : Query) 
 passed-announced h caller auction q shows asks passed =
     auction_rows-announced (announcement_of (announcements h) auction) shows (is_published h auction)
     (ap refusal_in (sym asks)
-    ∙ behind-passed (refusal.UnknownKey, not (is_caller (registrations h) caller)) (refusal.NotPermitted, not (may_ask caller q))
+    ∙ behind-passed (refusal.UnknownKey, not (is_caller (registrations h) caller))
+    (refusal.NotPermitted, not (may_ask caller q))
     (asked_rows h q) passed)
 
 -- the tables show of an auction what the history says
 pub tied_auction : (h : List Entry) (tables : Tables) → AreTied h tables
     → (auction : List ℕ) (shows : Bool)
-    → auction_rows (announcement_of (announced_in tables.auctions.list) auction) shows (is_named tables.published.list auction)
+    → auction_rows (announcement_of (announced_in tables.auctions.list) auction) shows
+    (is_named tables.published.list auction)
     ≡ auction_rows (announcement_of (announcements h) auction) shows (is_published h auction)
 tied_auction h tables tied auction shows = rw (tied.auctions_are, tied.published_are) refl
 
@@ -64,7 +66,8 @@ pub tied_redemption : (h : List Entry) (tables : Tables) → AreTied h tables
 tied_redemption h tables tied cusip = rw (tied.auctions_are, tied.redeemed_are) refl
 
 -- where neither of two rows holds
-both-failed : (one two : Row) (rows : List Row) → refusal_in (one ∷ two ∷ rows) ≡ None → (one.1 ≡ false) × (two.1 ≡ false)
+both-failed : (one two : Row) (rows : List Row) → refusal_in (one ∷ two ∷ rows) ≡ None
+    → (one.1 ≡ false) × (two.1 ≡ false)
 both-failed one two rows passed =
     elim (cases_Bool one.1) [
       | inl holds ↦ let wrong : ◌≡◌ {A = Option Refusal} (Some one.0) None = rw holds at passed in absurd cc
@@ -96,10 +99,15 @@ passed-bill h caller cusip passed =
     found_any (is_of_bill cusip) (announcements h)
     (some (bill_of (announcements h) cusip)
     (behind-passed (refusal.UnknownKey, not (is_caller (registrations h) caller))
-    (refusal.NotPermitted, not (may_ask caller (query.Redemption cusip))) (asked_rows h (query.Redemption cusip)) passed))
+    (refusal.NotPermitted, not (may_ask caller (query.Redemption cusip))) (asked_rows h (query.Redemption cusip))
+    passed))
   where
+    -- where the first row doesn't hold there is an announcement
     some : (found : Option Announcement)
-        → refusal_in ((refusal.UnknownSecurity, is_none found) ∷ (refusal.NotRedeemed, not (is_redeemed (redemptions h) cusip)) ∷ [])
+        → refusal_in ((refusal.UnknownSecurity, is_none found) ∷ (
+          refusal.NotRedeemed,
+          not (is_redeemed (redemptions h) cusip),
+        ) ∷ [])
         ≡ None
         → is_some found ≡ true
     some None none = absurd cc

@@ -81,7 +81,7 @@ ready-message h s n moment (message.Transfer cusip to amount) book legal passed 
     let figures : HasFigures (moved_in h) book = HasFigures-told (moved_in h) book told in
     let security : ℕ = numbers.security cusip.bytes in
     let passes = passes-message numbers participants h s n moment (message.Transfer cusip to amount)
-    (IsLegal-told numbers participants h legal are) are legal passed in (
+    (record { legal = legal; numbered = are; told = IsLegal-told numbers participants h legal are }) passed in (
       live_book (moved_in h) book security told passes.0,
       passes.1,
       omega (arith, passes.2, figures.frees (numbers.holder s) security),
@@ -93,7 +93,8 @@ ready-message h s n moment (message.Pledge cusip to amount) book legal passed to
     let figures : HasFigures (moved_in h) book = HasFigures-told (moved_in h) book told in
     let security : ℕ = numbers.security cusip.bytes in
     let all : AreTold numbers participants h = IsLegal-told numbers participants h legal are in
-    let passes = passes-message numbers participants h s n moment (message.Pledge cusip to amount) all are legal passed in
+    let passes = passes-message numbers participants h s n moment (message.Pledge cusip to amount)
+    (record { legal = legal; numbered = are; told = all }) passed in
     let clear = transfer_rows-clear h s moment cusip to amount.value
     (AllByRecursion-front IsClear (par_rows h s moment cusip to amount.value) _ passed.rows) in
     let few = (AllByRecursion-back IsClear (par_rows h s moment cusip to amount.value)
@@ -116,7 +117,7 @@ ready-message h s n moment (message.Release holder pledge amount) book legal pas
     let participants : List ℕ = participants_of numbers (registrations h) in
     let are : AreNumbered numbers participants h = places-numbered h in
     let passes = passes-message numbers participants h s n moment (message.Release holder pledge amount)
-    (IsLegal-told numbers participants h legal are) are legal passed in
+    (record { legal = legal; numbered = are; told = IsLegal-told numbers participants h legal are }) passed in
     rw (told.tells.mark (numbers.holder holder) pledge)
     (may_book (moved_in h) _ (numbers.holder s) amount.value passes)
 ready-message h s n moment (message.Redeem cusip) book legal passed told served =
@@ -124,7 +125,7 @@ ready-message h s n moment (message.Redeem cusip) book legal passed told served 
     let participants : List ℕ = participants_of numbers (registrations h) in
     let are : AreNumbered numbers participants h = places-numbered h in
     let passes = passes-message numbers participants h s n moment (message.Redeem cusip)
-    (IsLegal-told numbers participants h legal are) are legal passed in
+    (record { legal = legal; numbered = are; told = IsLegal-told numbers participants h legal are }) passed in
     live_book (moved_in h) book (numbers.security cusip.bytes) told passes
 ready-message h s n moment (message.Settle auction) book legal passed told served = absurd cc
 ready-message h s n moment other book legal passed told served = tt
@@ -155,25 +156,33 @@ ready-settled h e auction (Some a) book legal follows settles_it is told =
     let credits : List Credit = credits_of numbers h a in
     let passed = subst (λ (m : Message). Passes h e.submitter e.number e.moment m) settles_it
     (accepted-passes h e.submitter e.number e.moment e.message follows.accepted) in
-    let may : IfSome (settled_as numbers h (announcement_of (announcements h) auction)) (movements.Passes (moved_in h)) =
+    let may : IfSome (settled_as numbers h (announcement_of (announcements h) auction))
+    (movements.Passes (moved_in h)) =
     passes-message numbers participants h e.submitter e.number e.moment (message.Settle auction)
-    (IsLegal-told numbers participants h legal (places-numbered h)) (places-numbered h) legal passed in
+    (record {
+      legal = legal;
+      numbered = places-numbered h;
+      told = IsLegal-told numbers participants h legal (places-numbered h);
+    }) passed in
     let passes : moved.is_redeemed security (moved_in h) ≡ false = rw is at may in
     let means : movement_by numbers h e.submitter e.number e.message ≡ Some (Settled security credits) =
     ap (λ (m : Message). movement_by numbers h e.submitter e.number m) settles_it ∙ ap (settled_as numbers h) is in
     let grows : moved_in longer ≡ moved_in h ++ Settled security credits ∷ [] =
     movements-grow h e legal follows ∙ ap (λ (m : Option Movement). moved_in h ++ option_to_list m) means in
     let said : announcements longer ≡ announcements h =
-    announcements-snoc h e ∙ (ap (λ (m : Message). announcements h ++ announced_by m) settles_it ∙ append-nil (announcements h)) in
+    announcements-snoc h e
+    ∙ (ap (λ (m : Message). announcements h ++ announced_by m) settles_it ∙ append-nil (announcements h)) in
     let now : (numbers_of longer).security a.cusip.bytes ≡ security =
-    ap (λ (all : List Announcement). position_or_len (λ (x : Announcement). is_same x.cusip.bytes a.cusip.bytes) all) said in
+    ap (λ (all : List Announcement). position_or_len (λ (x : Announcement). is_same x.cusip.bytes a.cusip.bytes) all)
+    said in
     let known : has_bill (announcements longer) a.cusip.bytes ≡ true =
     subst (λ (all : List Announcement). has_bill all a.cusip.bytes ≡ true) (sym said)
     (bill-found (announcements h) a auction is) in
     let told_then : AreTold (numbers_of longer) (participants_of (numbers_of longer) (registrations longer)) longer =
     IsLegal-told (numbers_of longer) (participants_of (numbers_of longer) (registrations longer)) longer
     (Longer h e legal follows) (places-numbered longer) in
-    let issued_then : sum_by (issues ((numbers_of longer).security a.cusip.bytes)) (moved_in longer) ≡ issued longer a.cusip =
+    let issued_then : sum_by (issues ((numbers_of longer).security a.cusip.bytes)) (moved_in longer)
+    ≡ issued longer a.cusip =
     told_then.issued_is a.cusip ((places-numbered longer).bills a.cusip.bytes known) in
     let issued_now : sum_by (issues security) (moved_in h ++ Settled security credits ∷ []) ≡ issued longer a.cusip =
     subst (λ (ms : List Movement). sum_by (issues security) ms ≡ issued longer a.cusip) grows

@@ -105,7 +105,8 @@ positions-other reported report auction enrolled other =
     ∙ ap (λ b. cond (b && is_same report.bidder e.bidder) report.position (before e)) other))
 
 -- with the next report the reports so far are one more
-pub positions-step : (items list : List Report) (i : ℕ) (item : Report) (auction : List ℕ) (enrolled : List Enrolment) (now : List ℤ)
+pub positions-step : (items list : List Report) (i : ℕ) (item : Report) (auction : List ℕ) (enrolled : List Enrolment)
+    (now : List ℤ)
     → items ≡ list
     → i < length items
     → item ≡ get_or items i item
@@ -113,6 +114,7 @@ pub positions-step : (items list : List Report) (i : ℕ) (item : Report) (aucti
     → now ≡ positions_by (take (i + 1) list) auction enrolled
 positions-step items list i item auction enrolled now same within is noted =
     let whole : take (i + 1) items ≡ take i items ++ get_or items i item ∷ [] = take_more items i item within in
-    let next : take i items ++ item ∷ [] ≡ take (i + 1) items = ap (λ (r : Report). take i items ++ r ∷ []) is ∙ sym whole in
+    let next : take i items ++ item ∷ [] ≡ take (i + 1) items = ap (λ (r : Report). take i items ++ r ∷ []) is
+    ∙ sym whole in
     noted ∙ ap (λ (rs : List Report). positions_by rs auction enrolled)
     (subst (λ (rs : List Report). take i rs ++ item ∷ [] ≡ take (i + 1) rs) same next)

@@ -1,10 +1,10 @@
 -- Room for a list of messages.
-use Rattle.std.proofs.Common.{◌≡◌, ℕ, suc, ◌+◌, ◌<◌, ◌≤◌, ◌&&◌, ◌||◌, ◌∙◌, Bool, true, false, cond, Option, Some, None, inl, inr, refl, sym, ap, ap₂, subst, List, [], ◌∷◌, ◌++◌, map, nat_le, length, length-append, get_or, take, Result, Ok, Err, arith}
+use Rattle.std.proofs.Common.{◌≡◌, ℕ, suc, ◌+◌, ◌<◌, ◌≤◌, ◌&&◌, ◌||◌, ◌∙◌, Bool, true, false, Option, Some, None, inl, inr, refl, sym, ap, ap₂, subst, List, [], ◌∷◌, ◌++◌, map, nat_le, length, length-append, get_or, take, Result, Ok, Err, arith}
 use Rattle.std.specs.Prelude.{OnOk}
 use Rattle.std.specs.Option.{option_map_or}
 use Rattle.std.specs.List.{filter, list_all, list_any}
 use Rattle.std.proofs.lemmas.Bool.{and_from, and_parts, cases_Bool, leb-true, le-leb, or_left, or_right}
-use Rattle.std.proofs.lemmas.List.{length-map, take_all}
+use Rattle.std.proofs.lemmas.List.{length-map}
 use Rattle.std.proofs.lemmas.List.Elements.{filter-append}
 use Rattle.std.proofs.lemmas.List.Folds.{list_all-append, list_all-map, list_all_more, list_any-append}
 use Rattle.tb_message.specs.declared.message.Entry.{Entry}
@@ -19,70 +19,73 @@ use Rattle.tb_history.specs.Entries.{announced_by, is_same}
 use Rattle.tb_history.specs.LiveBids.{bid_of}
 use Rattle.tb_history.specs.Readings.{place_of}
 use Rattle.tb_history.proofs.SameLemmas.{is_same-equal}
-use Rattle.tb_core.specs.Rooms.{Fits, Room, TakesRoom, announces, behind, has_place, settles}
+use Rattle.tb_core.specs.Rooms.{Fits, Room, TakesRoom, announces, behind_all, has_place, settles}
 use Rattle.tb_core.specs.Shelving.{HasShelved, IsKeptShelf, IsOut, Shelves}
 use Rattle.tb_core.proofs.KeptLemmas.{has_place-kept, list_all-weaker}
 
--- the messages of the entries that are undecided, and one more
-pub behind_length : (ahead : List Entry) (message : Message) → length (behind ahead message) ≡ length ahead + 1
-behind_length ahead message =
-    length-append (map (λ (entry : Entry). entry.message) ahead) (message ∷ [])
-    ∙ ap (λ n. n + 1) (length-map ahead (λ (entry : Entry). entry.message))
+-- as many messages as entries that are undecided and messages that are asked
+pub length-behind : (ahead : List Entry) (messages : List (ℕ × Message))
+    → length (behind_all ahead messages) ≡ length ahead + length messages
+length-behind ahead messages =
+    length-append (map (λ (entry : Entry). entry.message) ahead) (map (λ (asked : ℕ × Message). asked.1) messages)
+    ∙ ap₂ (λ a b. a + b) (length-map ahead (λ (entry : Entry). entry.message))
+    (length-map messages (λ (asked : ℕ × Message). asked.1))
 
--- as many of them pass as do among the entries and with the last one
-filter-mapped : (test : Message → Bool) (ahead : List Entry)
-    → length (filter test (map (λ (entry : Entry). entry.message) ahead))
-    ≡ length (filter (λ (entry : Entry). test entry.message) ahead)
-filter-mapped test [] = refl
-filter-mapped test (entry ∷ ahead) =
-    elim (cases_Bool (test entry.message)) [
-      | inl is ↦ rw is (ap (λ n. suc n) (filter-mapped test ahead))
-      | inr isnt ↦ rw isnt (filter-mapped test ahead)
+-- as many messages pass as elements that have such a message
+filter-mapped : {X : Type 0} (message_of : X → Message) (test : Message → Bool) (xs : List X)
+    → length (filter test (map message_of xs)) ≡ length (filter (λ x. test (message_of x)) xs)
+filter-mapped message_of test [] = refl
+filter-mapped message_of test (x ∷ xs) =
+    elim (cases_Bool (test (message_of x))) [
+      | inl is ↦ rw is (ap (λ n. suc n) (filter-mapped message_of test xs))
+      | inr isnt ↦ rw isnt (filter-mapped message_of test xs)
     ]
 
--- one passes or none
-one-filtered : (test : Message → Bool) (message : Message) → length (filter test (message ∷ [])) ≡ cond (test message) 1 0
-one-filtered test message = elim (cases_Bool (test message)) [ inl is ↦ rw is refl | inr isnt ↦ rw isnt refl ]
-
--- together
-pub behind_count : (test : Message → Bool) (ahead : List Entry) (message : Message)
-    → length (filter test (behind ahead message))
-    ≡ length (filter (λ (entry : Entry). test entry.message) ahead) + cond (test message) 1 0
-behind_count test ahead message =
+-- as many of them pass as do among the entries and among what is asked
+pub count-behind : (test : Message → Bool) (ahead : List Entry) (messages : List (ℕ × Message))
+    → length (filter test (behind_all ahead messages))
+    ≡ length (filter (λ (entry : Entry). test entry.message) ahead)
+    + length (filter (λ (asked : ℕ × Message). test asked.1) messages)
+count-behind test ahead messages =
     let before = map (λ (entry : Entry). entry.message) ahead in
-    ap length (filter-append test before (message ∷ []))
-    ∙ length-append (filter test before) (filter test (message ∷ []))
-    ∙ ap₂ (λ a b. a + b) (filter-mapped test ahead) (one-filtered test message)
+    let behind = map (λ (asked : ℕ × Message). asked.1) messages in
+    ap length (filter-append test before behind)
+    ∙ length-append (filter test before) (filter test behind)
+    ∙ ap₂ (λ a b. a + b) (filter-mapped (λ (entry : Entry). entry.message) test ahead)
+    (filter-mapped (λ (asked : ℕ × Message). asked.1) test messages)
 
--- a test with nothing more
-and_true : (b : Bool) → (b && true) ≡ b
-and_true true = refl
-and_true false = refl
+-- whether each of them passes
+pub all-behind : (test : Message → Bool) (ahead : List Entry) (messages : List (ℕ × Message))
+    → list_all test (behind_all ahead messages)
+    ≡ (list_all (λ (entry : Entry). test entry.message) ahead
+    && list_all (λ (asked : ℕ × Message). test asked.1) messages)
+all-behind test ahead messages =
+    list_all-append test (map (λ (entry : Entry). entry.message) ahead)
+    (map (λ (asked : ℕ × Message). asked.1) messages)
+    ∙ ap₂ (λ a b. a && b) (list_all-map test (λ (entry : Entry). entry.message) ahead)
+    (list_all-map test (λ (asked : ℕ × Message). asked.1) messages)
 
--- nor another
+-- some message passes just where an element's does
+any-mapped : {X : Type 0} (message_of : X → Message) (test : Message → Bool) (xs : List X)
+    → list_any test (map message_of xs) ≡ list_any (λ x. test (message_of x)) xs
+any-mapped message_of test [] = refl
+any-mapped message_of test (x ∷ xs) = ap (λ b. test (message_of x) || b) (any-mapped message_of test xs)
+
+-- whether one of them passes
+pub any-behind : (test : Message → Bool) (ahead : List Entry) (messages : List (ℕ × Message))
+    → list_any test (behind_all ahead messages)
+    ≡ (list_any (λ (entry : Entry). test entry.message) ahead
+    || list_any (λ (asked : ℕ × Message). test asked.1) messages)
+any-behind test ahead messages =
+    list_any-append test (map (λ (entry : Entry). entry.message) ahead)
+    (map (λ (asked : ℕ × Message). asked.1) messages)
+    ∙ ap₂ (λ a b. a || b) (any-mapped (λ (entry : Entry). entry.message) test ahead)
+    (any-mapped (λ (asked : ℕ × Message). asked.1) test messages)
+
+-- a test or none
 or_false : (b : Bool) → (b || false) ≡ b
 or_false true = refl
 or_false false = refl
-
--- whether each of them passes
-pub behind_all : (test : Message → Bool) (ahead : List Entry) (message : Message)
-    → list_all test (behind ahead message) ≡ (list_all (λ (entry : Entry). test entry.message) ahead && test message)
-behind_all test ahead message =
-    list_all-append test (map (λ (entry : Entry). entry.message) ahead) (message ∷ [])
-    ∙ ap₂ (λ a b. a && b) (list_all-map test (λ (entry : Entry). entry.message) ahead) (and_true (test message))
-
--- some pass among those of the entries just where an entry's does
-any-mapped : (test : Message → Bool) (ahead : List Entry)
-    → list_any test (map (λ (entry : Entry). entry.message) ahead) ≡ list_any (λ (entry : Entry). test entry.message) ahead
-any-mapped test [] = refl
-any-mapped test (entry ∷ ahead) = ap (λ b. test entry.message || b) (any-mapped test ahead)
-
--- whether one of them passes
-pub behind_any : (test : Message → Bool) (ahead : List Entry) (message : Message)
-    → list_any test (behind ahead message) ≡ (list_any (λ (entry : Entry). test entry.message) ahead || test message)
-behind_any test ahead message =
-    list_any-append test (map (λ (entry : Entry). entry.message) ahead) (message ∷ [])
-    ∙ ap₂ (λ a b. a || b) (any-mapped test ahead) (or_false (test message))
 
 -- a book with places has fewer too
 places-less : (found : Option Bids) (n fewer : ℕ)
@@ -123,7 +126,8 @@ Fits-nil room =
 pub Fits-one : (room : Room) (m : Message) (ms : List Message) → Fits room (m ∷ ms) → Fits room (m ∷ [])
 Fits-one room m ms fits =
     let books = room.shelf.books in
-    let parts = and_parts (has_place books (length (m ∷ ms)) m) (list_all (has_place books (length (m ∷ ms))) ms) fits.ahead.places in
+    let parts = and_parts (has_place books (length (m ∷ ms)) m) (list_all (has_place books (length (m ∷ ms))) ms)
+    fits.ahead.places in
     record {
       rows = omega (arith, fits.rows);
       ahead = record {
@@ -141,7 +145,8 @@ Fits-one room m ms fits =
 pub Fits-rest : (room : Room) (m : Message) (ms : List Message) → Fits room (m ∷ ms) → Fits room ms
 Fits-rest room m ms fits =
     let books = room.shelf.books in
-    let parts = and_parts (has_place books (length (m ∷ ms)) m) (list_all (has_place books (length (m ∷ ms))) ms) fits.ahead.places in
+    let parts = and_parts (has_place books (length (m ∷ ms)) m) (list_all (has_place books (length (m ∷ ms))) ms)
+    fits.ahead.places in
     record {
       rows = omega (arith, fits.rows);
       ahead = record {
@@ -198,7 +203,8 @@ places-opened (first ∷ old) named auction n enough has =
     ]
 
 -- a cancel takes no place
-places-out : (enrolled : List Enrolment) (found : Option Bid) (name : List ℕ) (number : ℕ) (old new : List NamedBook) (n : ℕ)
+places-out : (enrolled : List Enrolment) (found : Option Bid) (name : List ℕ) (number : ℕ) (old new : List NamedBook)
+    (n : ℕ)
     → IsOut enrolled found name number old new
     → (auction : List ℕ) → has_places old (n + 1) auction ≡ true → has_places new n auction ≡ true
 places-out enrolled None name number old new n out auction has =
@@ -208,7 +214,8 @@ places-out enrolled (Some bid) name number old new n out auction has =
     (λ one other lowered. omega (arith, lowered.room)) out auction has
 
 -- a message takes one place of a book at most
-places-message : (enrolled : List Enrolment) (all : List Bid) (s : List ℕ) (number : ℕ) (m : Message) (old new : Shelved) (n : ℕ)
+places-message : (enrolled : List Enrolment) (all : List Bid) (s : List ℕ) (number : ℕ) (m : Message)
+    (old new : Shelved) (n : ℕ)
     → n + 1 ≤ old.places
     → Shelves enrolled all s number m old new
     → (auction : List ℕ) → has_places old.books (n + 1) auction ≡ true → has_places new.books n auction ≡ true
@@ -234,7 +241,8 @@ place-message old new n (message.Bid auction bidder rate amount) takes has = tak
 place-message old new n other takes has = refl
 
 -- what a message takes of the room
-pub record IsTakenBy (enrolled : List Enrolment) (all : List Bid) (s : List ℕ) (number : ℕ) (m : Message) (old new : Room) : Type 0 where
+pub record IsTakenBy (enrolled : List Enrolment) (all : List Bid) (s : List ℕ) (number : ℕ) (m : Message)
+    (old new : Room) : Type 0 where
   pub shelf : HasShelved enrolled all s number m old.shelf new.shelf
   pub rows : old.messages ≤ new.messages + 1
   pub enough : old.messages ≤ old.shelf.places
@@ -249,7 +257,8 @@ TakesRoom-by enrolled all s number m old new taken ms fits =
     let count : length (m ∷ ms) ≡ n + 1 = omega arith in
     let places : list_all (has_place old.shelf.books (n + 1)) (m ∷ ms) ≡ true =
     subst (λ (k : ℕ). list_all (has_place old.shelf.books k) (m ∷ ms) ≡ true) count fits.ahead.places in
-    let parts = and_parts (has_place old.shelf.books (n + 1) m) (list_all (has_place old.shelf.books (n + 1)) ms) places in
+    let parts = and_parts (has_place old.shelf.books (n + 1) m) (list_all (has_place old.shelf.books (n + 1)) ms)
+    places in
     record {
       rows = omega (arith, fits.rows, taken.rows);
       ahead = record {
@@ -258,42 +267,45 @@ TakesRoom-by enrolled all s number m old new taken ms fits =
             (λ x has. place-message old.shelf.books new.shelf.books n x
             (places-message enrolled all s number m old.shelf new.shelf n (omega (arith, fits.rows, taken.enough))
             taken.shelf.books) has) parts.1;
-        settling = λ is. omega (arith, fits.ahead.settling (or_right (settles m) (list_any settles ms) is), taken.lasts);
+        settling = λ is. omega (
+          arith,
+          fits.ahead.settling (or_right (settles m) (list_any settles ms) is),
+          taken.lasts,
+        );
       };
     }
 
--- with the next entry's message in its place
-pub places-more : (old new : Shelved) (n : ℕ) (ahead : List Entry) (i : ℕ) (next : Entry)
-    → i < length ahead
-    → next ≡ get_or ahead i next
+-- with the next message in its place
+pub places-more : {X : Type 0} (message_of : X → Message) (old new : Shelved) (n : ℕ) (items : List X) (i : ℕ)
+    (next : X)
+    → i < length items
+    → next ≡ get_or items i next
     → IsKeptShelf old new
-    → list_all (λ (entry : Entry). has_place old.books n entry.message) (take i ahead) ≡ true
-    → has_place new.books n next.message ≡ true
-    → list_all (λ (entry : Entry). has_place new.books n entry.message) (take (i + 1) ahead) ≡ true
-places-more old new n ahead i next within is kept has here =
-    let before : Entry → Bool = λ entry. has_place old.books n entry.message in
-    let now : Entry → Bool = λ entry. has_place new.books n entry.message in
-    list_all_more now ahead i next within
-    ∙ and_from (list_all now (take i ahead)) (now (get_or ahead i next))
-    (list_all-weaker before now (take i ahead) (λ entry was. has_place-kept old new n entry.message kept was) has)
-    (subst (λ (entry : Entry). now entry ≡ true) is here)
+    → list_all (λ x. has_place old.books n (message_of x)) (take i items) ≡ true
+    → has_place new.books n (message_of next) ≡ true
+    → list_all (λ x. has_place new.books n (message_of x)) (take (i + 1) items) ≡ true
+places-more {X} message_of old new n items i next within is kept has here =
+    let before : X → Bool = λ x. has_place old.books n (message_of x) in
+    let now : X → Bool = λ x. has_place new.books n (message_of x) in
+    list_all_more now items i next within
+    ∙ and_from (list_all now (take i items)) (now (get_or items i next))
+    (list_all-weaker before now (take i items) (λ x was. has_place-kept old new n (message_of x) kept was) has)
+    (subst (λ (x : X). now x ≡ true) is here)
 
--- and with the last one
-pub places-last : {E : Type 0} (result : Result Unit E) (old new : Shelved) (n : ℕ) (ahead : List Entry) (m : Message) (i : ℕ)
-    → length ahead ≤ i
+-- the places of the entries' messages and of those that are asked
+pub places-behind : {E : Type 0} (result : Result Unit E) (old new : Shelved) (n : ℕ) (ahead : List Entry)
+    (messages : List (ℕ × Message))
     → IsKeptShelf old new
-    → list_all (λ (entry : Entry). has_place old.books n entry.message) (take i ahead) ≡ true
-    → OnOk result (has_place new.books n m ≡ true)
-    → OnOk result (list_all (has_place new.books n) (behind ahead m) ≡ true)
-places-last (Err e) old new n ahead m i whole kept has here = tt
-places-last (Ok u) old new n ahead m i whole kept has here =
+    → list_all (λ (entry : Entry). has_place old.books n entry.message) ahead ≡ true
+    → OnOk result (list_all (λ (asked : ℕ × Message). has_place new.books n asked.1) messages ≡ true)
+    → OnOk result (list_all (has_place new.books n) (behind_all ahead messages) ≡ true)
+places-behind (Err e) old new n ahead messages kept has here = tt
+places-behind (Ok u) old new n ahead messages kept has here =
     let before : Entry → Bool = λ entry. has_place old.books n entry.message in
     let now : Entry → Bool = λ entry. has_place new.books n entry.message in
-    let all : list_all before ahead ≡ true =
-    subst (λ (entries : List Entry). list_all before entries ≡ true) (take_all i ahead whole) has in
-    behind_all (has_place new.books n) ahead m
-    ∙ and_from (list_all now ahead) (has_place new.books n m)
-    (list_all-weaker before now ahead (λ entry is. has_place-kept old new n entry.message kept is) all) here
+    all-behind (has_place new.books n) ahead messages
+    ∙ and_from (list_all now ahead) (list_all (λ (asked : ℕ × Message). has_place new.books n asked.1) messages)
+    (list_all-weaker before now ahead (λ entry was. has_place-kept old new n entry.message kept was) has) here
 
 -- a fact that holds whatever the result
 pub whatever : {E : Type 0} {P : Type 0} (result : Result Unit E) → P → OnOk result P

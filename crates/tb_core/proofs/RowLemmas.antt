@@ -27,7 +27,8 @@ pub tied_announce : (h : List Entry) (tables : Tables) → AreTied h tables
 tied_announce h tables tied sender moment a = rw (tied.auctions_are, tied.redeemed_are) refl
 
 -- what the look-ups of a bid give
-pub record HasLooked (tables : Tables) (sender auction bidder : List ℕ) (found : Option Terms) (enrolled : Bool) : Type 0 where
+pub record HasLooked (tables : Tables) (sender auction bidder : List ℕ) (found : Option Terms)
+    (enrolled : Bool) : Type 0 where
   pub terms : announcement_in found ≡ announcement_of (announced_in tables.auctions.list) auction
   pub under : enrolled ≡ is_under sender (enrolment_of tables.bidders.list bidder)
 
@@ -68,7 +69,8 @@ pub tied_position : (h : List Entry) (tables : Tables) → AreTied h tables
     → (sender : List ℕ) (moment : Moment) (auction bidder : List ℕ) (position : ℤ)
     → (found : Option Terms) (enrolled : Bool)
     → HasLooked tables sender auction bidder found enrolled
-    → position_rows (announcement_in found) enrolled moment ≡ rows_of h sender moment (message.Position auction bidder position)
+    → position_rows (announcement_in found) enrolled moment
+    ≡ rows_of h sender moment (message.Position auction bidder position)
 tied_position h tables tied sender moment auction bidder position found enrolled looked =
     rw (looked.terms, looked.under, tied.auctions_are, tied.bidders_are) refl
 

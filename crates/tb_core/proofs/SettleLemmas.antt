@@ -57,6 +57,7 @@ positions-tied h tables a tied =
     rw (tied.reports_are, tied.bidders_are)
     (agree (enrolments h))
   where
+    -- by each bidder: other auctions' reports say nothing of this one
     agree : (enrolled : List Enrolment)
         → positions_by (reports h) a.auction enrolled
         ≡ map (λ (e : Enrolment). position_of (filter (λ (r : Report). is_same r.auction a.auction) (reports h)) a.auction e.bidder) enrolled
@@ -118,6 +119,7 @@ settle-room entries tables room auction house fits =
       lines = omega (arith, house.scratch.lines some);
       bidders = omega (arith, house.scratch.bidders_too some);
       positions = omega (arith, house.scratch.positions some);
+      awards = omega (arith, house.scratch.awards some);
     }
 
 -- whatever the message is

@@ -91,7 +91,8 @@ pub lines-changed : (name : List ℕ) (Change : Bids → Bids → Type 0) (befor
     (old new : List NamedBook)
     → IsChanged name Change old new
     → ((auction : List ℕ) → IfSome (book_in old auction) (λ book. IsPermutation (before auction) book.lines))
-    → ((one other : Bids) → Change one other → IsPermutation (before name) one.lines → IsPermutation (after name) other.lines)
+    → ((one other : Bids) → Change one other → IsPermutation (before name) one.lines
+    → IsPermutation (after name) other.lines)
     → ((auction : List ℕ) → is_same name auction ≡ false → after auction ≡ before auction)
     → (auction : List ℕ) → IfSome (book_in new auction) (λ book. IsPermutation (after auction) book.lines)
 lines-changed name Change before after old new changed has step stays auction =
@@ -99,7 +100,8 @@ lines-changed name Change before after old new changed has step stays auction =
       | inl is ↦
           subst (λ (x : List ℕ). IfSome (book_in new x) (λ book. IsPermutation (after x) book.lines))
           (is_same-equal name auction is)
-          (goes-lines Change (book_in old name) (book_in new name) (before name) (after name) changed.changed (has name) step)
+          (goes-lines Change (book_in old name) (book_in new name) (before name) (after name) changed.changed
+          (has name) step)
       | inr isnt ↦
           subst (λ (found : Option Bids). IfSome found (λ book. IsPermutation (after auction) book.lines))
           (sym (changed.others auction isnt))

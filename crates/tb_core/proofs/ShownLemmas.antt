@@ -42,7 +42,8 @@ line-tied h tables participant cusip line tied known bill is =
     let participants : List ℕ = participants_of numbers (registrations h) in
     let are : AreNumbered numbers participants h = places-numbered h in
     let told : AreTold numbers participants h = told_places h tied.legal in
-    let figures : HasFigures (moved_in h) tables.accounts = HasFigures-told (moved_in h) tables.accounts tied.accounts_tell in
+    let figures : HasFigures (moved_in h) tables.accounts =
+    HasFigures-told (moved_in h) tables.accounts tied.accounts_tell in
     let same = numbers-tied h tables tied in
     let holder : ℕ = numbers.holder participant in
     let security : ℕ = numbers.security cusip.bytes in
@@ -52,7 +53,8 @@ line-tied h tables participant cusip line tied known bill is =
           is.held
           ∙ (ap (λ (n : Numbering). book_held (n.holder participant) (n.security cusip.bytes) tables.accounts) same
           ∙ (tied.accounts_tell.tells.held holder security
-          ∙ held-told numbers participants h participant cusip told (are.names participant known) (are.bills cusip.bytes bill)));
+          ∙ held-told numbers participants h participant cusip told (are.names participant known)
+          (are.bills cusip.bytes bill)));
       pledged =
           is.pledged
           ∙ (ap (λ (n : Numbering). book_pledged (n.holder participant) (n.security cusip.bytes) tables.accounts) same
@@ -66,6 +68,7 @@ first-bill : (announced : List Announcement) (a : Announcement)
     → has_bill announced a.cusip.bytes ≡ true
 first-bill announced a first = found_any (is_of_bill a.cusip) announced (some (bill_of announced a.cusip) first)
   where
+    -- there is a first one
     some : (found : Option Announcement) → is_first found a ≡ true → is_some found ≡ true
     some None wrong = absurd cc
     some (Some b) is = refl
@@ -134,7 +137,8 @@ pub lines-hidden : (h : List Entry) (participant : List ℕ) (front : List Annou
     → IsShown h participant a None
     → AreHoldingLines h participant (filter (is_shown h participant) (front ++ a ∷ [])) lines
 lines-hidden h participant front lines a are isnt =
-    rw (filter-append (is_shown h participant) front (a ∷ []), isnt, append-nil (filter (is_shown h participant) front)) are
+    rw (filter-append (is_shown h participant) front (a ∷ []), isnt, append-nil (filter (is_shown h participant) front))
+    are
 
 -- two tests in turn
 filter_both : {X : Type 0} (one other : X → Bool) (xs : List X)
@@ -171,9 +175,11 @@ paid-tied h tables participant cusip tied known bill =
     let numbers : Numbering = numbers_of h in
     let participants : List ℕ = participants_of numbers (registrations h) in
     let are : AreNumbered numbers participants h = places-numbered h in
-    ap (λ (n : Numbering). book_paid (n.holder participant) (n.security cusip.bytes) tables.accounts) (numbers-tied h tables tied)
+    ap (λ (n : Numbering). book_paid (n.holder participant) (n.security cusip.bytes) tables.accounts)
+    (numbers-tied h tables tied)
     ∙ (tied.accounts_tell.tells.paid (numbers.holder participant) (numbers.security cusip.bytes)
-    ∙ paid-told numbers participants h participant cusip tied.legal are (told_places h tied.legal)
+    ∙ paid-told numbers participants h participant cusip
+    (record { legal = tied.legal; numbered = are; told = told_places h tied.legal })
     (are.names participant known) (are.bills cusip.bytes bill))
 
 -- nobody that was paid nothing has a line
@@ -217,10 +223,12 @@ payments-shown h cusip front lines r line are is =
     rw (filter-append test front (r ∷ []), is.0) (ArePaidLines-push h cusip (filter test front) lines r line are is.1)
 
 -- or that wasn't
-pub payments-hidden : (h : List Entry) (cusip : Cusip) (front : List Registration) (lines : List PaidLine) (r : Registration)
+pub payments-hidden : (h : List Entry) (cusip : Cusip) (front : List Registration) (lines : List PaidLine)
+    (r : Registration)
     → ArePaidLines h cusip (filter (λ (x : Registration). nat_lt 0 (paid_to h x.submitter cusip)) front) lines
     → IsPaidOut h cusip r None
-    → ArePaidLines h cusip (filter (λ (x : Registration). nat_lt 0 (paid_to h x.submitter cusip)) (front ++ r ∷ [])) lines
+    → ArePaidLines h cusip (filter (λ (x : Registration). nat_lt 0 (paid_to h x.submitter cusip)) (front ++ r ∷ []))
+    lines
 payments-hidden h cusip front lines r are isnt =
     let test : Registration → Bool = λ (x : Registration). nat_lt 0 (paid_to h x.submitter cusip) in
     rw (filter-append test front (r ∷ []), isnt, append-nil (filter test front)) are

@@ -20,7 +20,12 @@ par_of-filter test [] = omega arith
 par_of-filter test (bid ∷ bids) =
     let amount : Bid → ℕ = λ (b : Bid). b.amount.value in
     elim (cases_Bool (test bid)) [
-      | inl is ↦ rw is (omega (arith, sum_by-cons amount bid (filter test bids), sum_by-cons amount bid bids, par_of-filter test bids))
+      | inl is ↦ rw is (omega (
+        arith,
+        sum_by-cons amount bid (filter test bids),
+        sum_by-cons amount bid bids,
+        par_of-filter test bids,
+      ))
       | inr isnt ↦ rw isnt (omega (arith, sum_by-cons amount bid bids, par_of-filter test bids))
     ]
 
@@ -42,7 +47,8 @@ least_cap : (n : ℕ) → nat_le 1000 (min 1000 n) ≡ nat_le 1000 n
 least_cap n = grind arith
 
 -- and so a bid is refused alike
-pub bid_rows-capped : (found : Option Announcement) (enrolled : Bool) (standing : Standing) (moment : Moment) (rate : Option Rate) (amount : ℕ)
+pub bid_rows-capped : (found : Option Announcement) (enrolled : Bool) (standing : Standing) (moment : Moment)
+    (rate : Option Rate) (amount : ℕ)
     → bid_rows found enrolled (capped standing) moment rate amount ≡ bid_rows found enrolled standing moment rate amount
 bid_rows-capped None enrolled standing moment rate amount = refl
 bid_rows-capped (Some a) enrolled standing moment None amount = rw (least_cap standing.accepted) refl

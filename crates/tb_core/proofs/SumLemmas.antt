@@ -139,7 +139,8 @@ unbid h auction bidder orderly unknown =
     (λ b placed. false_from_ne_true (live.is_of auction bidder b) (λ same.
     both_ways (is_some (announcement_of (announcements h) auction)) unknown
     (subst (λ (x : List ℕ). is_some (announcement_of (announcements h) x) ≡ true)
-    (is_same-equal b.auction auction (and_parts (is_same b.auction auction) (is_same b.bidder bidder) same).0) placed.0)))
+    (is_same-equal b.auction auction (and_parts (is_same b.auction auction) (is_same b.bidder bidder) same).0)
+    placed.0)))
     (bids h) orderly.bidders)
 
 -- what the book that is found has of a bidder
@@ -159,19 +160,23 @@ par-found kind h auction bidder (Some book) orderly named has = par-booked kind 
 pub competitive-booked : (h : List Entry) (books : List NamedBook) (auction bidder : List ℕ)
     → IsOrderly h
     → AreBooks h books
-    → option_map_or (λ (book : Bids). competitive_of (place_of (enrolments h) bidder) book.lines) (book_in books auction) 0
+    → option_map_or (λ (book : Bids). competitive_of (place_of (enrolments h) bidder) book.lines)
+    (book_in books auction) 0
     ≡ par_of (live.competitive_in (filter (is_live (cancels h)) (bids_of (bids h) auction bidder)))
 competitive-booked h books auction bidder orderly are =
-    par-found is_some h auction bidder (book_in books auction) orderly (book-announced h books auction are) (are.lines auction)
+    par-found is_some h auction bidder (book_in books auction) orderly (book-announced h books auction are)
+    (are.lines auction)
 
 -- and noncompetitive ones
 pub noncompetitive-booked : (h : List Entry) (books : List NamedBook) (auction bidder : List ℕ)
     → IsOrderly h
     → AreBooks h books
-    → option_map_or (λ (book : Bids). noncompetitive_of (place_of (enrolments h) bidder) book.lines) (book_in books auction) 0
+    → option_map_or (λ (book : Bids). noncompetitive_of (place_of (enrolments h) bidder) book.lines)
+    (book_in books auction) 0
     ≡ par_of (live.noncompetitive_in (filter (is_live (cancels h)) (bids_of (bids h) auction bidder)))
 noncompetitive-booked h books auction bidder orderly are =
-    par-found is_none h auction bidder (book_in books auction) orderly (book-announced h books auction are) (are.lines auction)
+    par-found is_none h auction bidder (book_in books auction) orderly (book-announced h books auction are)
+    (are.lines auction)
 
 -- the book of an announced auction has the live bids of its bidding
 pub book-booked : (h : List Entry) (books : List NamedBook) (auction : List ℕ) (a : Announcement) (book : Bids)
@@ -184,5 +189,6 @@ book-booked h books auction a book are announced found =
     subst (λ (there : Option Bids). IfSome there
     (λ b. IsPermutation (map (book_line_of (enrolments h)) (live_bids_in (bids h) (cancels h) auction)) b.lines)) found
     (are.lines auction) in
-    subst (λ (name : List ℕ). IsPermutation (map (book_line_of (enrolments h)) (live_bids_in (bids h) (cancels h) name)) book.lines)
+    subst (λ (name : List ℕ). IsPermutation (map (book_line_of (enrolments h)) (live_bids_in (bids h) (cancels h) name))
+    book.lines)
     (sym (announced-name (announcements h) auction a announced)) has

@@ -54,8 +54,10 @@ shelved-tied : (h : List Entry) (old new : Tables) (e : Entry)
     → HasEntered e.submitter e.number e.message old new
     → HasShelved (enrolments h) (bids h) e.submitter e.number e.message old.shelf new.shelf
 shelved-tied h old new e tied entered =
-    subst (λ (es : List Enrolment). HasShelved es (bids h) e.submitter e.number e.message old.shelf new.shelf) tied.bidders_are
-    (subst (λ (bs : List Bid). HasShelved old.bidders.list bs e.submitter e.number e.message old.shelf new.shelf) tied.bids_are
+    subst (λ (es : List Enrolment). HasShelved es (bids h) e.submitter e.number e.message old.shelf new.shelf)
+    tied.bidders_are
+    (subst (λ (bs : List Bid). HasShelved old.bidders.list bs e.submitter e.number e.message old.shelf new.shelf)
+    tied.bids_are
     entered.shelf)
 
 -- the tables number participants and bills as the history does
@@ -70,7 +72,8 @@ settled-tied : (h : List Entry) (tables : Tables) (found : Option Announcement)
     → settled_in tables found ≡ settled_as (numbers_of h) h found
 settled-tied h tables None tied = refl
 settled-tied h tables (Some a) tied =
-    rw (tied.submitters_are, tied.auctions_are, tied.bidders_are, tied.bids_are, tied.cancels_are, tied.reports_are) refl
+    rw (tied.submitters_are, tied.auctions_are, tied.bidders_are, tied.bids_are, tied.cancels_are, tied.reports_are)
+    refl
 
 -- the tables say what the next entry moves
 pub movement-tied : (h : List Entry) (tables : Tables)
@@ -116,9 +119,11 @@ AreTied-push h old new e tied follows told entered last = record {
   published_are = grown _ _ _ _ _ entered.published tied.published_are (publications-snoc h e);
   settled_are = grown _ _ _ _ _ entered.settled tied.settled_are (settlements-snoc h e);
   redeemed_are = grown _ _ _ _ _ entered.redeemed tied.redeemed_are (redemptions-snoc h e);
-  books_are = AreBooks-push h e old.shelf new.shelf tied.legal follows tied.books_are (shelved-tied h old new e tied entered);
+  books_are = AreBooks-push h e old.shelf new.shelf tied.legal follows tied.books_are
+      (shelved-tied h old new e tied entered);
   calendar_is = subst (λ (days : List Day). IsCalendar new.calendar.list days) (sym (holidays-snoc h e))
-      (IsCalendar-push old.calendar.list (holidays h) (entered_by e.message) new.calendar.list tied.calendar_is entered.calendar);
+      (IsCalendar-push old.calendar.list (holidays h)
+      (entered_by e.message) new.calendar.list tied.calendar_is entered.calendar);
   accounts_tell = accounts_tell-push h old new e tied follows told;
 }
 
@@ -144,8 +149,10 @@ AreTied-same h old new tied same = record {
 
 -- empty tables are those of the empty history
 pub AreTied-empty : (tables : Tables)
-    → (tables.submitters.list ≡ []) × (tables.bidders.list ≡ []) × (tables.holidays.list ≡ []) × (tables.calendar.list ≡ [])
-    → (tables.auctions.list ≡ []) × (tables.published.list ≡ []) × (tables.settled.list ≡ []) × (tables.redeemed.list ≡ [])
+    → (tables.submitters.list ≡ []) × (tables.bidders.list ≡ []) × (tables.holidays.list ≡ [])
+    × (tables.calendar.list ≡ [])
+    → (tables.auctions.list ≡ []) × (tables.published.list ≡ []) × (tables.settled.list ≡ [])
+    × (tables.redeemed.list ≡ [])
     → (tables.bids.list ≡ []) × (tables.cancels.list ≡ []) × (tables.reports.list ≡ [])
     → (tables.shelf.books ≡ []) × (tables.scratch.lasts ≡ 0)
     → IsTold [] tables.accounts
@@ -166,7 +173,8 @@ AreTied-empty tables roster auctions bidding shelf accounts last = record {
   settled_are = auctions.2;
   redeemed_are = auctions.3;
   books_are = AreBooks-nil tables.shelf.books shelf.0;
-  calendar_is = subst (λ (days : List Day). IsCalendar days []) (sym roster.3) (record { same = λ number. refl; few = omega arith });
+  calendar_is = subst (λ (days : List Day). IsCalendar days []) (sym roster.3)
+      (record { same = λ number. refl; few = omega arith });
   accounts_tell = accounts;
 }
 
@@ -181,8 +189,10 @@ rows-in_order : (h : List Entry) (s : List ℕ) (moment : Moment) (m : Message)
     → IsInOrder m
 rows-in_order h s moment (message.Announce a) clear = (
   fault_rows-clear (fault_of a)
-      (AllByRecursion-front IsClear (fault_rows (fault_of a)) (maturity_rows (bill_of (announcements h) a.cusip) a.maturity)
-      (AllByRecursion-front IsClear (fault_rows (fault_of a) ++ maturity_rows (bill_of (announcements h) a.cusip) a.maturity) _ clear.1)),
+      (AllByRecursion-front IsClear (fault_rows (fault_of a))
+      (maturity_rows (bill_of (announcements h) a.cusip) a.maturity)
+      (AllByRecursion-front IsClear
+      (fault_rows (fault_of a) ++ maturity_rows (bill_of (announcements h) a.cusip) a.maturity) _ clear.1)),
   tt,
 )
 rows-in_order h s moment other clear = tt

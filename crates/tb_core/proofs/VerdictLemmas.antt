@@ -25,4 +25,5 @@ pub verdict_on-own_rows : (h : List Entry) (s : List ℕ) (n : ℕ) (moment : Mo
     → nat_le 1048576 (sent_by h s) ≡ false
     → verdict_on h s n moment m ≡ outcome (refusal_in (rows_of h s moment m)) (verdict.Accepted n moment)
 verdict_on-own_rows h s n moment m caller permitted unused few =
-    rw (caller, permitted, unused, few) (first_of-refused verdict.Refused (rows_of h s moment m) (verdict.Accepted n moment))
+    rw (caller, permitted, unused, few)
+    (first_of-refused verdict.Refused (rows_of h s moment m) (verdict.Accepted n moment))

@@ -13,7 +13,8 @@ use Rattle.tb_history.specs.Awarded.{Bidding, sought_in}
 use Rattle.tb_history.specs.Holdings.{bidding_in}
 use Rattle.tb_history.specs.Readings.{AreRecognisedOf, OfAnnounced}
 
--- where the bids reach what is sought, the awards come to no less and to little more; where they fall short, all that is
+-- where the bids reach what is sought, the awards come to no less and to little more; where they fall short, all that
+-- is
 -- recognised is awarded
 pub record HasCloseAwards (bidding : Bidding) (figures : Figures) : Type 0 where
   pub recognised : List RateLine

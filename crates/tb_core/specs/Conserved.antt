@@ -8,8 +8,10 @@ use Rattle.tb_history.specs.Roster.{registrations, announcements, redemptions, i
 use Rattle.tb_history.specs.Holdings.{held_of, issued, paid_to, pledged_of}
 use Rattle.tb_history.specs.Moves.{has_bill}
 
--- of every announced bill: what all participants hold sums to what was issued, or to nothing once it is redeemed; then what
--- they were paid sums to what was issued; nobody has pledged more than it holds; and no more is issued than is summed up
+-- of every announced bill: what all participants hold sums to what was issued, or to nothing once it is redeemed; then
+-- what
+-- they were paid sums to what was issued; nobody has pledged more than it holds; and no more is issued than is summed
+-- up
 pub record IsConserved (history : List Entry) : Type 0 where
   pub holdings : (cusip : Cusip) → has_bill (announcements history) cusip.bytes ≡ true
       → sum_by (λ (r : Registration). held_of history r.submitter cusip) (registrations history)

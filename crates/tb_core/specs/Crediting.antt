@@ -44,8 +44,9 @@ movement_in tables sender number (message.Settle auction) =
 movement_in tables sender number other =
     movement_by (numbers_in tables.submitters.list tables.auctions.list) [] sender number other
 
--- there is room to cut an auction
+-- there is room to cut an auction, and for all awards
 pub record HasSettleRoom (tables : Tables) : Type 0 where
   pub lines : length tables.bids.list ≤ tables.scratch.recognised.line_room
   pub bidders : length tables.bidders.list ≤ tables.scratch.recognised.bidder_room
   pub positions : length tables.bidders.list ≤ vec_capacity tables.scratch.positions
+  pub awards : length tables.bidders.list ≤ vec_capacity tables.scratch.awards

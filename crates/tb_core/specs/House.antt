@@ -1,10 +1,15 @@
 -- The host as contracts see it, and how its tables are tied to the history.
-use Rattle.std.specs.Prelude.{◌≡◌, ℕ, ◌+◌, ◌*◌, ◌^◌, ◌<◌, ◌≤◌, ◌++◌, List, None, length}
+use Rattle.std.specs.Prelude.{◌≡◌, ℕ, ◌+◌, ◌*◌, ◌^◌, ◌<◌, ◌≤◌, ◌++◌, List, [], ◌∷◌, None, length}
 use Rattle.std.specs.List.{AllByRecursion}
 use Rattle.tb_terms.specs.declared.announcement.Announcement.{Announcement}
 use Rattle.tb_terms.specs.Faults.{fault_of}
 use Rattle.tb_message.specs.declared.message.Entry.{Entry}
 use Rattle.tb_message.specs.declared.message.Message.{Message}
+use Rattle.tb_message.specs.declared.message.Message.TheVariants as message
+use Rattle.tb_shelf.specs.Shelves.{IsChanged, IsLowered, Shelved}
+use Rattle.tb_units.specs.declared.moment.Moment.{Moment}
+use Rattle.tb_history.specs.declared.bids.Bid.{Bid}
+use Rattle.tb_history.specs.Readings.{place_of}
 use Rattle.tb_history.specs.Entries.{registered_by, enrolled_by, entered_by, announced_by, published_by, settled_by, redeemed_by, bid_by, cancelled_by, reported_by}
 use Rattle.tb_history.specs.Roster.{registrations, enrolments, holidays, announcements, publications, settlements, redemptions}
 use Rattle.tb_history.specs.LiveBids.{bids, cancels, reports}
@@ -59,7 +64,8 @@ pub record HasRows (room : ℕ) (tables : Tables) : Type 0 where
   pub places : room ≤ tables.shelf.places
   pub calendar : room ≤ tables.calendar.spare
 
--- so many messages may move par, where there are so many bidders: a settlement may open an account for each, and each message
+-- so many messages may move par, where there are so many bidders: a settlement may open an account for each, and each
+-- message
 -- may enrol one more
 pub record HasAccountRoom (room bidders : ℕ) (book : Book) : Type 0 where
   pub accounts : room * (bidders + room) ≤ book.spare_accounts
@@ -122,6 +128,34 @@ pub record AreSame (old new : Tables) : Type 0 where
 -- an announcement that the message makes is in order
 abbrev pub IsInOrder : Message → Type 0
 IsInOrder message = AllByRecursion (λ (a : Announcement). fault_of a ≡ None) (announced_by message)
+
+-- the message is a bid
+abbrev pub IsBid : Message → Type 0
+IsBid (message.Bid auction bidder rate amount) = Unit {0}
+IsBid other = ⊥
+
+-- the last entry is a bid, and the entry before it, if there is one, has this moment
+pub record EndsWithBid (history : List Entry) (before : Moment) : Type 0 where
+  pub earlier : List Entry
+  pub last : Entry
+  pub is : history ≡ earlier ++ last ∷ []
+  pub bid : IsBid last.message
+  pub moment : before.seconds ≡ last_of earlier
+
+-- the tables with other bids and books, and another last moment
+abbrev pub with_bids : Tables → Listed Bid → Shelved → Moment → Tables
+with_bids tables bids shelf last = record tables { bids = bids; shelf = shelf; last = last }
+
+-- the last bid is taken back, its line is out of its auction's book, and the last moment is the one before it
+pub record IsTakenBack (before : Moment) (old new : Tables) : Type 0 where
+  pub bid : Bid
+  pub bids : old.bids.list ≡ new.bids.list ++ bid ∷ []
+  pub spare : old.bids.spare ≤ new.bids.spare
+  pub books : IsChanged bid.auction (IsLowered (place_of old.bidders.list bid.bidder) bid.number) old.shelf.books
+      new.shelf.books
+  pub ready : new.shelf.ready ≡ old.shelf.ready
+  pub places : new.shelf.places ≡ old.shelf.places
+  pub same : new ≡ with_bids old new.bids new.shelf before
 
 -- the host's entries and tables are tied, so many messages may be applied, and a settlement finds its room
 pub record IsHouse (entries : Listed Entry) (tables : Tables) (room : ℕ) : Type 0 where

@@ -35,7 +35,8 @@ pub record HasRoomAhead (shelf : Shelved) (lasts : ℕ) (messages : List Message
   pub places : list_all (has_place shelf.books (length messages)) messages ≡ true
   pub settling : list_any settles messages ≡ true → length messages ≤ lasts
 
--- There is room to apply the messages in order, or those of them that are accepted: each takes at most one place of each
+-- There is room to apply the messages in order, or those of them that are accepted: each takes at most one place of
+-- each
 -- table and of one book; a book stands ready for each announcement, with a place for each message; and a settlement
 -- finds its room.
 pub record Fits (room : Room) (messages : List Message) : Type 0 where
@@ -50,6 +51,11 @@ KeepsRoom old new = (messages : List Message) → Fits old messages → Fits new
 abbrev pub TakesRoom : Message → Room → Room → Type 0
 TakesRoom message old new = (messages : List Message) → Fits old (message ∷ messages) → Fits new messages
 
--- the messages of the entries that are still undecided, and one more
+-- the messages of the entries that are still undecided, and then those that are asked, each under a number
+abbrev pub behind_all : List Entry → List (ℕ × Message) → List Message
+behind_all ahead messages =
+    map (λ (entry : Entry). entry.message) ahead ++ map (λ (asked : ℕ × Message). asked.1) messages
+
+-- and one more
 abbrev pub behind : List Entry → Message → List Message
 behind ahead message = map (λ (entry : Entry). entry.message) ahead ++ message ∷ []

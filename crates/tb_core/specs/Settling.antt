@@ -10,6 +10,7 @@ pub record HasScratch (bids bidders : ℕ) (scratch : Scratch) : Type 0 where
   pub lines : 0 < scratch.lasts → bids + scratch.lasts ≤ scratch.recognised.line_room
   pub bidders_too : 0 < scratch.lasts → bidders + scratch.lasts ≤ scratch.recognised.bidder_room
   pub positions : 0 < scratch.lasts → bidders + scratch.lasts ≤ vec_capacity scratch.positions
+  pub awards : 0 < scratch.lasts → bidders + scratch.lasts ≤ vec_capacity scratch.awards
 
 -- the room of a settlement lasts for a message fewer
 pub record IsTaken (old new : Scratch) : Type 0 where
@@ -22,6 +23,7 @@ pub record KeepsScratch (old new : Scratch) : Type 0 where
   pub lines : old.recognised.line_room ≤ new.recognised.line_room
   pub bidders : old.recognised.bidder_room ≤ new.recognised.bidder_room
   pub positions : vec_capacity old.positions ≤ vec_capacity new.positions
+  pub awards : vec_capacity old.awards ≤ vec_capacity new.awards
 
 -- the reported position of each of some bidders in an auction
 abbrev pub positions_by : List Report → List ℕ → List Enrolment → List ℤ

@@ -20,8 +20,8 @@ use tb_movements::{pledge, redeem, release, reserve, transfer};
 use tb_terms::Cusip;
 use tb_units::{Dollars, Ident, OutOfMemory};
 
-/// Makes it sure that so many messages can be entered, where so many bidders are enrolled. A settlement may open an account
-/// for each bidder, and each message may enrol one more.
+/// Makes it sure that so many messages can be entered, where so many bidders are enrolled. A settlement may open an
+/// account for each bidder, and each message may enrol one more.
 pub fn reserve_accounts(
     accounts: &mut Accounts,
     bidders: usize,
@@ -77,7 +77,9 @@ pub fn free_par(
 ) -> Dollars
     requires submitters { length submitters.now.list < 2 ^ 32 }
     requires auctions { length auctions.now.list < 2 ^ 32 }
-    ensures { result.value ≡ free_of ((numbers_in submitters.now.list auctions.now.list).holder name.now) ((numbers_in submitters.now.list auctions.now.list).security cusip.now.bytes) accounts.now }
+    ensures { result.value
+        ≡ free_of ((numbers_in submitters.now.list auctions.now.list).holder name.now)
+        ((numbers_in submitters.now.list auctions.now.list).security cusip.now.bytes) accounts.now }
 {
     let holder = holder_number(submitters, name);
     let security = bill_number(auctions, cusip);
@@ -87,7 +89,8 @@ pub fn free_par(
 /// How many pledges of the participant are open.
 pub fn open_pledges(accounts: &Accounts, submitters: &Submitters, name: &Ident) -> u64
     requires { length submitters.now.list < 2 ^ 32 }
-    ensures { result ≡ open_marks_of (position_or_len (λ r. is_same r.submitter name.now) submitters.now.list) accounts.now }
+    ensures { result ≡ open_marks_of (position_or_len (λ r. is_same r.submitter name.now) submitters.now.list)
+        accounts.now }
 {
     accounts.open_marks(holder_number(submitters, name))
 }
@@ -100,9 +103,13 @@ pub fn find_pledge(
     number: u64,
 ) -> Option<Mark>
     requires { length submitters.now.list < 2 ^ 32 }
-    ensures none { IsNone result ↔ (mark_of (position_or_len (λ r. is_same r.submitter name.now) submitters.now.list) number accounts.now ≡ None) }
-    ensures found { IfSome result (λ mark. mark_of (position_or_len (λ r. is_same r.submitter name.now) submitters.now.list) number accounts.now
-        ≡ Some (new_mark (position_or_len (λ r. is_same r.submitter name.now) submitters.now.list) number mark.pledgee mark.security mark.left.value)) }
+    ensures none { IsNone result
+        ↔ (mark_of (position_or_len (λ r. is_same r.submitter name.now) submitters.now.list) number accounts.now
+        ≡ None) }
+    ensures found { IfSome result
+        (λ mark. mark_of (position_or_len (λ r. is_same r.submitter name.now) submitters.now.list) number accounts.now
+        ≡ Some (new_mark (position_or_len (λ r. is_same r.submitter name.now) submitters.now.list)
+        number mark.pledgee mark.security mark.left.value)) }
 {
     accounts.mark(holder_number(submitters, name), number)
 }
@@ -149,7 +156,8 @@ fn enter_redemption(accounts: &mut Accounts, security: u32)
     let _ = redeem(accounts, security);
 }
 
-/// Moves what a message of a sender under its number moves, unless it settles an auction. None that moves par is refused.
+/// Moves what a message of a sender under its number moves, unless it settles an auction. None that moves par is
+/// refused.
 pub fn account(
     accounts: &mut Accounts,
     submitters: &Submitters,
@@ -164,8 +172,11 @@ pub fn account(
     requires accounts { 0 < accounts.old.spare_accounts }
     requires marks { 0 < accounts.old.spare_marks }
     requires redeems { 0 < accounts.old.spare_redeems }
-    requires ready { IsReady (movement_by (numbers_in submitters.now.list auctions.now.list) [] sender.now number message.now) accounts.old }
-    ensures told { TellsNext (movement_by (numbers_in submitters.now.list auctions.now.list) [] sender.now number message.now) accounts.old accounts.new }
+    requires ready { IsReady
+        (movement_by (numbers_in submitters.now.list auctions.now.list) [] sender.now number message.now) accounts.old }
+    ensures told { TellsNext
+        (movement_by (numbers_in submitters.now.list auctions.now.list) [] sender.now number message.now)
+        accounts.old accounts.new }
     ensures room { TakesRoom 1 1 1 accounts.old accounts.new }
 {
     match message {

@@ -1,10 +1,11 @@
-//! What the messages of undecided entries need, and of one more.
+//! What the messages of undecided entries need, and those that are asked behind them.
 ghost use Rattle.std.specs.Prelude.{◌≡◌, ◌≤◌, true, length, OnOk};
 ghost use Rattle.std.specs.List.{filter, list_all, list_any};
-ghost use Rattle.tb_core.specs.Rooms.{announces, behind, has_place, settles};
+ghost use Rattle.tb_core.specs.Rooms.{announces, behind_all, has_place, settles};
 ghost use Rattle.tb_core.specs.Rooms as rooms;
 ghost use Rattle.tb_core.specs.Shelving.{IsKeptShelf};
 
+use crate::asked::HasMessage;
 use tb_message::{Entry, Message};
 use tb_shelf::Shelf;
 use tb_units::OutOfMemory;
@@ -21,39 +22,36 @@ fn settles(message: &Message) -> bool
     matches!(message, Message::Settle { .. })
 }
 
-fn count_before(ahead: &[Entry]) -> usize
-    ensures few { result ≤ length ahead.now }
-    ensures count { result ≡ length (filter (λ entry. rooms.announces entry.message) ahead.now) }
+// How many of the messages of these are announcements.
+fn count_in<T: HasMessage>(items: &[T]) -> usize
+    ensures few { result ≤ length items.now }
+    ensures count { result ≡ length (filter (λ item. rooms.announces (T.message_of item)) items.now) }
 {
-    ahead
+    items
         .iter()
-        .filter(|entry| announces(&entry.message))
+        .filter(|item| announces(item.message()))
         .count()
 }
 
 /// How many of them are announcements.
-pub fn count_announced(ahead: &[Entry], message: &Message) -> usize
-    ensures { result ≡ length (filter announces (behind ahead.now message.now)) }
+pub fn count_announced(ahead: &[Entry], messages: &[(u64, Message)]) -> usize
+    ensures { result ≡ length (filter announces (behind_all ahead.now messages.now)) }
 {
-    let before = count_before(ahead);
-    if announces(message) {
-        before + 1
-    } else {
-        before
-    }
+    count_in(ahead) + count_in(messages)
 }
 
-fn settles_before(ahead: &[Entry]) -> bool
-    ensures { result ≡ list_any (λ entry. rooms.settles entry.message) ahead.now }
+// Whether one of the messages of these is a settlement.
+fn settles_in<T: HasMessage>(items: &[T]) -> bool
+    ensures { result ≡ list_any (λ item. rooms.settles (T.message_of item)) items.now }
 {
-    ahead.iter().any(|entry| settles(&entry.message))
+    items.iter().any(|item| settles(item.message()))
 }
 
 /// Whether one of them is a settlement.
-pub fn has_settlement(ahead: &[Entry], message: &Message) -> bool
-    ensures { result ≡ list_any settles (behind ahead.now message.now) }
+pub fn has_settlement(ahead: &[Entry], messages: &[(u64, Message)]) -> bool
+    ensures { result ≡ list_any settles (behind_all ahead.now messages.now) }
 {
-    settles_before(ahead) || settles(message)
+    settles_in(ahead) || settles_in(messages)
 }
 
 // Whether the book that a bid names, if there is one, has so many places.
@@ -66,19 +64,20 @@ fn has_place(shelf: &Shelf, message: &Message, places: u64) -> bool
     }
 }
 
-fn have_places_before(shelf: &Shelf, ahead: &[Entry], places: u64) -> bool
-    ensures { result ≡ list_all (λ entry. rooms.has_place shelf.now.books places entry.message) ahead.now }
+// Whether each of the messages of these has a book with so many places.
+fn have_places_in<T: HasMessage>(shelf: &Shelf, items: &[T], places: u64) -> bool
+    ensures { result ≡ list_all (λ item. rooms.has_place shelf.now.books places (T.message_of item)) items.now }
 {
-    ahead
+    items
         .iter()
-        .all(|entry| has_place(shelf, &entry.message, places))
+        .all(|item| has_place(shelf, item.message(), places))
 }
 
 /// Whether each of them has a book with so many places.
-pub fn have_places(shelf: &Shelf, ahead: &[Entry], message: &Message, places: u64) -> bool
-    ensures { result ≡ list_all (has_place shelf.now.books places) (behind ahead.now message.now) }
+pub fn have_places(shelf: &Shelf, ahead: &[Entry], messages: &[(u64, Message)], places: u64) -> bool
+    ensures { result ≡ list_all (has_place shelf.now.books places) (behind_all ahead.now messages.now) }
 {
-    have_places_before(shelf, ahead, places) && has_place(shelf, message, places)
+    have_places_in(shelf, ahead, places) && have_places_in(shelf, messages, places)
 }
 
 // Makes so many places sure in the book that a bid names, if there is one.
@@ -92,18 +91,33 @@ fn reserve_place(shelf: &mut Shelf, message: &Message, places: u64) -> Result<()
     }
 }
 
+// Makes so many places sure in the book of each of the messages of these.
+fn reserve_places_in<T: HasMessage>(
+    shelf: &mut Shelf,
+    items: &[T],
+    places: u64,
+) -> Result<(), OutOfMemory>
+    ensures places { OnOk result
+        (list_all (λ item. rooms.has_place shelf.new.books places (T.message_of item)) items.now ≡ true) }
+    ensures kept { IsKeptShelf shelf.old shelf.new }
+{
+    for item in items {
+        reserve_place(shelf, item.message(), places)?;
+    }
+    Ok(())
+}
+
 /// Makes so many places sure in the book of each of them.
 pub fn reserve_places(
     shelf: &mut Shelf,
     ahead: &[Entry],
-    message: &Message,
+    messages: &[(u64, Message)],
     places: u64,
 ) -> Result<(), OutOfMemory>
-    ensures places { OnOk result (list_all (has_place shelf.new.books places) (behind ahead.now message.now) ≡ true) }
+    ensures places { OnOk result (list_all (has_place shelf.new.books places) (behind_all ahead.now messages.now)
+        ≡ true) }
     ensures kept { IsKeptShelf shelf.old shelf.new }
 {
-    for entry in ahead {
-        reserve_place(shelf, &entry.message, places)?;
-    }
-    reserve_place(shelf, message, places)
+    reserve_places_in(shelf, ahead, places)?;
+    reserve_places_in(shelf, messages, places)
 }

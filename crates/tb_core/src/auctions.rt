@@ -43,16 +43,18 @@ pub fn bill_terms(auctions: &Auctions, cusip: &Cusip) -> Option<Terms>
 }
 
 fn place_of_unsettled(auctions: &[Terms], settled: &Names, cusip: &Cusip) -> Option<usize>
-    ensures { result ≡ position (λ t. is_same t.announcement.cusip.bytes cusip.now.bytes && not (is_named settled.now.list t.announcement.auction)) auctions.now }
+    ensures { result ≡ position (λ t. is_same t.announcement.cusip.bytes cusip.now.bytes
+        && not (is_named settled.now.list t.announcement.auction)) auctions.now }
 {
     auctions.iter().position(|t| {
         t.announcement.cusip.bytes == cusip.bytes && !has_name(settled, &t.announcement.auction)
     })
 }
 
-#[tactic(auto, using(crate::proofs::FindLemmas::found_at, crate::proofs::FindLemmas::found_none))]
+#[tactic(auto, using(tb_shelf::proofs::FindLemmas::found_at, tb_shelf::proofs::FindLemmas::found_none))]
 fn unsettled_at(auctions: &[Terms], settled: &Names, cusip: &Cusip) -> Option<Terms>
-    ensures { result ≡ find (λ t. is_same t.announcement.cusip.bytes cusip.now.bytes && not (is_named settled.now.list t.announcement.auction)) auctions.now }
+    ensures { result ≡ find (λ t. is_same t.announcement.cusip.bytes cusip.now.bytes
+        && not (is_named settled.now.list t.announcement.auction)) auctions.now }
 {
     let place = place_of_unsettled(auctions, settled, cusip)?;
     Some(auctions[place])

@@ -14,8 +14,10 @@ use tb_units::Ident;
 /// The book of the auction, which has its live bids. There is one exactly where the auction is announced.
 pub fn book_of<'a>(tables: &'a Tables, auction: &Ident) -> Option<&'a Book>
     ensures booked { IfSome result (λ book. (history : List Entry) (a : Announcement) → AreTied history tables.now
-        → announcement_of (announcements history) auction.now ≡ Some a → AreBooked (bidding_in history a) book.now.lines) }
-    ensures there { (history : List Entry) → AreTied history tables.now → is_some result ≡ is_some (announcement_of (announcements history) auction.now) }
+        → announcement_of (announcements history) auction.now ≡ Some a
+        → AreBooked (bidding_in history a) book.now.lines) }
+    ensures there { (history : List Entry) → AreTied history tables.now
+        → is_some result ≡ is_some (announcement_of (announcements history) auction.now) }
 {
     tables.shelf.book(auction)
 }

@@ -24,7 +24,8 @@ impl Model for Calendar {
 
     ghost Value = { Listed Day };
 
-    ghost view = { λ calendar. record { list = calendar.days.items; spare = vec_capacity calendar.days - vec_len calendar.days } };
+    ghost view = { λ calendar.
+        record { list = calendar.days.items; spare = vec_capacity calendar.days - vec_len calendar.days } };
 
     ghost invariant = { λ calendar. AreByDate calendar.days.items };
 }
@@ -37,8 +38,10 @@ fn place_of(days: &[Day], day: Day) -> usize
 }
 
 fn is_at(days: &[Day], place: usize, day: Day) -> bool
-    ensures there { result ≡ true → (place < length days.now) × ((d : Day) → (slice_index_or days.now place d).number ≡ day.number) }
-    ensures absent { result ≡ false → (d : Day) → place < length days.now → (slice_index_or days.now place d).number ≢ day.number }
+    ensures there { result ≡ true
+        → (place < length days.now) × ((d : Day) → (slice_index_or days.now place d).number ≡ day.number) }
+    ensures absent { result ≡ false → (d : Day) → place < length days.now
+        → (slice_index_or days.now place d).number ≢ day.number }
 {
     place < days.len() && days[place].number == day.number
 }
@@ -93,7 +96,8 @@ impl Calendar {
     pub fn payment_date(&self, maturity: Day) -> Day
         requires few { length self.now.list ≤ 4096 }
         requires early { maturity.number ≤ 40176 }
-        ensures { (entered : List Day) → IsCalendar self.now.list entered → payment_day entered maturity ≡ result.number }
+        ensures { (entered : List Day) → IsCalendar self.now.list entered → payment_day entered maturity
+            ≡ result.number }
     {
         payment_date(maturity, &self.days)
     }

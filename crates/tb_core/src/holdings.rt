@@ -26,7 +26,8 @@ use tb_units::{Ident, OutOfMemory};
 
 // Whether of all auctions of its bill this one was announced first.
 fn is_first(auctions: &Auctions, terms: &Terms) -> bool
-    ensures { result ≡ readings.is_first (bill_of (announced_in auctions.now.list) terms.now.announcement.cusip) terms.now.announcement }
+    ensures { result ≡ readings.is_first (bill_of (announced_in auctions.now.list) terms.now.announcement.cusip)
+        terms.now.announcement }
 {
     match bill_terms(auctions, &terms.announcement.cusip) {
         Some(first) => is_same(&first.announcement.auction, &terms.announcement.auction),
@@ -73,11 +74,13 @@ fn add_shown(
     terms: &Terms,
 ) -> Result<(), OutOfMemory>
     requires { length tables.now.auctions.list < 2 ^ 32 }
-    ensures { OnOk result ((history : List Entry) (participant : List ℕ) (front : List Announcement) → AreTied history tables.now
+    ensures { OnOk result ((history : List Entry) (participant : List ℕ) (front : List Announcement)
+        → AreTied history tables.now
         → is_registered (registrations history) participant ≡ true
         → holder ≡ (numbers_in tables.now.submitters.list tables.now.auctions.list).holder participant
         → AreHoldingLines history participant (filter (is_shown history participant) front) lines.old
-        → AreHoldingLines history participant (filter (is_shown history participant) (front ++ terms.now.announcement ∷ [])) lines.new) }
+        → AreHoldingLines history participant
+        (filter (is_shown history participant) (front ++ terms.now.announcement ∷ [])) lines.new) }
 {
     match shown_line(tables, holder, terms) {
         Some(line) => lines.push(line),
@@ -95,7 +98,8 @@ fn shown_lines(
     ensures { IfOk result (λ lines. (history : List Entry) (participant : List ℕ) → AreTied history tables.now
         → is_registered (registrations history) participant ≡ true
         → holder ≡ (numbers_in tables.now.submitters.list tables.now.auctions.list).holder participant
-        → AreHoldingLines history participant (filter (is_shown history participant) (announced_in auctions.now)) lines) }
+        → AreHoldingLines history participant (filter (is_shown history participant) (announced_in auctions.now))
+        lines) }
 {
     let mut lines = Listing::new(alloc);
     for terms in auctions {
@@ -147,12 +151,16 @@ fn add_paid(
     security: u32,
 ) -> Result<(), OutOfMemory>
     requires { length tables.now.submitters.list < 2 ^ 32 }
-    ensures { OnOk result ((history : List Entry) (cusip : Cusip) (front : List Registration) → AreTied history tables.now
+    ensures { OnOk result ((history : List Entry) (cusip : Cusip) (front : List Registration)
+        → AreTied history tables.now
         → has_bill (announcements history) cusip.bytes ≡ true
         → is_registered (registrations history) registration.now.submitter ≡ true
         → security ≡ (numbers_in tables.now.submitters.list tables.now.auctions.list).security cusip.bytes
-        → ArePaidLines history cusip (filter (λ (r : Registration). nat_lt 0 (paid_to history r.submitter cusip)) front) lines.old
-        → ArePaidLines history cusip (filter (λ (r : Registration). nat_lt 0 (paid_to history r.submitter cusip)) (front ++ registration.now ∷ [])) lines.new) }
+        → ArePaidLines history cusip (filter (λ (r : Registration). nat_lt 0 (paid_to history r.submitter cusip)) front)
+        lines.old
+        → ArePaidLines history cusip
+        (filter (λ (r : Registration). nat_lt 0 (paid_to history r.submitter cusip))
+        (front ++ registration.now ∷ [])) lines.new) }
 {
     match paid_line(tables, registration, security) {
         Some(line) => lines.push(line),
@@ -171,7 +179,8 @@ fn paid_lines(
         → has_bill (announcements history) cusip.bytes ≡ true
         → All (λ (r : Registration). is_registered (registrations history) r.submitter ≡ true) holders.now
         → security ≡ (numbers_in tables.now.submitters.list tables.now.auctions.list).security cusip.bytes
-        → ArePaidLines history cusip (filter (λ (r : Registration). nat_lt 0 (paid_to history r.submitter cusip)) holders.now) lines) }
+        → ArePaidLines history cusip
+        (filter (λ (r : Registration). nat_lt 0 (paid_to history r.submitter cusip)) holders.now) lines) }
 {
     let mut lines = Listing::new(alloc);
     for registration in holders {

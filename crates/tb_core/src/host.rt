@@ -2,6 +2,7 @@
 ghost use Rattle.std.specs.Prelude.{◌≡◌, ℕ, ℤ, List, ◌+◌, ◌*◌, ◌≤◌, ◌↔◌, true, false, is_some, Some, [], ◌∷◌, ◌++◌, length, IfOk, OnOk};
 ghost use Rattle.std.specs.Option.{option_map};
 ghost use Rattle.tb_units.specs.declared.moment.Moment.{Moment};
+ghost use Rattle.tb_message.specs.declared.message.Entry.{Entry};
 ghost use Rattle.tb_message.specs.declared.message.Message.TheVariants as message;
 ghost use Rattle.tb_message.specs.declared.query.Query.TheVariants as query;
 ghost use Rattle.tb_terms.specs.Rows.{refusal_in};
@@ -10,7 +11,7 @@ ghost use Rattle.tb_history.specs.Roster.{announcement_of, announcements, regist
 ghost use Rattle.tb_history.specs.Roster as roster;
 ghost use Rattle.tb_history.specs.Tables.{par_rows, rows_of};
 ghost use Rattle.tb_history.specs.Verdict.{is_permitted, verdict_on};
-ghost use Rattle.tb_history.specs.Legal.{Follows, last_of};
+ghost use Rattle.tb_history.specs.Legal.{Follows, IsLegal, last_of};
 ghost use Rattle.tb_history.specs.OwnPart.{own_part, moves_par};
 ghost use Rattle.tb_history.specs.LiveBids.{bids, cancels};
 ghost use Rattle.tb_history.specs.Answer.{asked_rows, asks_on, auction_rows, query_refusal, submitter_of};
@@ -20,8 +21,8 @@ ghost use Rattle.tb_history.specs.Readings.{AreAwards, AreHoldings, AreResults, 
 ghost use Rattle.tb_results.specs.Biddings.{AreBooked};
 ghost use Rattle.tb_core.specs.Conserved.{IsConserved};
 ghost use Rattle.tb_core.specs.CloseAwards.{IsClose};
-ghost use Rattle.tb_core.specs.House.{IsHouse, room_of};
-ghost use Rattle.tb_core.specs.Rooms.{Fits, KeepsRoom, TakesRoom, behind};
+ghost use Rattle.tb_core.specs.House.{EndsWithBid, IsHouse, room_of};
+ghost use Rattle.tb_core.specs.Rooms.{Fits, KeepsRoom, TakesRoom, behind, behind_all};
 
 use crate::accounts::{find_pledge, free_par, holder_number, open_pledges};
 use crate::auctions::{bill_terms, terms_of, unsettled_terms};
@@ -51,12 +52,24 @@ use tb_terms::{Announcement, Cusip, EasternDays, Refusal, Terms};
 use tb_units::{Dollars, Ident, Moment, OutOfMemory, Rate};
 
 /// All that was accepted. Contracts see the history, which is legal, and for which messages there is room.
-#[derive(Drop)]
 pub struct Host {
     days: EasternDays,
     entries: Entries,
     tables: Tables,
     room: usize,
+}
+
+// By hand, so that letting go of a host is one call wherever it happens: a derived one would be written out, table by
+// table, at each way out of each function that has a host.
+impl Drop for Host {
+    fn drop(self) {
+        let Host {
+            days: _,
+            entries: _,
+            tables: _,
+            room: _,
+        } = self;
+    }
 }
 
 impl Model for Host {
@@ -69,23 +82,23 @@ impl Model for Host {
     ghost invariant = { λ h. IsHouse h.entries h.tables h.room };
 }
 
-// Takes the room for the messages of these entries, and then for this one.
+// Takes the room for the messages of these entries, and then for these.
 fn reserve(
     entries: &mut Entries,
     tables: &mut Tables,
     room: &mut usize,
     ahead: &[Entry],
-    message: &Message,
+    messages: &[(u64, Message)],
 ) -> Result<(), OutOfMemory>
     requires { IsHouse entries.old tables.old room.old }
-    ensures fits { OnOk result (Fits (room_of room.new tables.new) (behind ahead.now message.now)) }
+    ensures fits { OnOk result (Fits (room_of room.new tables.new) (behind_all ahead.now messages.now)) }
     ensures house { IsHouse entries.new tables.new room.new }
     ensures history { entries.new.list ≡ entries.old.list }
     ensures room { KeepsRoom (room_of room.old tables.old) (room_of room.new tables.new) }
 {
-    let more = ahead.len() + 1;
+    let more = ahead.len() + messages.len();
     entries.reserve(more)?;
-    tables.reserve(ahead, message)?;
+    tables.reserve(ahead, messages)?;
     *room = (*room).max(more);
     Ok(())
 }
@@ -116,6 +129,18 @@ fn enter(
     *room -= 1;
 }
 
+// Takes the last entry back everywhere, which is a bid.
+fn take_back(entries: &mut Entries, tables: &mut Tables, before: Moment)
+    requires house { (room : ℕ) × IsHouse entries.old tables.old room }
+    requires bid { EndsWithBid entries.old.list before }
+    ensures house { (room : ℕ) → IsHouse entries.old tables.old room → IsHouse entries.new tables.new room }
+    ensures history { (earlier : List Entry) (last : Entry) → entries.old.list ≡ earlier ++ last ∷ []
+        → entries.new.list ≡ earlier }
+{
+    let _ = entries.pop();
+    tables.take_back(before);
+}
+
 impl Host {
     // Accepted messages of one submitter.
     const MOST_MESSAGES: usize = 1_048_576;
@@ -134,9 +159,23 @@ impl Host {
     }
 
     /// Takes the memory to apply the messages of the entries that are still undecided, and then this one. No other call
-    /// takes memory but `read`.
+    /// takes memory but `make_room_group` and `read`.
     pub fn make_room(&mut self, ahead: &[Entry], message: &Message) -> Result<(), OutOfMemory>
         ensures fits { OnOk result (Fits self.new.room (behind ahead.now message.now)) }
+        // The history stays, and no room is lost, whatever the result.
+        ensures history { self.new.history ≡ self.old.history }
+        ensures room { KeepsRoom self.old.room self.new.room }
+    {
+        self.make_room_group(ahead, &[(0, *message)])
+    }
+
+    /// Takes the memory to apply the messages of the entries that are still undecided, and then these in their order.
+    pub fn make_room_group(
+        &mut self,
+        ahead: &[Entry],
+        messages: &[(u64, Message)],
+    ) -> Result<(), OutOfMemory>
+        ensures fits { OnOk result (Fits self.new.room (behind_all ahead.now messages.now)) }
         // The history stays, and no room is lost, whatever the result.
         ensures history { self.new.history ≡ self.old.history }
         ensures room { KeepsRoom self.old.room self.new.room }
@@ -146,7 +185,7 @@ impl Host {
             &mut self.tables,
             &mut self.room,
             ahead,
-            message,
+            messages,
         )
     }
 
@@ -154,10 +193,17 @@ impl Host {
     pub fn has_room(&self, ahead: &[Entry], message: &Message) -> bool
         ensures { (result ≡ true) ↔ Fits self.now.room (behind ahead.now message.now) }
     {
-        if ahead.len() + 1 > self.room {
+        self.has_room_group(ahead, &[(0, *message)])
+    }
+
+    /// Whether there is room to apply the messages of these entries, and then these in their order.
+    pub fn has_room_group(&self, ahead: &[Entry], messages: &[(u64, Message)]) -> bool
+        ensures { (result ≡ true) ↔ Fits self.now.room (behind_all ahead.now messages.now) }
+    {
+        if ahead.len() + messages.len() > self.room {
             return false;
         }
-        self.tables.has_room_ahead(ahead, message)
+        self.tables.has_room_ahead(ahead, messages)
     }
 
     /// The submitter that is registered with the key.
@@ -188,6 +234,7 @@ impl Host {
     pub fn entries(&self) -> u64
         ensures entries { result ≡ length self.now.history }
         ensures limit { length self.now.history ≤ 4097 * 1048576 }
+        ensures legal { IsLegal self.now.history }
     {
         self.entries.rows().len() as u64
     }
@@ -204,7 +251,8 @@ impl Host {
         // Par is conserved over all that was accepted.
         ensures conserved { IsConserved self.now.history }
         // Replies are sealed: they are those on the sender's own part of the history.
-        ensures sealed { moves_par message.now ≡ false → result ≡ verdict_on (own_part submitter.now self.now.history) submitter.now number moment message.now }
+        ensures sealed { moves_par message.now ≡ false
+            → result ≡ verdict_on (own_part submitter.now self.now.history) submitter.now number moment message.now }
     {
         let _ = &self.days;
         self.verdict(submitter, number, moment, message)
@@ -227,6 +275,16 @@ impl Host {
         );
     }
 
+    /// Takes back the last entry, which is a bid, where `before` is the moment of the entry before it, and the first
+    /// moment there is where there is none. It takes no memory. What fits afterwards isn't said.
+    pub fn take_back(&mut self, before: Moment)
+        requires { EndsWithBid self.old.history before }
+        ensures { (earlier : List Entry) (last : Entry) → self.old.history ≡ earlier ++ last ∷ []
+            → self.new.history ≡ earlier }
+    {
+        take_back(&mut self.entries, &mut self.tables, before);
+    }
+
     /// What a query of the submitter is answered.
     pub fn read(
         &self,
@@ -234,13 +292,17 @@ impl Host {
         submitter: &Ident,
         query: &Query,
     ) -> Result<Reading, QueryRefused>
-        ensures refused { (refusal : Refusal) → (result ≡ Err (QueryRefused.Refused refusal)) ↔ (query_refusal self.now.history submitter.now query.now ≡ Some refusal) }
+        ensures refused { (refusal : Refusal) → (result ≡ Err (QueryRefused.Refused refusal))
+            ↔ (query_refusal self.now.history submitter.now query.now ≡ Some refusal) }
         ensures reading { IfOk result (λ reading. IsReading self.now.history submitter.now query.now reading) }
-        // Answers are sealed: a refusal is that on the submitter's own part of the history, and so is what is read on an
-        // auction whose results aren't published.
-        ensures sealed_refusal { (refusal : Refusal) → (result ≡ Err (QueryRefused.Refused refusal)) ↔ (query_refusal (own_part submitter.now self.now.history) submitter.now query.now ≡ Some refusal) }
-        ensures sealed_reading { (auction : List ℕ) → asks_on auction query.now ≡ true → is_published self.now.history auction ≡ false
-            → IfOk result (λ reading. IsReading (own_part submitter.now self.now.history) submitter.now query.now reading) }
+        // Answers are sealed: a refusal is that on the submitter's own part of the history, and so is what is read on
+        // an auction whose results aren't published.
+        ensures sealed_refusal { (refusal : Refusal) → (result ≡ Err (QueryRefused.Refused refusal))
+            ↔ (query_refusal (own_part submitter.now self.now.history) submitter.now query.now ≡ Some refusal) }
+        ensures sealed_reading { (auction : List ℕ) → asks_on auction query.now ≡ true
+            → is_published self.now.history auction ≡ false
+            → IfOk result (λ reading. IsReading (own_part submitter.now self.now.history)
+            submitter.now query.now reading) }
         ensures close { IfOk result (λ reading. IsClose self.now.history query.now reading) }
         // Par is conserved over all that is read.
         ensures conserved { IsConserved self.now.history }
@@ -283,7 +345,9 @@ impl Host {
     }
 
     fn auction_refusal(&self, auction: &Ident, shows_results: bool) -> Option<Refusal>
-        ensures { result ≡ refusal_in (auction_rows (announcement_of (announcements self.now.history) auction.now) shows_results (is_published self.now.history auction.now)) }
+        ensures { result ≡ refusal_in
+            (auction_rows (announcement_of (announcements self.now.history) auction.now) shows_results
+            (is_published self.now.history auction.now)) }
     {
         let terms = terms_of(&self.tables.auctions, auction);
         let published = has_name(&self.tables.published, auction);
@@ -322,7 +386,9 @@ impl Host {
 
     fn results(&self, alloc: Global, auction: &Ident) -> Result<Results, OutOfMemory>
         requires { is_some (announcement_of (announcements self.now.history) auction.now) ≡ true }
-        ensures { IfOk result (λ results. OfAnnounced self.now.history auction.now (λ a. AreResults (bidding_in self.now.history a) results)) }
+        ensures { IfOk result
+            (λ results. OfAnnounced self.now.history auction.now
+            (λ a. AreResults (bidding_in self.now.history a) results)) }
     {
         let terms = self.announced(auction);
         results_reading(alloc, &self.tables, &terms, self.book(auction))
@@ -330,14 +396,16 @@ impl Host {
 
     fn awards(&self, alloc: Global, caller: &Ident, auction: &Ident) -> Result<Awards, OutOfMemory>
         requires { is_some (announcement_of (announcements self.now.history) auction.now) ≡ true }
-        ensures { IfOk result (λ lines. OfAnnounced self.now.history auction.now (λ a. AreAwards self.now.history a caller.now lines)) }
+        ensures { IfOk result
+            (λ lines. OfAnnounced self.now.history auction.now (λ a. AreAwards self.now.history a caller.now lines)) }
     {
         let terms = self.announced(auction);
         awards_reading(alloc, &self.tables, &terms, self.book(auction), caller)
     }
 
     fn bids(&self, alloc: Global, caller: &Ident, auction: &Ident) -> Result<Bids, OutOfMemory>
-        ensures { IfOk result (λ lines. lines ≡ bid_lines (bids self.now.history) (cancels self.now.history) caller.now auction.now) }
+        ensures { IfOk result
+            (λ lines. lines ≡ bid_lines (bids self.now.history) (cancels self.now.history) caller.now auction.now) }
     {
         bid_lines(
             alloc,
@@ -365,7 +433,8 @@ impl Host {
     // The book of an announced auction.
     fn book(&self, auction: &Ident) -> &Book
         requires { is_some (announcement_of (announcements self.now.history) auction.now) ≡ true }
-        ensures { (a : Announcement) → announcement_of (announcements self.now.history) auction.now ≡ Some a → AreBooked (bidding_in self.now.history a) result.now.lines }
+        ensures { (a : Announcement) → announcement_of (announcements self.now.history) auction.now ≡ Some a
+            → AreBooked (bidding_in self.now.history a) result.now.lines }
     {
         book_of(&self.tables, auction).unwrap()
     }
@@ -445,7 +514,8 @@ impl Host {
     }
 
     fn announce(&self, terms: &Announcement) -> Option<Refusal>
-        ensures { (sender : List ℕ) (moment : Moment) → result ≡ refusal_in (rows_of self.now.history sender moment (message.Announce terms.now)) }
+        ensures { (sender : List ℕ) (moment : Moment)
+            → result ≡ refusal_in (rows_of self.now.history sender moment (message.Announce terms.now)) }
     {
         let redeemed = has_bill(&self.tables.redeemed, &terms.cusip);
         announce_refusal(&self.tables.auctions, redeemed, &self.days, terms)
@@ -460,7 +530,8 @@ impl Host {
         rate: Option<Rate>,
         amount: Dollars,
     ) -> Option<Refusal>
-        ensures { result ≡ refusal_in (rows_of self.now.history sender.now moment (message.Bid auction.now bidder.now rate amount)) }
+        ensures { result ≡ refusal_in
+            (rows_of self.now.history sender.now moment (message.Bid auction.now bidder.now rate amount)) }
     {
         let terms = terms_of(&self.tables.auctions, auction);
         let enrolled = is_enrolled(&self.tables.bidders, bidder, sender);
@@ -490,7 +561,9 @@ impl Host {
         auction: &Ident,
         bidder: &Ident,
     ) -> Option<Refusal>
-        ensures { (position : ℤ) → result ≡ refusal_in (rows_of self.now.history sender.now moment (message.Position auction.now bidder.now position)) }
+        ensures { (position : ℤ)
+            → result ≡ refusal_in
+            (rows_of self.now.history sender.now moment (message.Position auction.now bidder.now position)) }
     {
         let terms = terms_of(&self.tables.auctions, auction);
         let enrolled = is_enrolled(&self.tables.bidders, bidder, sender);
@@ -498,7 +571,8 @@ impl Host {
     }
 
     fn publish(&self, moment: Moment, auction: &Ident) -> Option<Refusal>
-        ensures { (sender : List ℕ) → result ≡ refusal_in (rows_of self.now.history sender moment (message.Publish auction.now)) }
+        ensures { (sender : List ℕ)
+            → result ≡ refusal_in (rows_of self.now.history sender moment (message.Publish auction.now)) }
     {
         let terms = terms_of(&self.tables.auctions, auction);
         let published = has_name(&self.tables.published, auction);
@@ -506,7 +580,8 @@ impl Host {
     }
 
     fn settle(&self, moment: Moment, auction: &Ident) -> Option<Refusal>
-        ensures { (sender : List ℕ) → result ≡ refusal_in (rows_of self.now.history sender moment (message.Settle auction.now)) }
+        ensures { (sender : List ℕ)
+            → result ≡ refusal_in (rows_of self.now.history sender moment (message.Settle auction.now)) }
     {
         let terms = terms_of(&self.tables.auctions, auction);
         let published = has_name(&self.tables.published, auction);
@@ -548,7 +623,8 @@ impl Host {
         amount: Dollars,
     ) -> Option<Refusal>
         requires { is_registered (registrations self.now.history) sender.now ≡ true }
-        ensures { result ≡ refusal_in (rows_of self.now.history sender.now moment (message.Pledge cusip.now to.now amount)) }
+        ensures { result ≡ refusal_in
+            (rows_of self.now.history sender.now moment (message.Pledge cusip.now to.now amount)) }
     {
         let as_transfer = self.transfer(sender, moment, cusip, to, amount);
         let open_marks = open_pledges(&self.tables.accounts, &self.tables.submitters, sender);
@@ -563,7 +639,9 @@ impl Host {
         amount: Dollars,
     ) -> Option<Refusal>
         requires { is_registered (registrations self.now.history) sender.now ≡ true }
-        ensures { (moment : Moment) → result ≡ refusal_in (rows_of self.now.history sender.now moment (message.Release holder.now number amount)) }
+        ensures { (moment : Moment)
+            → result ≡ refusal_in
+            (rows_of self.now.history sender.now moment (message.Release holder.now number amount)) }
     {
         let found = find_pledge(
             &self.tables.accounts,
@@ -576,7 +654,8 @@ impl Host {
     }
 
     fn redeem(&self, moment: Moment, cusip: &Cusip) -> Option<Refusal>
-        ensures { (sender : List ℕ) → result ≡ refusal_in (rows_of self.now.history sender moment (message.Redeem cusip.now)) }
+        ensures { (sender : List ℕ)
+            → result ≡ refusal_in (rows_of self.now.history sender moment (message.Redeem cusip.now)) }
     {
         let terms = bill_terms(&self.tables.auctions, cusip);
         let redeemed = has_bill(&self.tables.redeemed, cusip);

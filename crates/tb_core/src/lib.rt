@@ -3,6 +3,7 @@
 
 mod accounts;
 mod ahead;
+mod asked;
 mod auctions;
 mod bidding;
 mod books;

@@ -32,7 +32,8 @@ fn has_matured(terms: &Terms, moment: Moment) -> bool
 }
 
 fn free_refusal(free: Dollars, amount: Dollars) -> Option<Refusal>
-    ensures { result ≡ refusal_in ((refusals.InsufficientFree (dollars_of free.value), nat_lt free.value amount.value) ∷ []) }
+    ensures { result ≡ refusal_in
+        ((refusals.InsufficientFree (dollars_of free.value), nat_lt free.value amount.value) ∷ []) }
 {
     if free.value < amount.value {
         return Some(Refusal::InsufficientFree { free });
@@ -40,8 +41,8 @@ fn free_refusal(free: Dollars, amount: Dollars) -> Option<Refusal>
     None
 }
 
-/// Of a transfer, by the terms of the bill, whether the receiver is registered and whether it is the sender, whether the bill
-/// is redeemed, and what the sender has free.
+/// Of a transfer, by the terms of the bill, whether the receiver is registered and whether it is the sender, whether
+/// the bill is redeemed, and what the sender has free.
 pub fn transfer_refusal(
     terms: Option<Terms>,
     known: bool,
@@ -51,7 +52,8 @@ pub fn transfer_refusal(
     moment: Moment,
     amount: Dollars,
 ) -> Option<Refusal>
-    ensures { result ≡ refusal_in (transfer_rows (announcement_in terms) known own redeemed free.value moment amount.value) }
+    ensures { result ≡ refusal_in
+        (transfer_rows (announcement_in terms) known own redeemed free.value moment amount.value) }
 {
     let Some(terms) = terms else {
         return Some(Refusal::UnknownSecurity);
@@ -128,7 +130,11 @@ fn settled_refusal(
     payment: Day,
     moment: Moment,
 ) -> Option<Refusal>
-    ensures { result ≡ refusal_in (unsettled_rows (announcement_in unsettled) ++ (refusals.NotDue payment, nat_lt moment.seconds (start_of payment.number)) ∷ []) }
+    ensures { result ≡ refusal_in
+        (unsettled_rows (announcement_in unsettled) ++ (
+          refusals.NotDue payment,
+          nat_lt moment.seconds (start_of payment.number),
+        ) ∷ []) }
 {
     if let Some(other) = unsettled {
         return Some(Refusal::Unsettled {
@@ -138,7 +144,8 @@ fn settled_refusal(
     due_refusal(days, payment, moment)
 }
 
-/// Of a redemption, by the terms of the bill, whether it is redeemed, and the terms of its first auction that isn't settled.
+/// Of a redemption, by the terms of the bill, whether it is redeemed, and the terms of its first auction that isn't
+/// settled.
 pub fn redeem_refusal(
     days: &EasternDays,
     calendar: &Calendar,
@@ -150,7 +157,8 @@ pub fn redeem_refusal(
     requires few { length calendar.now.list ≤ 4096 }
     requires early { IfSome terms (λ t. t.announcement.maturity.number ≤ 40176) }
     ensures { (entered : List Day) → IsCalendar calendar.now.list entered
-        → result ≡ refusal_in (redeem_rows (announcement_in terms) redeemed (announcement_in unsettled) entered moment) }
+        → result
+        ≡ refusal_in (redeem_rows (announcement_in terms) redeemed (announcement_in unsettled) entered moment) }
 {
     let Some(terms) = terms else {
         return Some(Refusal::UnknownSecurity);

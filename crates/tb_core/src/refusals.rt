@@ -151,7 +151,8 @@ pub fn bid_refusal(
     rate: Option<Rate>,
     amount: Dollars,
 ) -> Option<Refusal>
-    ensures { result ≡ refusal_in (bid_rows (announcement_in terms) enrolled (standing_in own.now) moment rate amount.value) }
+    ensures { result ≡ refusal_in
+        (bid_rows (announcement_in terms) enrolled (standing_in own.now) moment rate amount.value) }
 {
     let Some(terms) = terms else {
         return Some(Refusal::UnknownAuction);

@@ -56,7 +56,8 @@ pub fn auction_refusal(
 
 /// Of a query on the redemption of a bill, by its terms and whether it is redeemed.
 pub fn redemption_refusal(terms: Option<Terms>, redeemed: bool) -> Option<Refusal>
-    ensures { result ≡ refusal_in ((refusal.UnknownSecurity, is_none (announcement_in terms)) ∷ (refusal.NotRedeemed, not redeemed) ∷ []) }
+    ensures { result ≡ refusal_in
+        ((refusal.UnknownSecurity, is_none (announcement_in terms)) ∷ (refusal.NotRedeemed, not redeemed) ∷ []) }
 {
     if terms.is_none() {
         return Some(Refusal::UnknownSecurity);

@@ -6,12 +6,13 @@ use std::alloc::Global;
 use tb_award::Recognised;
 use tb_units::OutOfMemory;
 
-/// A list of recognised lines and an array of positions, which serve all settlements, and for how many more messages
-/// their room lasts.
+/// A list of recognised lines and arrays of the bidders' positions and awards, which serve all settlements, and for how many
+/// more messages their room lasts.
 #[derive(Drop)]
 pub struct Scratch {
     pub recognised: Recognised,
     pub positions: Vec<i64>,
+    pub awards: Vec<u128>,
     pub lasts: usize,
 }
 
@@ -23,6 +24,7 @@ impl Scratch {
         Scratch {
             recognised: Recognised::empty(alloc),
             positions: Vec::new(alloc),
+            awards: Vec::new(alloc),
             lasts: 0,
         }
     }
@@ -40,6 +42,7 @@ impl Scratch {
         self.recognised
             .reserve((bids + more) as u64, (bidders + more) as u64)?;
         self.positions.reserve(bidders + more)?;
+        self.awards.reserve(bidders + more)?;
         self.lasts = self.lasts.max(more);
         Ok(())
     }

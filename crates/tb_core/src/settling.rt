@@ -33,7 +33,8 @@ fn clear(positions: &mut Vec<i64>, bidders: usize)
 // Puts a report's position at the place of its bidder, if that is enrolled.
 fn put(positions: &mut Vec<i64>, bidders: &Bidders, report: &Report)
     requires { length bidders.now.list < 2 ^ 32 }
-    ensures positions { positions.new.items ≡ slice_set positions.old.items (place_of bidders.now.list report.now.bidder) report.now.position }
+    ensures positions { positions.new.items
+        ≡ slice_set positions.old.items (place_of bidders.now.list report.now.bidder) report.now.position }
     ensures room { vec_capacity positions.new ≡ vec_capacity positions.old }
 {
     let place = number_of(bidders, &report.bidder) as usize;
@@ -46,7 +47,8 @@ fn put(positions: &mut Vec<i64>, bidders: &Bidders, report: &Report)
 fn note(positions: &mut Vec<i64>, bidders: &Bidders, report: &Report, auction: &Ident)
     requires few { length bidders.now.list < 2 ^ 32 }
     requires distinct { AreDistinct bidders.now.list }
-    ensures positions { (reported : List Report) → positions.old.items ≡ positions_by reported auction.now bidders.now.list
+    ensures positions { (reported : List Report)
+        → positions.old.items ≡ positions_by reported auction.now bidders.now.list
         → positions.new.items ≡ positions_by (reported ++ report.now ∷ []) auction.now bidders.now.list }
     ensures room { vec_capacity positions.new ≡ vec_capacity positions.old }
 {
@@ -68,8 +70,8 @@ fn note_all(positions: &mut Vec<i64>, bidders: &Bidders, reports: &Reports, auct
     }
 }
 
-/// Puts the last reported position of each bidder in the auction at the bidder's place, in whole dollars, and 0 where none is
-/// reported. It takes no memory.
+/// Puts the last reported position of each bidder in the auction at the bidder's place, in whole dollars, and 0 where
+/// none is reported. It takes no memory.
 pub fn fill_positions(
     positions: &mut Vec<i64>,
     bidders: &Bidders,
@@ -86,8 +88,8 @@ pub fn fill_positions(
     note_all(positions, bidders, reports, auction);
 }
 
-/// Recognises the bids of the auction of these terms and cuts them, by the book and the reports, in the room that was taken.
-/// What is recognised stands in the scratch list then. It takes no memory, and loses no room.
+/// Recognises the bids of the auction of these terms and cuts them, by the book and the reports, in the room that was
+/// taken. What is recognised stands in the scratch list then. It takes no memory, and loses no room.
 pub fn cut_auction(
     scratch: &mut Scratch,
     bidders: &Bidders,

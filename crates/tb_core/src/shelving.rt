@@ -10,8 +10,8 @@ use tb_message::Message;
 use tb_shelf::Shelf;
 use tb_units::Ident;
 
-/// Opens the book of an auction that is announced, adds the line of a bid of the sender under its number, or takes that of a
-/// bid that it cancels out.
+/// Opens the book of an auction that is announced, adds the line of a bid of the sender under its number, or takes that
+/// of a bid that it cancels out.
 pub fn enter_line(
     shelf: &mut Shelf,
     bidders: &Bidders,
@@ -57,7 +57,8 @@ fn cancel_line(
     number: u64,
 )
     requires { length bidders.now.list < 2 ^ 32 }
-    ensures out { IsOut bidders.now.list (bid_of bids.now.list sender.now auction.now number) auction.now number shelf.old.books shelf.new.books }
+    ensures out { IsOut bidders.now.list (bid_of bids.now.list sender.now auction.now number)
+        auction.now number shelf.old.books shelf.new.books }
     ensures ready { (shelf.new.ready ≡ shelf.old.ready) × (shelf.new.places ≡ shelf.old.places) }
 {
     if let Some(bid) = find_bid(bids, sender, auction, number) {

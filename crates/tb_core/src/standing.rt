@@ -28,11 +28,13 @@ fn sums_of(shelf: &Shelf, auction: &Ident, number: u32) -> (Dollars, Dollars)
     }
 }
 
-/// What stands of the bidder in the auction, its par by the auction's book. Accepted bids are counted up to the most there
-/// can be.
+/// What stands of the bidder in the auction, its par by the auction's book. Accepted bids are counted up to the most
+/// there can be.
 pub fn own_of(tables: &Tables, auction: &Ident, bidder: &Ident) -> Own
     requires { (history : List Entry) × AreTied history tables.now }
-    ensures { standing_in result ≡ capped (standing_of tables.now.bids.list tables.now.cancels.list tables.now.reports.list auction.now bidder.now) }
+    ensures { standing_in result
+        ≡ capped (standing_of tables.now.bids.list tables.now.cancels.list tables.now.reports.list auction.now
+        bidder.now) }
 {
     let number = number_of(&tables.bidders, bidder);
     let (competitive, noncompetitive) = sums_of(&tables.shelf, auction, number);

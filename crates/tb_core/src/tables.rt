@@ -1,6 +1,6 @@
 //! The tables of the host together.
 ghost use Rattle.std.specs.Prelude.{◌≡◌, ℕ, ◌+◌, ◌≤◌, ◌<◌, ◌^◌, ◌↔◌, true, List, Some, [], length, OnOk};
-ghost use Rattle.tb_core.specs.Rooms.{HasRoomAhead, behind, settles};
+ghost use Rattle.tb_core.specs.Rooms.{HasRoomAhead, behind_all, settles};
 ghost use Rattle.tb_core.specs.Settling.{HasScratch};
 ghost use Rattle.tb_core.specs.Shelving.{TakesMessage};
 ghost use Rattle.tb_movements.specs.Told.{IsTold};
@@ -10,7 +10,7 @@ ghost use Rattle.tb_history.specs.Roster.{announcement_of, announcements};
 ghost use Rattle.tb_core.specs.Auctions.{announced_in};
 ghost use Rattle.tb_core.specs.Accounting.{IsReady, TellsNext};
 ghost use Rattle.tb_core.specs.Crediting.{HasSettleRoom, movement_in, settled_in};
-ghost use Rattle.tb_core.specs.House.{AreFew, AreSame, AreTied, HasEntered, HasRoom, HasRows, IsInOrder, KeepsRows};
+ghost use Rattle.tb_core.specs.House.{AreFew, AreSame, AreTied, HasEntered, HasRoom, HasRows, IsInOrder, IsTakenBack, KeepsRows};
 
 use crate::accounts::{account, bill_number, reserve_accounts};
 use crate::ahead::{count_announced, has_settlement, have_places, reserve_places};
@@ -23,7 +23,7 @@ use crate::entering::{
     enter_published, enter_redeemed, enter_report, enter_settled, enter_submitter,
 };
 use crate::names::Names;
-use crate::roster::{Bidders, Bills, Holidays, Submitters};
+use crate::roster::{Bidders, Bills, Holidays, Submitters, number_of};
 use crate::scratch::Scratch;
 use crate::settling::cut_auction;
 use crate::shelving::enter_line;
@@ -36,8 +36,8 @@ use tb_shelf::Shelf;
 use tb_terms::{EasternDays, Terms};
 use tb_units::{Ident, Moment, OutOfMemory};
 
-/// What the history says of each kind, in its order, the books of its live bids, and the moment of its last entry; and what a
-/// settlement works in.
+/// What the history says of each kind, in its order, the books of its live bids, and the moment of its last entry; and
+/// what a settlement works in.
 #[derive(Drop)]
 pub struct Tables {
     pub submitters: Submitters,
@@ -60,8 +60,10 @@ pub struct Tables {
 impl Tables {
     /// Empty tables, which take no memory.
     pub fn new(alloc: Global) -> Tables
-        ensures roster { (result.submitters.list ≡ []) × (result.bidders.list ≡ []) × (result.holidays.list ≡ []) × (result.calendar.list ≡ []) }
-        ensures auctions { (result.auctions.list ≡ []) × (result.published.list ≡ []) × (result.settled.list ≡ []) × (result.redeemed.list ≡ []) }
+        ensures roster { (result.submitters.list ≡ []) × (result.bidders.list ≡ []) × (result.holidays.list ≡ [])
+            × (result.calendar.list ≡ []) }
+        ensures auctions { (result.auctions.list ≡ []) × (result.published.list ≡ []) × (result.settled.list ≡ [])
+            × (result.redeemed.list ≡ []) }
         ensures bids { (result.bids.list ≡ []) × (result.cancels.list ≡ []) × (result.reports.list ≡ []) }
         ensures shelf { (result.shelf.books ≡ []) × (result.scratch.lasts ≡ 0) }
         ensures accounts { IsTold [] result.accounts }
@@ -110,19 +112,24 @@ impl Tables {
         self.shelf.prepare(0, more as u64)
     }
 
-    // Takes the room that books and settlements need for the messages of these entries, and then for this one.
-    fn reserve_ahead(&mut self, ahead: &[Entry], message: &Message) -> Result<(), OutOfMemory>
+    // Takes the room that books and settlements need for the messages of these entries, and then for these.
+    fn reserve_ahead(
+        &mut self,
+        ahead: &[Entry],
+        messages: &[(u64, Message)],
+    ) -> Result<(), OutOfMemory>
         requires { HasScratch (length self.old.bids.list) (length self.old.bidders.list) self.old.scratch }
-        ensures ahead { OnOk result (HasRoomAhead self.new.shelf self.new.scratch.lasts (behind ahead.now message.now)) }
+        ensures ahead { OnOk result
+            (HasRoomAhead self.new.shelf self.new.scratch.lasts (behind_all ahead.now messages.now)) }
         ensures same { AreSame self.old self.new }
         ensures room { (room : ℕ) → HasRoom room self.old → HasRoom room self.new }
         ensures scratch { HasScratch (length self.new.bids.list) (length self.new.bidders.list) self.new.scratch }
     {
-        let more = ahead.len() + 1;
+        let more = ahead.len() + messages.len();
         self.shelf
-            .prepare(count_announced(ahead, message), more as u64)?;
-        reserve_places(&mut self.shelf, ahead, message, more as u64)?;
-        if has_settlement(ahead, message) {
+            .prepare(count_announced(ahead, messages), more as u64)?;
+        reserve_places(&mut self.shelf, ahead, messages, more as u64)?;
+        if has_settlement(ahead, messages) {
             let bids = self.bids.rows().len();
             let bidders = self.bidders.rows().len();
             self.scratch.reserve(bids, bidders, more)?;
@@ -130,32 +137,38 @@ impl Tables {
         Ok(())
     }
 
-    /// Takes the room for the messages of these entries, and then for this one.
-    pub fn reserve(&mut self, ahead: &[Entry], message: &Message) -> Result<(), OutOfMemory>
+    /// Takes the room for the messages of these entries, and then for these.
+    pub fn reserve(
+        &mut self,
+        ahead: &[Entry],
+        messages: &[(u64, Message)],
+    ) -> Result<(), OutOfMemory>
         requires { HasScratch (length self.old.bids.list) (length self.old.bidders.list) self.old.scratch }
-        ensures rows { OnOk result (HasRoom (length ahead.now + 1) self.new) }
-        ensures ahead { OnOk result (HasRoomAhead self.new.shelf self.new.scratch.lasts (behind ahead.now message.now)) }
+        ensures rows { OnOk result (HasRoom (length ahead.now + length messages.now) self.new) }
+        ensures ahead { OnOk result
+            (HasRoomAhead self.new.shelf self.new.scratch.lasts (behind_all ahead.now messages.now)) }
         // The rows stay, and no room is lost, whatever the result.
         ensures same { AreSame self.old self.new }
         ensures room { (room : ℕ) → HasRoom room self.old → HasRoom room self.new }
         ensures scratch { HasScratch (length self.new.bids.list) (length self.new.bidders.list) self.new.scratch }
     {
-        self.reserve_rows(ahead.len() + 1)?;
-        self.reserve_ahead(ahead, message)
+        self.reserve_rows(ahead.len() + messages.len())?;
+        self.reserve_ahead(ahead, messages)
     }
 
-    /// Whether books and settlements have the room for the messages of these entries, and then for this one.
-    pub fn has_room_ahead(&self, ahead: &[Entry], message: &Message) -> bool
-        ensures { (result ≡ true) ↔ HasRoomAhead self.now.shelf self.now.scratch.lasts (behind ahead.now message.now) }
+    /// Whether books and settlements have the room for the messages of these entries, and then for these.
+    pub fn has_room_ahead(&self, ahead: &[Entry], messages: &[(u64, Message)]) -> bool
+        ensures { (result ≡ true)
+            ↔ HasRoomAhead self.now.shelf self.now.scratch.lasts (behind_all ahead.now messages.now) }
     {
-        if count_announced(ahead, message) > self.shelf.ready() {
+        if count_announced(ahead, messages) > self.shelf.ready() {
             return false;
         }
-        let more = ahead.len() + 1;
-        if !have_places(&self.shelf, ahead, message, more as u64) {
+        let more = ahead.len() + messages.len();
+        if !have_places(&self.shelf, ahead, messages, more as u64) {
             return false;
         }
-        if has_settlement(ahead, message) {
+        if has_settlement(ahead, messages) {
             return more <= self.scratch.lasts;
         }
         true
@@ -163,13 +176,15 @@ impl Tables {
 
     // Credits what is awarded in the announced auction of these terms, which is cut by its book.
     fn settle_by(&mut self, terms: &Terms)
-        requires tied { (history : List Entry) × AreTied history self.old × (announcement_of (announcements history) terms.now.announcement.auction ≡ Some terms.now.announcement) }
+        requires tied { (history : List Entry) × AreTied history self.old
+            × (announcement_of (announcements history) terms.now.announcement.auction ≡ Some terms.now.announcement) }
         requires room { HasSettleRoom self.old }
         requires accounts { length self.old.bidders.list ≤ self.old.accounts.spare_accounts }
         requires numbered { AreFew self.old }
         requires ready { IsReady (settled_in self.old (Some terms.now.announcement)) self.old.accounts }
         ensures keeps { KeepsRows self.old self.new }
-        ensures told { TellsNext (settled_in self.old (Some terms.now.announcement)) self.old.accounts self.new.accounts }
+        ensures told { TellsNext (settled_in self.old (Some terms.now.announcement))
+            self.old.accounts self.new.accounts }
         ensures room { TakesRoom (length self.old.bidders.list) 0 0 self.old.accounts self.new.accounts }
     {
         if let Some(book) = self.shelf.book(&terms.announcement.auction) {
@@ -177,11 +192,11 @@ impl Tables {
             let security = bill_number(&self.auctions, &terms.announcement.cusip);
             credit_awards(
                 &mut self.accounts,
+                &mut self.scratch,
                 &self.submitters,
                 self.bidders.rows(),
                 security,
                 &outcome,
-                &self.scratch.recognised,
                 book,
             );
         }
@@ -193,9 +208,13 @@ impl Tables {
         requires room { HasSettleRoom self.old }
         requires accounts { length self.old.bidders.list ≤ self.old.accounts.spare_accounts }
         requires numbered { AreFew self.old }
-        requires ready { IsReady (settled_in self.old (announcement_of (announced_in self.old.auctions.list) auction.now)) self.old.accounts }
+        requires ready { IsReady
+            (settled_in self.old (announcement_of (announced_in self.old.auctions.list) auction.now))
+            self.old.accounts }
         ensures keeps { KeepsRows self.old self.new }
-        ensures told { TellsNext (settled_in self.old (announcement_of (announced_in self.old.auctions.list) auction.now)) self.old.accounts self.new.accounts }
+        ensures told { TellsNext
+            (settled_in self.old (announcement_of (announced_in self.old.auctions.list) auction.now))
+            self.old.accounts self.new.accounts }
         ensures room { TakesRoom (length self.old.bidders.list) 0 0 self.old.accounts self.new.accounts }
     {
         if let Some(terms) = terms_of(&self.auctions, auction) {
@@ -211,7 +230,8 @@ impl Tables {
         requires numbered { AreFew self.old }
         requires ready { IsReady (movement_in self.old sender.now number message.now) self.old.accounts }
         ensures keeps { KeepsRows self.old self.new }
-        ensures told { TellsNext (movement_in self.old sender.now number message.now) self.old.accounts self.new.accounts }
+        ensures told { TellsNext (movement_in self.old sender.now number message.now)
+            self.old.accounts self.new.accounts }
         ensures room { TakesRoom (length self.old.bidders.list + 1) 1 1 self.old.accounts self.new.accounts }
     {
         match message {
@@ -268,6 +288,18 @@ impl Tables {
         self.last = moment;
     }
 
+    /// Takes the last bid back with its line, where the entry before it has this moment.
+    pub fn take_back(&mut self, before: Moment)
+        requires some { ¬ (self.old.bids.list ≡ []) }
+        requires few { length self.old.bidders.list < 2 ^ 32 }
+        ensures { IsTakenBack before self.old self.new }
+    {
+        let bid = self.bids.pop().unwrap();
+        let bidder = number_of(&self.bidders, &bid.bidder);
+        self.shelf.take_out(&bid.auction, bidder, bid.number);
+        self.last = before;
+    }
+
     /// Enters what a message of a sender under its number says, and moves what it moves.
     pub fn enter(
         &mut self,
@@ -286,7 +318,8 @@ impl Tables {
         requires numbered { AreFew self.old }
         requires ready { IsReady (movement_in self.old sender.now number message.now) self.old.accounts }
         ensures entered { HasEntered sender.now number message.now self.old self.new }
-        ensures told { TellsNext (movement_in self.old sender.now number message.now) self.old.accounts self.new.accounts }
+        ensures told { TellsNext (movement_in self.old sender.now number message.now)
+            self.old.accounts self.new.accounts }
         ensures room { (room : ℕ) → HasRoom (room + 1) self.old → HasRoom room self.new }
         ensures last { self.new.last ≡ moment }
     {

@@ -1,18 +1,39 @@
-//! Tests of the host: an auction's bids come and go, in room that was taken before, with values that follow from the rules by
-//! hand.
-ghost use Rattle.std.specs.Prelude.{◌≡◌, ◌≤◌, ◌^◌, true, IfSome};
+//! Tests of the host: an auction's bids come and go, in room that was taken before, with values that follow from the
+//! rules by hand.
+ghost use Rattle.std.specs.Prelude.{◌≡◌, ◌≤◌, ◌^◌, ◌++◌, ◌∷◌, [], true, IfSome};
 ghost use Rattle.tb_message.specs.declared.verdict.Verdict.TheVariants as outcome;
 ghost use Rattle.tb_message.specs.Spelling.{IsInRange};
+ghost use Rattle.tb_core.specs.House.{IsBid};
 
 use super::*;
 use std::alloc::Global;
-use tb_message::{Entry, Message, Verdict};
+use tb_history::Reading;
+use tb_message::{Entry, Message, Query, Verdict};
 use tb_terms::{Announcement, Cusip};
-use tb_units::{Day, Dollars, Ident, Moment, OutOfMemory};
+use tb_units::{Day, Dollars, Ident, Moment, OutOfMemory, Rate};
 
 // 4 November 2024, before the closing.
 const MOMENT: Moment = Moment {
     seconds: 1_730_700_000,
+};
+
+// The same day at half past eleven, Eastern time: the closing of competitive bids.
+const CLOSING: Moment = Moment {
+    seconds: 1_730_737_800,
+};
+
+// 7 November 2024, when the auction's bills are issued, at midnight, Eastern time.
+const ISSUE: Moment = Moment {
+    seconds: 1_730_955_600,
+};
+
+// 6 February 2025, when they mature.
+const MATURITY: Moment = Moment {
+    seconds: 1_738_818_000,
+};
+
+const BILL: Cusip = Cusip {
+    bytes: *b"912797AA5",
 };
 
 fn registered() -> Option<Entry>
@@ -53,9 +74,7 @@ fn announced() -> Option<Entry>
         message: Message::Announce {
             terms: Announcement {
                 auction: Ident::read("bill13")?,
-                cusip: Cusip {
-                    bytes: *b"912797AA5",
-                },
+                cusip: BILL,
                 offering: Dollars {
                     value: 1_000_000_000,
                 },
@@ -78,6 +97,7 @@ fn bid(number: u64, hundreds: u32) -> Option<Entry>
     requires some { (1 ≤ number) × (number ≤ 10 ^ 9) }
     requires few { hundreds ≤ 10 ^ 6 }
     ensures range { IfSome result IsInRange }
+    ensures bid { IfSome result (λ entry. IsBid entry.message) }
 {
     Some(Entry {
         submitter: Ident::read("dealer1")?,
@@ -91,6 +111,75 @@ fn bid(number: u64, hundreds: u32) -> Option<Entry>
                 value: 100 * hundreds as u128,
             },
         },
+    })
+}
+
+// A competitive bid at 5.330 percent.
+fn competitive(number: u64) -> Option<Entry>
+    requires { (1 ≤ number) × (number ≤ 10 ^ 9) }
+    ensures range { IfSome result IsInRange }
+{
+    Some(Entry {
+        submitter: Ident::read("dealer1")?,
+        number,
+        moment: MOMENT,
+        message: Message::Bid {
+            auction: Ident::read("bill13")?,
+            bidder: Ident::read("fund2")?,
+            rate: Some(Rate { steps: 1066 }),
+            amount: Dollars { value: 300_000_000 },
+        },
+    })
+}
+
+fn second_enrolled() -> Option<Entry>
+    ensures range { IfSome result IsInRange }
+{
+    Some(Entry {
+        submitter: Ident::read("operator")?,
+        number: 4,
+        moment: MOMENT,
+        message: Message::Enrol {
+            bidder: Ident::read("fund2")?,
+            submitter: Ident::read("dealer1")?,
+        },
+    })
+}
+
+fn published() -> Option<Entry>
+    ensures range { IfSome result IsInRange }
+{
+    Some(Entry {
+        submitter: Ident::read("operator")?,
+        number: 5,
+        moment: CLOSING,
+        message: Message::Publish {
+            auction: Ident::read("bill13")?,
+        },
+    })
+}
+
+fn settled() -> Option<Entry>
+    ensures range { IfSome result IsInRange }
+{
+    Some(Entry {
+        submitter: Ident::read("operator")?,
+        number: 6,
+        moment: ISSUE,
+        message: Message::Settle {
+            auction: Ident::read("bill13")?,
+        },
+    })
+}
+
+fn redeemed() -> Option<Entry>
+    ensures range { IfSome result IsInRange }
+{
+    Some(Entry {
+        submitter: Ident::read("operator")?,
+        number: 7,
+        moment: MATURITY,
+        message: Message::Redeem { cusip: BILL },
     })
 }
 
@@ -126,6 +215,7 @@ fn is_accepted(verdict: &Verdict, number: u64, moment: Moment) -> bool
 // Applies the entry, if it is accepted and there is room for it, and tells whether it was.
 fn take(host: &mut Host, entry: Entry) -> bool
     requires range { IsInRange entry }
+    ensures { result ≡ true → host.new.history ≡ host.old.history ++ entry ∷ [] }
 {
     let none: [Entry; 0] = [];
     if !host.has_room(&none, &entry.message) {
@@ -194,4 +284,179 @@ fn a_bid_follows_an_announcement_in_room_taken_for_both(rt: HostRuntime) {
     assert!(rt; !host.has_room(&none, &first.message));
     assert_eq!(rt; open(&mut host), Some(true));
     assert!(rt; !host.has_room(&none, &first.message));
+}
+
+// Takes room for an announcement and two bids of a group behind it, and applies them.
+fn open_for_group(host: &mut Host) -> Option<bool> {
+    let ahead = [announced()?];
+    let group = [(1, bid(1, 1)?.message), (2, bid(2, 1)?.message)];
+    host.make_room_group(&ahead, &group).ok()?;
+    if !host.has_room_group(&ahead, &group) {
+        return None;
+    }
+    Some(take(host, announced()?) && take(host, bid(1, 1)?) && take(host, bid(2, 1)?))
+}
+
+#[test]
+fn a_group_follows_an_announcement_in_room_taken_for_all(rt: HostRuntime) {
+    let mut host = with_bidder(rt.alloc()).expect(&rt, "memory");
+    assert_eq!(rt; open_for_group(&mut host), Some(true));
+    let none: [Entry; 0] = [];
+    let next = bid(3, 1).expect(&rt, "names");
+    assert!(rt; !host.has_room_group(&none, &[(3, next.message)]));
+}
+
+// Applies a bid, if it is accepted, and takes it back.
+fn take_and_back(host: &mut Host, entry: Entry) -> bool
+    requires range { IsInRange entry }
+    requires bid { IsBid entry.message }
+{
+    let before = host.last();
+    if !take(host, entry) {
+        return false;
+    }
+    host.take_back(before);
+    true
+}
+
+// A bid up to the ceiling comes and is taken back; then one under the same number is accepted, and a bid above what
+// that one leaves is refused.
+fn bid_again(host: &mut Host) -> Option<bool> {
+    let none: [Entry; 0] = [];
+    submit(host, announced())?;
+    let first = bid(1, 100_000)?;
+    host.make_room(&none, &first.message).ok()?;
+    let back = take_and_back(host, first);
+    Some(back && submit(host, bid(1, 1))? && !submit(host, bid(2, 100_000))?)
+}
+
+#[test]
+fn a_bid_that_is_taken_back_leaves_its_number_and_its_par(rt: HostRuntime) {
+    let mut host = with_bidder(rt.alloc()).expect(&rt, "memory");
+    assert_eq!(rt; bid_again(&mut host), Some(true));
+    assert_eq!(rt; host.entries(), 4);
+}
+
+// A host with the settled auction of a noncompetitive bid and of a competitive one.
+fn with_settled(alloc: Global) -> Option<Host> {
+    let mut host = with_bidder(alloc)?;
+    let bids = submit(&mut host, second_enrolled())?
+        && submit(&mut host, announced())?
+        && submit(&mut host, bid(1, 100_000))?
+        && submit(&mut host, competitive(2))?;
+    if bids && submit(&mut host, published())? && submit(&mut host, settled())? {
+        return Some(host);
+    }
+    None
+}
+
+// What a caller reads.
+fn read(host: &Host, alloc: Global, caller: &str, query: &Query) -> Option<Reading> {
+    host.read(alloc, &Ident::read(caller)?, query).ok()
+}
+
+// The noncompetitive and the competitive awards, and the stop-out rate with its percentage, in steps of 0.005 and
+// hundredths.
+fn figures(reading: &Reading) -> Option<(u128, u128, u32, u32)> {
+    match reading {
+        Reading::Results(results) => {
+            let figures = results.figures?;
+            Some((
+                results.noncompetitive.value,
+                figures.competitive.value,
+                figures.cut.stop.steps,
+                figures.cut.percent.hundredths,
+            ))
+        }
+        _ => None,
+    }
+}
+
+// The two awards with their payments, in dollars and in cents.
+fn awards(reading: &Reading) -> Option<[(u128, u128); 2]> {
+    match reading {
+        Reading::Awards(lines) => {
+            if lines.count() != 2 {
+                return None;
+            }
+            Some([
+                (lines.line(0).amount.value, lines.line(0).payment.value),
+                (lines.line(1).amount.value, lines.line(1).payment.value),
+            ])
+        }
+        _ => None,
+    }
+}
+
+// What is held of the only bill.
+fn held(reading: &Reading) -> Option<u128> {
+    match reading {
+        Reading::Holdings(lines) => {
+            if lines.count() != 1 {
+                return None;
+            }
+            Some(lines.line(0).held.value)
+        }
+        _ => None,
+    }
+}
+
+// What the only holder was paid.
+fn paid(reading: &Reading) -> Option<u128> {
+    match reading {
+        Reading::Redemption(lines) => {
+            if lines.count() != 1 {
+                return None;
+            }
+            Some(lines.line(0).paid.value)
+        }
+        _ => None,
+    }
+}
+
+// When the auction's bills mature.
+fn maturity(reading: &Reading) -> Option<u32> {
+    match reading {
+        Reading::Terms(terms) => Some(terms.maturity.number),
+        _ => None,
+    }
+}
+
+// How many bids are read.
+fn bid_count(reading: &Reading) -> Option<u64> {
+    match reading {
+        Reading::Bids(lines) => Some(lines.count()),
+        _ => None,
+    }
+}
+
+// Both bids fall short of the offering, so that each is awarded whole, at the price of 98.652694 for 91 days at 5.330
+// percent.
+#[test]
+fn an_auction_is_read_from_its_terms_to_its_redemption(rt: HostRuntime) {
+    let alloc = rt.alloc();
+    let auction = Ident::read("bill13").expect(&rt, "a name");
+    let mut host = with_settled(alloc).expect(&rt, "memory");
+    let read_terms = read(&host, alloc, "dealer1", &Query::Terms(auction)).expect(&rt, "terms");
+    assert_eq!(rt; maturity(&read_terms), Some(20_125));
+    let read_results = read(&host, alloc, "dealer1", &Query::Results(auction)).expect(
+        &rt, "results",
+    );
+    assert_eq!(rt;
+        figures(&read_results),
+        Some((10_000_000, 300_000_000, 1066, 10_000))
+    );
+    let read_awards = read(&host, alloc, "dealer1", &Query::Awards(auction)).expect(&rt, "awards");
+    let awarded = [(10_000_000, 986_526_940), (300_000_000, 29_595_808_200)];
+    assert_eq!(rt; awards(&read_awards), Some(awarded));
+    let read_bids = read(&host, alloc, "dealer1", &Query::Bids(auction)).expect(&rt, "bids");
+    assert_eq!(rt; bid_count(&read_bids), Some(2));
+    let read_holdings = read(&host, alloc, "dealer1", &Query::Holdings).expect(&rt, "holdings");
+    assert_eq!(rt; held(&read_holdings), Some(310_000_000));
+    assert_eq!(rt; submit(&mut host, redeemed()), Some(true));
+    let read_paid = read(&host, alloc, "operator", &Query::Redemption(BILL)).expect(
+        &rt,
+        "redemption",
+    );
+    assert_eq!(rt; paid(&read_paid), Some(310_000_000));
 }

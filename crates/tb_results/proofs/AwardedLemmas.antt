@@ -20,7 +20,7 @@ use Rattle.tb_award.proofs.AwardLemmas.{AreAwards-within, AreAwards_push, awarde
 use Rattle.tb_award.proofs.RecognitionLemmas.{IsRecognitionOf-hundreds}
 use Rattle.tb_book.specs.declared.book_line.BookLine.{BookLine}
 use Rattle.tb_book.specs.Books as books
-use Rattle.tb_book.specs.Books.{AreKept, most_bid}
+use Rattle.tb_book.specs.Books.{most_bid}
 use Rattle.tb_history.specs.declared.roster.Enrolment.{Enrolment}
 use Rattle.tb_history.specs.declared.bids.Bid.{Bid}
 use Rattle.tb_history.specs.declared.readings.AwardLine.{AwardLine}
@@ -284,15 +284,14 @@ hundreds-recognised bidding lines recognised answer is =
 pub recognised-limited : (bidding : Bidding) (lines : List BookLine) (recognised : List RateLine) (answer : Outcome)
     (number : ℕ)
     → IsCutIn bidding lines recognised answer
-    → AreKept lines
-    → total_of recognised + books.noncompetitive_of number lines ≤ most_bid
-recognised-limited bidding lines recognised answer number is kept =
+    → books.noncompetitive_of number lines + total_of recognised ≤ most_bid
+recognised-limited bidding lines recognised answer number is =
     omega (
       arith,
       is.within,
       sum_by-lines_of amount_of bidding lines is.booked,
       par-shared number lines,
-      kept.limited,
+      is.limited,
     )
 
 -- a bidder's awards are within what is recognised

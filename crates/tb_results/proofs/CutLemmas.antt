@@ -13,7 +13,7 @@ use Rattle.tb_award.specs.Recognition.{IsRecognitionOf, bid_in, limits_by}
 use Rattle.tb_award.proofs.CallerLemmas.{AreRecognised-same, recognised-rates}
 use Rattle.tb_book.specs.declared.book_line.BookLine.{BookLine}
 use Rattle.tb_book.specs.Books as books
-use Rattle.tb_book.specs.Books.{rate_lines}
+use Rattle.tb_book.specs.Books.{most_bid, par_in, rate_lines}
 use Rattle.tb_history.specs.Awarded.{Bidding, sought_in}
 use Rattle.tb_history.specs.Readings.{AreRecognisedOf, days_of, lines_of, positions_of}
 use Rattle.tb_history.proofs.FigureLemmas.{positions-length}
@@ -114,14 +114,16 @@ outcome-answered bidding recognised sought days (outcome.Cut cut) sought_is days
 pub cut-booked : (bidding : Bidding) (terms : Terms) (lines : List BookLine) (positions : List ℤ)
     (recognised : List RateLine) (sought : ℕ) (answer : Outcome)
     → IsBookOf bidding terms lines positions
+    → par_in lines ≤ most_bid
     → IsRecognitionOf (rate_lines lines) positions terms.announcement.offering.value recognised
     → total_of recognised ≤ total_of (rate_lines lines)
     → sought ≡ sought_of terms.announcement.offering.value (books.noncompetitive_in lines) terms.announcement.competitive_floor.value
     → IsAnswered recognised sought terms.days.count answer
     → IsCutIn bidding lines recognised answer
-cut-booked bidding terms lines positions recognised sought answer is are within sought_is answered = record {
+cut-booked bidding terms lines positions recognised sought answer is limited are within sought_is answered = record {
   sound = is.sound;
   booked = is.booked;
+  limited = limited;
   recognition = recognised-booked bidding terms lines positions recognised is are;
   within = omega (arith, within, sum_by-lines_of amount_of bidding lines is.booked);
   is = outcome-answered bidding recognised sought terms.days.count answer

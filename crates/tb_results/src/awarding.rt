@@ -1,26 +1,24 @@
-//! What bidders are awarded, and what they pay.
-ghost use Rattle.std.specs.Prelude.{◌≡◌, ℕ, ◌+◌, ◌<◌, ◌≤◌, ◌^◌, ◌==◌, ◌&&◌, if◌then◌else◌, List, length, nat_lt, All, IfOk};
+//! What a submitter's bidders are awarded, and what they pay.
+ghost use Rattle.std.specs.Prelude.{◌≡◌, ℕ, ◌+◌, ◌<◌, ◌≤◌, ◌^◌, ◌&&◌, List, length, nat_lt, All, IfOk};
 ghost use Rattle.tb_units.specs.declared.lines.RateLine.{RateLine};
 ghost use Rattle.tb_units.specs.Multiples.{most_par};
-ghost use Rattle.tb_award.specs.Awards.{IsInHundreds};
-ghost use Rattle.tb_award.specs.Cuts.{most_recognised, total_of};
 ghost use Rattle.tb_book.specs.declared.book_line.BookLine.{BookLine};
 ghost use Rattle.tb_book.specs.Books.{competitive_of, noncompetitive_of};
-ghost use Rattle.tb_history.specs.declared.roster.Enrolment.{Enrolment};
 ghost use Rattle.tb_history.specs.Entries.{is_same};
 ghost use Rattle.tb_history.specs.Awarded.{Bidding, awarded};
-ghost use Rattle.tb_history.specs.Readings.{AreAwardLines, IsAwardLine, IsPaid, bidder_at};
+ghost use Rattle.tb_history.specs.Readings.{AreAwardLines, IsAwardLine, IsPaid};
 ghost use Rattle.tb_results.specs.Biddings.{IsBookOf};
-ghost use Rattle.tb_results.specs.Outcomes.{AwardsComeTo, IsCutIn, bidders_among};
+ghost use Rattle.tb_results.specs.Outcomes.{AreAwardedIn, IsCutIn, bidders_among};
 
+use crate::amounts::award_all;
 use crate::cutting::cut_book;
 use std::alloc::Global;
-use tb_award::{Cut, Outcome, Recognised, award};
+use tb_award::{Outcome, Recognised};
 use tb_book::Book;
 use tb_history::{AwardLine, Awards, Enrolment, Listing};
 use tb_price::payment;
 use tb_terms::Terms;
-use tb_units::{Cents, Dollars, Ident, Lines, OutOfMemory, RateLine};
+use tb_units::{Cents, Dollars, Ident, Lines, OutOfMemory};
 
 /// The awards of the caller's bidders with a live bid, in the order of enrolment. `bidders` are all that are enrolled.
 pub fn awards(
@@ -39,26 +37,42 @@ pub fn awards(
     let mut recognised = Recognised::empty(alloc);
     recognised.reserve(book.lines(), positions.len() as u64)?;
     let outcome = cut_book(&mut recognised, terms, book, positions);
-    award_lines(alloc, &outcome, &recognised, book, bidders, caller)
+    let mut amounts = Vec::new(alloc);
+    amounts.reserve(bidders.len())?;
+    award_all(
+        &mut amounts,
+        &outcome,
+        &recognised,
+        book,
+        bidders.len() as u32,
+    );
+    award_lines(alloc, &outcome, book, bidders, &amounts, caller)
 }
 
+// The lines of the caller's bidders with a bid in the book, where all bidders are awarded these amounts.
 fn award_lines(
     alloc: Global,
     outcome: &Outcome,
-    recognised: &Recognised,
     book: &Book,
     bidders: &[Enrolment],
+    amounts: &[u128],
     caller: &Ident,
 ) -> Result<Awards, OutOfMemory>
-    requires bidding { (bidding : Bidding) × IsCutIn bidding book.now.lines recognised.now.lines outcome.now × (bidders.now ≡ bidding.enrolled) }
+    requires bidding { (bidding : Bidding) × (recognised : List RateLine)
+        × AreAwardedIn bidding book.now.lines recognised outcome.now bidders.now amounts.now }
+    requires limited { All (λ amount. amount ≤ most_par) amounts.now }
     requires few { length bidders.now < 2 ^ 32 }
-    ensures { IfOk result (λ lines. (bidding : Bidding) → IsCutIn bidding book.now.lines recognised.now.lines outcome.now → bidders.now ≡ bidding.enrolled
+    ensures { IfOk result (λ lines. (bidding : Bidding) (recognised : List RateLine)
+        → AreAwardedIn bidding book.now.lines recognised outcome.now bidders.now amounts.now
         → AreAwardLines bidding (bidders_among bidding caller.now bidders.now) lines) }
 {
     let mut lines = Listing::new(alloc);
     for (number, bidder) in bidders.iter().enumerate() {
         if is_asked(book, bidder, number as u32, caller) {
-            let line = award_line(outcome, recognised, book, bidder, number as u32);
+            let amount = Dollars {
+                value: amounts[number],
+            };
+            let line = award_line(outcome, bidder, amount);
             lines.push(line)?;
         }
     }
@@ -88,19 +102,13 @@ fn has_bid(book: &Book, bidder: u32) -> bool
     competitive.value + noncompetitive.value > 0
 }
 
-// The award and the payment of the bidder of this number.
-fn award_line(
-    outcome: &Outcome,
-    recognised: &Recognised,
-    book: &Book,
-    bidder: &Enrolment,
-    number: u32,
-) -> AwardLine
-    requires bidding { (bidding : Bidding) × IsCutIn bidding book.now.lines recognised.now.lines outcome.now × (number < length bidding.enrolled) }
-    ensures { (bidding : Bidding) → IsCutIn bidding book.now.lines recognised.now.lines outcome.now → number < length bidding.enrolled
-        → bidder_at bidding.enrolled number bidder.now ≡ bidder.now.bidder → IsAwardLine bidding bidder.now.bidder result }
+// The line of a bidder that is awarded so much.
+fn award_line(outcome: &Outcome, bidder: &Enrolment, amount: Dollars) -> AwardLine
+    requires { amount.value ≤ most_par }
+    ensures { (bidding : Bidding) (lines : List BookLine) (recognised : List RateLine)
+        → IsCutIn bidding lines recognised outcome.now → amount.value ≡ awarded bidding bidder.now.bidder
+        → IsAwardLine bidding bidder.now.bidder result }
 {
-    let amount = award_of(outcome, recognised, book, number);
     AwardLine {
         bidder: bidder.bidder,
         amount,
@@ -118,59 +126,5 @@ fn payment_for(outcome: &Outcome, amount: Dollars) -> Cents
     match *outcome {
         Outcome::NoAwards => Cents { value: 0 },
         Outcome::Cut(cut) => payment(amount, cut.price),
-    }
-}
-
-/// What the bidder of a number is awarded, competitive and noncompetitive together: nothing where nobody gets an award.
-/// It takes no memory, so that a settlement can credit each bidder's submitter with it.
-pub fn award_of(outcome: &Outcome, recognised: &Recognised, book: &Book, bidder: u32) -> Dollars
-    requires { (bidding : Bidding) × IsCutIn bidding book.now.lines recognised.now.lines outcome.now × (bidder < length bidding.enrolled) }
-    ensures award { (bidding : Bidding) (d : Enrolment) → IsCutIn bidding book.now.lines recognised.now.lines outcome.now
-        → bidder < length bidding.enrolled → result.value ≡ awarded bidding (bidder_at bidding.enrolled bidder d) }
-    ensures limited { result.value ≤ most_par }
-{
-    let (_, noncompetitive) = book.totals(bidder);
-    match *outcome {
-        Outcome::NoAwards => Dollars { value: 0 },
-        Outcome::Cut(cut) => whole_award(&cut, recognised, bidder, noncompetitive),
-    }
-}
-
-// The bidder's competitive awards and so much noncompetitive par.
-fn whole_award(cut: &Cut, recognised: &Recognised, bidder: u32, noncompetitive: Dollars) -> Dollars
-    requires hundreds { All IsInHundreds recognised.now.lines }
-    requires fits { total_of recognised.now.lines + noncompetitive.value ≤ most_par }
-    ensures award { (competitive : ℕ) × AwardsComeTo cut.now recognised.now.lines bidder competitive × (result.value ≡ competitive + noncompetitive.value) }
-    ensures limited { result.value ≤ most_par }
-{
-    let competitive = competitive_award(cut, recognised, bidder);
-    Dollars {
-        value: competitive + noncompetitive.value,
-    }
-}
-
-// The sum of the bidder's awards at all rates.
-fn competitive_award(cut: &Cut, recognised: &Recognised, bidder: u32) -> u128
-    requires hundreds { All IsInHundreds recognised.now.lines }
-    requires fits { total_of recognised.now.lines ≤ most_recognised }
-    ensures come { AwardsComeTo cut.now recognised.now.lines bidder result }
-    ensures within { result ≤ total_of recognised.now.lines }
-{
-    let mut sum = 0;
-    for place in 0..recognised.count() {
-        let line = recognised.line(place);
-        sum += part_of(&line, bidder, award(cut, line.rate, line.amount));
-    }
-    sum
-}
-
-// The award of the line, where that is the bidder's.
-fn part_of(line: &RateLine, bidder: u32, award: Dollars) -> u128
-    ensures { result ≡ (if line.now.bidder == bidder then award.value else 0) }
-{
-    if line.bidder == bidder {
-        award.value
-    } else {
-        0
     }
 }

@@ -159,9 +159,8 @@ fn awarded_of(alloc: Global, terms: &Terms, book: &Book) -> Result<Vec<u128>, Ou
     recognised.reserve(book.lines(), 5)?;
     let outcome = cut_book(&mut recognised, terms, book, &[0; 5]);
     let mut amounts = Vec::new(alloc);
-    for bidder in 0..5u32 {
-        amounts.push(award_of(&outcome, &recognised, book, bidder).value)?;
-    }
+    amounts.reserve(5)?;
+    award_all(&mut amounts, &outcome, &recognised, book, 5);
     Ok(amounts)
 }
 

@@ -8,7 +8,8 @@ use Rattle.tb_core.proofs.accounts.bill_number.Goals as goal
 
 pub returns-in-Some : goal.returns-in-Some
 returns-in-Some c =
-    place_found (λ (t : Terms). is_same t.announcement.cusip.bytes c.args.cusip.now.bytes) c.args.auctions.now.list c.in-Some.place
+    place_found (λ (t : Terms). is_same t.announcement.cusip.bytes c.args.cusip.now.bytes)
+    c.args.auctions.now.list c.in-Some.place
     (sym c.in-Some.ensures)
     ∙ sym (placed_at (λ (a : Announcement). is_same a.cusip.bytes c.args.cusip.now.bytes) c.args.auctions.now.list)
 

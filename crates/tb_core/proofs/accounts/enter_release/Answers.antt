@@ -10,5 +10,6 @@ pub returns-clause-told : goal.returns-clause-told
 returns-clause-told c =
     may_do c.release.result
     (MayRelease (mark_of c.args.holder c.args.number c.args.accounts.now) c.args.caller c.args.par.value)
-    (TellsMore (Released c.args.holder c.args.number c.args.caller c.args.par.value) c.args.accounts.now c.release.new.accounts)
+    (TellsMore (Released c.args.holder c.args.number c.args.caller c.args.par.value)
+    c.args.accounts.now c.release.new.accounts)
     c.release.ensures.released c.requires.ready c.release.ensures.told

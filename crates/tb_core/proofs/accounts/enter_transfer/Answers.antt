@@ -8,5 +8,6 @@ use Rattle.tb_core.proofs.accounts.enter_transfer.Goals as goal
 pub returns-clause-told : goal.returns-clause-told
 returns-clause-told c =
     not_refused c.transfer.result (free_of c.args.from c.args.security c.args.accounts.now) c.args.par.value
-    (TellsMore (Transferred c.args.from c.args.to c.args.security c.args.par.value) c.args.accounts.now c.transfer.new.accounts)
+    (TellsMore (Transferred c.args.from c.args.to c.args.security c.args.par.value)
+    c.args.accounts.now c.transfer.new.accounts)
     c.transfer.ensures.refused c.requires.ready.2 c.transfer.ensures.told

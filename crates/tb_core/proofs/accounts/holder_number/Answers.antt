@@ -8,4 +8,5 @@ use Rattle.tb_core.proofs.accounts.holder_number.Goals as goal
 pub returns-in-None : goal.returns-in-None
 returns-in-None c =
     ap (λ (rs : List Registration). length rs) c.rows.ensures
-    ∙ place_missing (λ (r : Registration). is_same r.submitter c.args.name.now) c.args.submitters.now.list (sym c.in-None.ensures)
+    ∙ place_missing (λ (r : Registration). is_same r.submitter c.args.name.now) c.args.submitters.now.list
+    (sym c.in-None.ensures)

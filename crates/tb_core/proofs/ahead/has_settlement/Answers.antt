@@ -1,17 +1,21 @@
--- An entry's message settles, or the last one does.
-use Rattle.std.proofs.Common.{Bool, ◌||◌, ◌∙◌, sym, ap}
+-- An entry's message settles, or one that is asked does.
+use Rattle.std.proofs.Common.{Bool, ℕ, ◌||◌, ◌∙◌, ap, sym}
+use Rattle.std.specs.List.{list_any}
+use Rattle.tb_message.specs.declared.message.Message.{Message}
 use Rattle.tb_core.specs.Rooms.{settles}
-use Rattle.tb_core.proofs.RoomLemmas.{behind_any}
+use Rattle.tb_core.proofs.RoomLemmas.{any-behind}
 use Rattle.tb_core.proofs.ahead.has_settlement.Goals as goal
 
-pub returns-then-settles_before : goal.returns-then-settles_before
-returns-then-settles_before c =
-    c.if-settles_before.true
-    ∙ sym (behind_any settles c.args.ahead.now c.args.message.now
-    ∙ ap (λ (b : Bool). b || settles c.args.message.now) (sym c.settles_before.ensures ∙ c.if-settles_before.true))
+pub returns-then-settles_in : goal.returns-then-settles_in
+returns-then-settles_in c =
+    c.if-settles_in.true
+    ∙ sym (any-behind settles c.args.ahead.now c.args.messages.now
+    ∙ ap (λ (b : Bool). b || list_any (λ (asked : ℕ × Message). settles asked.1) c.args.messages.now)
+    (sym c.settles_in.ensures ∙ c.if-settles_in.true))
 
-pub returns-else-settles_before : goal.returns-else-settles_before
-returns-else-settles_before c =
-    c.settles.ensures
-    ∙ sym (behind_any settles c.args.ahead.now c.args.message.now
-    ∙ ap (λ (b : Bool). b || settles c.args.message.now) (sym c.settles_before.ensures ∙ c.if-settles_before.false))
+pub returns-else-settles_in : goal.returns-else-settles_in
+returns-else-settles_in c =
+    c.settles_in-else-settles_in.ensures
+    ∙ sym (any-behind settles c.args.ahead.now c.args.messages.now
+    ∙ ap (λ (b : Bool). b || list_any (λ (asked : ℕ × Message). settles asked.1) c.args.messages.now)
+    (sym c.settles_in.ensures ∙ c.if-settles_in.false))

@@ -13,5 +13,6 @@ returns c =
     let test = λ (a : Announcement). is_same a.auction c.args.auction.now in
     let found : c.copied.result ≡ find (λ (terms : Terms). test terms.announcement) c.args.auctions.now.list =
     c.copied.ensures
-    ∙ (c.get.ensures ∙ ap (λ (list : List Terms). find (λ (terms : Terms). test terms.announcement) list) c.keyed.ensures) in
+    ∙ (c.get.ensures ∙ ap (λ (list : List Terms). find (λ (terms : Terms). test terms.announcement) list)
+    c.keyed.ensures) in
     ap announcement_in found ∙ announced_at test c.args.auctions.now.list

@@ -1,79 +1,30 @@
--- Each bidder's award in turn.
-use Rattle.std.proofs.Common.{◌≡◌, ◌<◌, ◌∙◌, List, ap, length, take, sym, subst, arith}
-use Rattle.std.specs.Prelude.{Contains}
-use Rattle.std.proofs.lemmas.List.{take_all}
-use Rattle.tb_movements.specs.Credits.{CreditsBook}
-use Rattle.tb_movements.proofs.CreditLemmas.{CreditsBook-push}
-use Rattle.tb_movements.proofs.TellingLemmas.{TellsMore-settled}
-use Rattle.tb_movements.specs.Movements.{Credit}
-use Rattle.std.specs.List.{position_or_len}
-use Rattle.tb_history.specs.Entries.{is_same}
-use Rattle.tb_history.specs.declared.roster.Registration.{Registration}
+-- The awards that were put into the scratch array are the bidders'.
+use Rattle.std.proofs.Common.{◌∙◌, List, ap, length, sym}
 use Rattle.tb_history.specs.declared.roster.Enrolment.{Enrolment}
-use Rattle.tb_history.specs.Awarded.{awarded}
-use Rattle.tb_core.specs.Crediting.{credit_for, credits_for}
-use Rattle.tb_core.proofs.CreditingLemmas.{credits_more, next_fits, award_named}
+use Rattle.tb_results.specs.Outcomes.{awards_of}
 use Rattle.tb_core.proofs.crediting.credit_awards.Goals as goal
 
-pub award_of-par-requires : goal.award_of-par-requires
-award_of-par-requires c = (
+pub award_all-requires-clause-bidding : goal.award_all-requires-clause-bidding
+award_all-requires-clause-bidding c = (
   c.requires.bidding.0,
   c.requires.bidding.1,
-  omega
-      (arith, ap (λ (es : List Enrolment). length es) c.requires.bidding.2),
+  ap (λ (es : List Enrolment). length es) (sym c.requires.bidding.2),
 )
 
-pub credit-requires-clause-live : goal.credit-requires-clause-live
-credit-requires-clause-live c redeemed =
-    c.requires.live (subst (λ securities. Contains securities c.args.security) c.loop-place.invariant.redeemed redeemed)
-
-pub credit-requires-clause-limit : goal.credit-requires-clause-limit
-credit-requires-clause-limit c =
+pub credit_each-requires-clause-awards : goal.credit_each-requires-clause-awards
+credit_each-requires-clause-awards c =
     let bidding = c.requires.bidding.0 in
-    let within : c.loop-place.place < length bidding.enrolled =
-    omega (arith, ap (λ (es : List Enrolment). length es) c.requires.bidding.2) in
-    next_fits c.args.submitters.now.list bidding c.args.bidders.now c.loop-place.place c.index-bidders-place.result
-    c.args.security c.award_of-par.result.value c.args.accounts.now c.loop-place.accounts (omega arith)
-    c.index-bidders-place.is
-    (award_named bidding c.args.bidders.now c.loop-place.place c.index-bidders-place.result c.award_of-par.result.value
-    c.requires.bidding.2 c.index-bidders-place.is
-    (c.award_of-par.ensures.award bidding c.index-bidders-place.result c.requires.bidding.1 within))
-    c.requires.bidding.3
-    (c.loop-place.invariant.credits bidding c.requires.bidding.1 c.requires.bidding.2)
-
-pub loop-place-preserved : goal.loop-place-preserved
-loop-place-preserved c = record {
-  credits = λ bidding cut same.
-      let e : Enrolment = c.index-bidders-place.result in
-      let short : c.loop-place.place < length c.args.bidders.now = omega arith in
-      let within : c.loop-place.place < length bidding.enrolled =
-      omega (arith, ap (λ (es : List Enrolment). length es) same) in
-      let due : c.award_of-par.result.value ≡ awarded bidding e.bidder =
-      award_named bidding c.args.bidders.now c.loop-place.place e c.award_of-par.result.value same
-      c.index-bidders-place.is (c.award_of-par.ensures.award bidding e cut within) in
-      let named : c.holder_number-holder.result
-      ≡ position_or_len (λ (r : Registration). is_same r.submitter e.submitter) c.args.submitters.now.list =
-      c.holder_number-holder.ensures
-      ∙ ap (λ (x : Enrolment). position_or_len (λ (r : Registration). is_same r.submitter x.submitter) c.args.submitters.now.list)
-      (sym c.index-bidders-place.is) in
-      let given : List Credit = credits_for c.args.submitters.now.list bidding (take c.loop-place.place c.args.bidders.now) in
-      subst (λ (credits : List Credit). CreditsBook c.args.security credits c.args.accounts.now c.credit.new.self)
-      (sym (credits_more c.args.submitters.now.list bidding c.args.bidders.now c.loop-place.place e short c.index-bidders-place.is))
-      (CreditsBook-push c.args.security given (credit_for c.args.submitters.now.list bidding e) c.args.accounts.now
-      c.loop-place.accounts c.credit.new.self (c.loop-place.invariant.credits bidding cut same)
-      (rw (named, due) at c.credit.ensures.accounts) c.credit.ensures.others);
-  room = record {
-    spare_accounts = omega (arith, c.loop-place.invariant.room.spare_accounts, c.credit.ensures.room.spare_accounts);
-    spare_marks = omega (arith, c.loop-place.invariant.room.spare_marks, c.credit.ensures.room.spare_marks);
-    spare_redeems = omega (arith, c.loop-place.invariant.room.spare_redeems, c.credit.ensures.room.spare_redeems);
-  };
-  redeemed = c.credit.ensures.others.redeemed ∙ c.loop-place.invariant.redeemed;
-}
+    let same = c.requires.bidding.2 in (
+      bidding,
+      c.deref.ensures.value
+          ∙ (c.award_all.ensures.awards bidding c.requires.bidding.1 (ap (λ (es : List Enrolment). length es) (sym same))
+          ∙ ap (awards_of bidding) same),
+      c.requires.bidding.3,
+    )
 
 pub returns-clause-told : goal.returns-clause-told
 returns-clause-told c bidding cut same =
-    TellsMore-settled c.args.security (credits_for c.args.submitters.now.list bidding c.args.bidders.now) c.args.accounts.now
-    c.loop-place.accounts c.requires.live
-    (subst (λ (es : List Enrolment).
-    CreditsBook c.args.security (credits_for c.args.submitters.now.list bidding es) c.args.accounts.now c.loop-place.accounts)
-    (take_all c.loop-place.place c.args.bidders.now (omega arith)) (c.loop-place.invariant.credits bidding cut same))
+    c.credit_each.ensures.told bidding
+    (c.deref.ensures.value
+    ∙ (c.award_all.ensures.awards bidding cut (ap (λ (es : List Enrolment). length es) (sym same))
+    ∙ ap (awards_of bidding) same))

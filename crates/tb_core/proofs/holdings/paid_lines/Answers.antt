@@ -18,10 +18,13 @@ loop-registration-preserved c history cusip tied bill known same =
     subst (λ (r : Registration). is_registered (registrations history) r.submitter ≡ true) (sym c.registration-item.is)
     (known c.loop-registration.registration-index c.registration-item.result (omega arith)) in
     subst (λ (front : List Registration).
-    ArePaidLines history cusip (filter (λ (r : Registration). nat_lt 0 (paid_to history r.submitter cusip)) front) c.add_paid.new.lines)
-    (sym (registered_more c.args.holders.now c.loop-registration.registration-index c.registration-item.result (omega arith)
+    ArePaidLines history cusip (filter (λ (r : Registration). nat_lt 0 (paid_to history r.submitter cusip)) front)
+    c.add_paid.new.lines)
+    (sym (registered_more c.args.holders.now c.loop-registration.registration-index c.registration-item.result
+    (omega arith)
     c.registration-item.is))
-    (c.in_ok-add_paid.ensures history cusip (take c.loop-registration.registration-index c.args.holders.now) tied bill theirs same
+    (c.in_ok-add_paid.ensures history cusip (take c.loop-registration.registration-index c.args.holders.now)
+    tied bill theirs same
     (c.loop-registration.invariant history cusip tied bill known same))
 
 pub returns : goal.returns

@@ -19,4 +19,5 @@ invariant-loop-registration l =
     → All (λ (r : Registration). is_registered (registrations history) r.submitter ≡ true) l.holders
     → l.security ≡ (numbers_in l.tables.submitters.list l.tables.auctions.list).security cusip.bytes
     → ArePaidLines history cusip
-    (filter (λ (r : Registration). nat_lt 0 (paid_to history r.submitter cusip)) (take l.registration-index l.holders)) l.lines
+    (filter (λ (r : Registration). nat_lt 0 (paid_to history r.submitter cusip)) (take l.registration-index l.holders))
+    l.lines

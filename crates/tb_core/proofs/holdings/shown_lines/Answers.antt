@@ -17,13 +17,16 @@ pub loop-terms-preserved : goal.loop-terms-preserved
 loop-terms-preserved c history participant tied known same =
     subst (λ (front : List Announcement).
     AreHoldingLines history participant (filter (is_shown history participant) front) c.add_shown.new.lines)
-    (sym (announced_more c.args.auctions.now c.loop-terms.terms-index c.terms-item.result (omega arith) c.terms-item.is))
-    (c.in_ok-add_shown.ensures history participant (announced_in (take c.loop-terms.terms-index c.args.auctions.now)) tied known
+    (sym (announced_more c.args.auctions.now c.loop-terms.terms-index c.terms-item.result
+    (omega arith) c.terms-item.is))
+    (c.in_ok-add_shown.ensures history participant (announced_in (take c.loop-terms.terms-index c.args.auctions.now))
+    tied known
     same (c.loop-terms.invariant history participant tied known same))
 
 pub returns : goal.returns
 returns c history participant tied known same =
     subst (λ (auctions : List Terms).
-    AreHoldingLines history participant (filter (is_shown history participant) (announced_in auctions)) c.loop-terms.lines)
+    AreHoldingLines history participant (filter (is_shown history participant) (announced_in auctions))
+    c.loop-terms.lines)
     (take_all c.loop-terms.terms-index c.args.auctions.now (omega arith))
     (c.loop-terms.invariant history participant tied known same)

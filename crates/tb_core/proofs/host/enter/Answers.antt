@@ -11,7 +11,8 @@ enter-requires-clause-tied c = (c.args.entries.now.list, c.requires.house.tied)
 
 pub enter-requires-clause-settling : goal.enter-requires-clause-settling
 enter-requires-clause-settling c is =
-    settle-room_of c.args.entries.now c.args.tables.now c.args.room.now c.args.entry.message c.requires.house c.requires.fits is
+    settle-room_of c.args.entries.now c.args.tables.now c.args.room.now c.args.entry.message c.requires.house
+    c.requires.fits is
 
 pub enter-requires-clause-order : goal.enter-requires-clause-order
 enter-requires-clause-order c = Follows-in_order c.args.entries.now.list c.args.entry c.requires.follows
@@ -35,7 +36,8 @@ pub returns-clause-house : goal.returns-clause-house
 returns-clause-house c =
     let some : 1 ≤ c.args.room.now = omega (arith, c.requires.fits.rows) in
     house_push c.args.entries.now c.push.new.self c.args.tables.now c.enter.new.self c.args.entry c.requires.follows
-    c.enter.ensures.told c.push.ensures.list c.push.ensures.spare c.enter.ensures.entered c.enter.ensures.last c.enter.ensures.room
+    c.enter.ensures.told c.push.ensures.list c.push.ensures.spare c.enter.ensures.entered c.enter.ensures.last
+    c.enter.ensures.room
     (c.args.room.now - 1) (house_one_more c.args.entries.now c.args.tables.now c.args.room.now some c.requires.house)
 
 pub returns-clause-room : goal.returns-clause-room

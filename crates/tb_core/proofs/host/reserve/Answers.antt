@@ -17,13 +17,14 @@ returns-in_err-reserve-2-clause-room c =
 pub returns-clause-house : goal.returns-clause-house
 returns-clause-house c =
     rw c.max.ensures
-    (house_more c.args.entries.now c.reserve.new.self c.args.tables.now c.reserve-2.new.self (length c.args.ahead.now + 1)
+    (house_more c.args.entries.now c.reserve.new.self c.args.tables.now c.reserve-2.new.self
+    (length c.args.ahead.now + length c.args.messages.now)
     c.reserve.ensures.list c.reserve.ensures.room c.in_ok-reserve.ensures.spare c.reserve-2.ensures.same
     c.reserve-2.ensures.room c.in_ok-reserve-2.ensures.rows c.reserve-2.ensures.scratch c.args.room.now c.requires)
 
 pub returns-clause-fits : goal.returns-clause-fits
 returns-clause-fits c =
-    fits_more c.max.result c.reserve-2.new.self c.args.ahead.now c.args.message.now (omega (arith, c.max.ensures))
+    fits_more c.max.result c.reserve-2.new.self c.args.ahead.now c.args.messages.now (omega (arith, c.max.ensures))
     c.in_ok-reserve-2.ensures.ahead
 
 pub returns-clause-room : goal.returns-clause-room

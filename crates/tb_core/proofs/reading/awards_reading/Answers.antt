@@ -20,7 +20,8 @@ pub awards-requires : goal.awards-requires
 awards-requires c = record {
   bidding = (
     bidding_in c.requires.0 c.args.terms.now.announcement,
-    IsAuctionOf-book c.requires.0 c.args.tables.now c.args.terms.now c.args.book.now.lines c.deref.result.now c.requires.1
+    IsAuctionOf-book c.requires.0 c.args.tables.now c.args.terms.now c.args.book.now.lines c.deref.result.now
+        c.requires.1
         (c.deref.ensures.value ∙ c.in_ok-positions.ensures),
     c.rows.ensures ∙ c.requires.1.tied.bidders_are,
   );
@@ -36,7 +37,8 @@ returns c =
     (λ lines are history is.
     let bidding = bidding_in history terms.announcement in
     AreAwards-tied history tables terms.announcement c.args.caller.now lines is.tied
-    (subst (λ (es : List Enrolment). AreAwardLines bidding (bidders_among bidding c.args.caller.now es) lines) c.rows.ensures
+    (subst (λ (es : List Enrolment). AreAwardLines bidding (bidders_among bidding c.args.caller.now es) lines)
+    c.rows.ensures
     (are bidding
     (IsAuctionOf-book history tables terms c.args.book.now.lines c.deref.result.now is
     (c.deref.ensures.value ∙ c.in_ok-positions.ensures)) (c.rows.ensures ∙ is.tied.bidders_are)))) c.awards.ensures

@@ -32,7 +32,8 @@ loop-bid-preserved c =
     let bid = c.bid-item.result in
     let there : get_or all k bid ≡ bid =
     subst (λ (bids : List Bid). get_or bids k bid ≡ bid) c.rows-bid-items.ensures (sym c.bid-item.is) in
-    let below : k < length all = subst (λ (bids : List Bid). k < length bids) c.rows-bid-items.ensures c.loop-bid-test.true in
+    let below : k < length all =
+    subst (λ (bids : List Bid). k < length bids) c.rows-bid-items.ensures c.loop-bid-test.true in
     let more : bid_lines (take (k + 1) all) cancelled submitter auction
     ≡ bid_lines (take k all) cancelled submitter auction
     ++ cond (is_same bid.submitter submitter && is_same bid.auction auction) (bid_line cancelled bid ∷ []) [] =
@@ -44,12 +45,14 @@ loop-bid-preserved c =
           w.lines-is
           ∙ (w.in_ok-push.ensures.pushed
           ∙ (ap₂ (λ lines line. lines ++ line ∷ []) c.loop-bid.invariant w.line_of.ensures
-          ∙ sym (more ∙ ap (λ b. bid_lines (take k all) cancelled submitter auction ++ cond b (bid_line cancelled bid ∷ []) [])
+          ∙ sym (more ∙ ap (λ b. bid_lines (take k all) cancelled submitter auction ++ cond b
+          (bid_line cancelled bid ∷ []) [])
           (sym c.is_asked.ensures ∙ w.if-is_asked.true))))
       | else-is_asked w ↦
           w.lines-is
           ∙ (c.loop-bid.invariant
-          ∙ sym (more ∙ (ap (λ b. bid_lines (take k all) cancelled submitter auction ++ cond b (bid_line cancelled bid ∷ []) [])
+          ∙ sym (more ∙ (ap (λ b. bid_lines (take k all) cancelled submitter auction ++ cond b
+          (bid_line cancelled bid ∷ []) [])
           (sym c.is_asked.ensures ∙ w.if-is_asked.false)
           ∙ append-nil (bid_lines (take k all) cancelled submitter auction))))
     ]

@@ -10,7 +10,8 @@ returns-then-has_auction c =
 
 pub returns-in-Some : goal.returns-in-Some
 returns-in-Some c =
-    sym (announce-fault (announced_in c.args.auctions.now.list) c.args.redeemed c.args.announcement.now c.in-Some.refusal
+    sym (announce-fault (announced_in c.args.auctions.now.list)
+    c.args.redeemed c.args.announcement.now c.in-Some.refusal
     (sym c.has_auction.ensures ∙ c.if-has_auction.false) (sym c.fault_refusal.ensures ∙ c.in-Some.is))
 
 pub returns-in-None : goal.returns-in-None

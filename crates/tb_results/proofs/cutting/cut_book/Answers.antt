@@ -38,6 +38,7 @@ pub returns-clause-cut : goal.returns-clause-cut
 returns-clause-cut c bidding is =
     cut-booked bidding c.args.terms.now c.args.book.now.lines c.args.positions.now
     c.recognise_into_uncounted.new.into.lines c.sought_by.result.value c.cut.result is
-    c.recognise_into_uncounted.ensures.recognised c.recognise_into_uncounted.ensures.within
+    c.sought_by.ensures.kept.limited c.recognise_into_uncounted.ensures.recognised
+    c.recognise_into_uncounted.ensures.within
     c.sought_by.ensures.sought
     record { none = c.cut.ensures.none.0; empty = c.cut.ensures.none.1; cut = c.cut.ensures.cut }

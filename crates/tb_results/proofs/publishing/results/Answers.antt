@@ -9,7 +9,7 @@ figures_of-requires c =
     omega (
       arith,
       recognised-limited c.requires.0 c.args.book.now.lines c.cut_book-outcome.new.into.lines c.cut_book-outcome.result 0
-          (c.cut_book-outcome.ensures.cut c.requires.0 c.requires.1) c.noncompetitive.ensures.kept,
+          (c.cut_book-outcome.ensures.cut c.requires.0 c.requires.1),
     )
 
 pub returns : goal.returns

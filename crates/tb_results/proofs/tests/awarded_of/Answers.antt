@@ -1,5 +1,5 @@
 -- A book of sound lines is of some bidding.
-use Rattle.std.proofs.Common.{◌≡◌, ℕ, true, sym, subst, arith, List, ◌%◌, ◌≤◌}
+use Rattle.std.proofs.Common.{◌≡◌, ℕ, true, sym, subst, List, ◌%◌, ◌≤◌}
 use Rattle.std.specs.Prelude.{All, pos, replicate}
 use Rattle.tb_terms.specs.declared.terms.Terms.{Terms}
 use Rattle.tb_book.specs.declared.book_line.BookLine.{BookLine}
@@ -24,9 +24,9 @@ cut_book-outcome-requires-clause-bidding c = (
   sample c.args.terms.now c.args.book.now.lines c.requires.days c.requires.offering c.requires.floor c.requires.sound,
 )
 
-pub award_of-requires : goal.award_of-requires
-award_of-requires c =
+pub award_all-requires-clause-bidding : goal.award_all-requires-clause-bidding
+award_all-requires-clause-bidding c =
     let bidding = sample_of c.args.terms.now c.args.book.now.lines (numbered 0 5) in
     let is =
     sample c.args.terms.now c.args.book.now.lines c.requires.days c.requires.offering c.requires.floor c.requires.sound in
-    (bidding, c.cut_book-outcome.ensures.cut bidding is, omega (arith, length-numbered 0 5))
+    (bidding, c.cut_book-outcome.ensures.cut bidding is, sym (length-numbered 0 5))

@@ -10,8 +10,11 @@ use Rattle.tb_core.proofs.host.Host.announce.Goals as goal
 
 pub returns : goal.returns
 returns c sender moment =
-    subst (λ (h : House). c.announce_refusal.result ≡ refusal_in (rows_of h.history sender moment (message.Announce c.args.terms.now)))
+    subst (λ (h : House). c.announce_refusal.result
+    ≡ refusal_in (rows_of h.history sender moment (message.Announce c.args.terms.now)))
     c.self.view_is
     (c.announce_refusal.ensures
-    ∙ (ap (λ (b : Bool). refusal_in (announce_rows (announced_in c.self.inside.tables.auctions.list) b c.args.terms.now)) c.has_bill-redeemed.ensures
-    ∙ ap refusal_in (tied_announce c.self.inside.entries.list c.self.inside.tables c.self.invariant.tied sender moment c.args.terms.now)))
+    ∙ (ap (λ (b : Bool). refusal_in
+    (announce_rows (announced_in c.self.inside.tables.auctions.list) b c.args.terms.now)) c.has_bill-redeemed.ensures
+    ∙ ap refusal_in (tied_announce c.self.inside.entries.list c.self.inside.tables c.self.invariant.tied sender moment
+    c.args.terms.now)))

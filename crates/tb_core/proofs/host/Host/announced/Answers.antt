@@ -11,13 +11,15 @@ pub unwrap-requires : goal.unwrap-requires
 unwrap-requires c =
     sym (announced_some c.terms_of.result)
     ∙ (ap is_some c.terms_of.ensures
-    ∙ (ap (λ (all : List Announcement). is_some (announcement_of all c.args.auction.now)) c.self.invariant.tied.auctions_are
+    ∙ (ap (λ (all : List Announcement). is_some (announcement_of all c.args.auction.now))
+    c.self.invariant.tied.auctions_are
     ∙ subst (λ (h : House). is_some (announcement_of (announcements h.history) c.args.auction.now) ≡ true)
     (sym c.self.view_is) c.requires))
 
 pub returns : goal.returns
 returns c =
-    subst (λ (h : House). announcement_of (announcements h.history) c.args.auction.now ≡ Some c.unwrap.result.announcement)
+    subst (λ (h : House). announcement_of (announcements h.history) c.args.auction.now
+    ≡ Some c.unwrap.result.announcement)
     c.self.view_is
     (sym (c.terms_of.ensures
     ∙ ap (λ (all : List Announcement). announcement_of all c.args.auction.now) c.self.invariant.tied.auctions_are)

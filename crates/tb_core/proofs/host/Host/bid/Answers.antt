@@ -12,9 +12,13 @@ own_of-own-requires c = (c.self.inside.entries.list, c.self.invariant.tied)
 
 pub returns : goal.returns
 returns c =
-    subst (λ (h : House). c.bid_refusal.result ≡ refusal_in (rows_of h.history c.args.sender.now c.args.moment (message.Bid c.args.auction.now c.args.bidder.now c.args.rate c.args.amount)))
+    subst (λ (h : House). c.bid_refusal.result
+    ≡ refusal_in (rows_of h.history c.args.sender.now c.args.moment
+    (message.Bid c.args.auction.now c.args.bidder.now c.args.rate c.args.amount)))
     c.self.view_is
-    (c.bid_refusal.ensures ∙ ap refusal_in (tied_bid c.self.inside.entries.list c.self.inside.tables c.self.invariant.tied c.args.sender.now c.args.moment
+    (c.bid_refusal.ensures
+    ∙ ap refusal_in (tied_bid c.self.inside.entries.list c.self.inside.tables c.self.invariant.tied c.args.sender.now
+    c.args.moment
     c.args.auction.now c.args.bidder.now c.args.rate c.args.amount c.terms_of-terms.result c.is_enrolled-enrolled.result
     c.own_of-own.result (record { terms = c.terms_of-terms.ensures; under = c.is_enrolled-enrolled.ensures })
     c.own_of-own.ensures))

@@ -12,7 +12,8 @@ returns c =
     let caller = c.args.caller.now in
     let auction = c.args.auction.now in
     let tied = c.self.invariant.tied in
-    subst (λ (h : House). IfOk c.bid_lines.result (λ lines. lines ≡ bid_lines (bids h.history) (cancels h.history) caller auction))
+    subst (λ (h : House). IfOk c.bid_lines.result
+    (λ lines. lines ≡ bid_lines (bids h.history) (cancels h.history) caller auction))
     c.self.view_is
     (IfOk-weaker c.bid_lines.result _ _
     (λ lines are. are ∙ ap₂ (λ all cancelled. bid_lines all cancelled caller auction) tied.bids_are tied.cancels_are)

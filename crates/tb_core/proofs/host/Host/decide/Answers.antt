@@ -14,6 +14,8 @@ returns-clause-conserved c =
 
 pub returns-clause-sealed : goal.returns-clause-sealed
 returns-clause-sealed c still =
-    let legal : IsLegal c.args.self.now.history = subst (λ (h : House). IsLegal h.history) c.self.view_is c.self.invariant.tied.legal in
+    let legal : IsLegal c.args.self.now.history =
+    subst (λ (h : House). IsLegal h.history) c.self.view_is c.self.invariant.tied.legal in
     c.verdict.ensures
-    ∙ IsLegal-sealed c.args.submitter.now c.args.self.now.history legal c.args.number c.args.moment c.args.message.now still
+    ∙ IsLegal-sealed c.args.submitter.now c.args.self.now.history legal c.args.number c.args.moment c.args.message.now
+    still

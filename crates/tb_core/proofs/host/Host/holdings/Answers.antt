@@ -16,4 +16,5 @@ returns c =
     (λ lines told.
     subst (λ (h : House). AreHoldings h.history c.args.caller.now lines) c.self.view_is
     (told c.self.inside.entries.list c.self.invariant.tied
-    (subst (λ (h : House). is_registered (registrations h.history) c.args.caller.now ≡ true) (sym c.self.view_is) c.requires)))
+    (subst (λ (h : House). is_registered (registrations h.history) c.args.caller.now ≡ true)
+    (sym c.self.view_is) c.requires)))

@@ -8,7 +8,8 @@ use Rattle.tb_core.proofs.host.Host.new.Goals as goal
 pub invariant_of-result : goal.invariant_of-result
 invariant_of-result c = record {
   tied = subst (λ (h : List Entry). AreTied h c.new-3.result) (sym c.new-2.ensures.list)
-      (AreTied-empty c.new-3.result c.new-3.ensures.roster c.new-3.ensures.auctions c.new-3.ensures.bids c.new-3.ensures.shelf c.new-3.ensures.accounts c.new-3.ensures.last);
+      (AreTied-empty c.new-3.result c.new-3.ensures.roster c.new-3.ensures.auctions c.new-3.ensures.bids
+      c.new-3.ensures.shelf c.new-3.ensures.accounts c.new-3.ensures.last);
   roomy = record {
     rows = record {
       submitters = omega arith;
@@ -31,5 +32,6 @@ invariant_of-result c = record {
     lines = λ some. absurd (omega (arith, some, c.new-3.ensures.shelf.1));
     bidders_too = λ some. absurd (omega (arith, some, c.new-3.ensures.shelf.1));
     positions = λ some. absurd (omega (arith, some, c.new-3.ensures.shelf.1));
+    awards = λ some. absurd (omega (arith, some, c.new-3.ensures.shelf.1));
   };
 }

@@ -8,4 +8,5 @@ use Rattle.tb_core.proofs.host.Host.reading.Goals as goal
 pub redemption-requires : goal.redemption-requires
 redemption-requires c =
     passed-bill c.args.self.now.history c.args.caller.now c.in-Redemption.cusip
-    (subst (λ (q : Query). query_refusal c.args.self.now.history c.args.caller.now q ≡ None) c.in-Redemption.is c.requires)
+    (subst (λ (q : Query). query_refusal c.args.self.now.history c.args.caller.now q ≡ None)
+    c.in-Redemption.is c.requires)

@@ -18,9 +18,11 @@ redeem_refusal-requires-clause-early c =
 
 pub returns : goal.returns
 returns c sender =
-    subst (λ (h : House). c.redeem_refusal.result ≡ refusal_in (rows_of h.history sender c.args.moment (message.Redeem c.args.cusip.now)))
+    subst (λ (h : House). c.redeem_refusal.result
+    ≡ refusal_in (rows_of h.history sender c.args.moment (message.Redeem c.args.cusip.now)))
     c.self.view_is
     (c.redeem_refusal.ensures (holidays c.self.inside.entries.list) c.self.invariant.tied.calendar_is
-    ∙ ap refusal_in (tied_redeem c.self.inside.entries.list c.self.inside.tables c.self.invariant.tied sender c.args.moment
+    ∙ ap refusal_in (tied_redeem c.self.inside.entries.list c.self.inside.tables c.self.invariant.tied sender
+    c.args.moment
     c.args.cusip.now c.bill_terms-terms.result c.has_bill-redeemed.result c.unsettled_terms-unsettled.result
     c.bill_terms-terms.ensures c.has_bill-redeemed.ensures c.unsettled_terms-unsettled.ensures))

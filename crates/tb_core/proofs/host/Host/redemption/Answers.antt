@@ -17,4 +17,5 @@ returns c =
     (λ lines told.
     subst (λ (h : House). IsRedemption h.history c.args.cusip.now lines) c.self.view_is
     (told c.self.inside.entries.list c.self.invariant.tied
-    (subst (λ (h : House). has_bill (announcements h.history) c.args.cusip.now.bytes ≡ true) (sym c.self.view_is) c.requires)))
+    (subst (λ (h : House). has_bill (announcements h.history) c.args.cusip.now.bytes ≡ true)
+    (sym c.self.view_is) c.requires)))

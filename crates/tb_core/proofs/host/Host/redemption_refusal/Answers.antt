@@ -18,6 +18,12 @@ returns c =
     subst (λ (h : House). c.redemption_refusal.result ≡ refusal_in (asked_rows h.history (query.Redemption cusip)))
     c.self.view_is
     (c.redemption_refusal.ensures
-    ∙ (ap (λ (found : Option Announcement). refusal_in ((refusal.UnknownSecurity, is_none found) ∷ (refusal.NotRedeemed, not c.has_bill-redeemed.result) ∷ [])) c.bill_terms-terms.ensures
-    ∙ (ap (λ (b : Bool). refusal_in ((refusal.UnknownSecurity, is_none (bill_of (announced_in tables.auctions.list) cusip)) ∷ (refusal.NotRedeemed, not b) ∷ [])) c.has_bill-redeemed.ensures
+    ∙ (ap (λ (found : Option Announcement). refusal_in
+    ((refusal.UnknownSecurity, is_none found) ∷ (refusal.NotRedeemed, not c.has_bill-redeemed.result) ∷ []))
+    c.bill_terms-terms.ensures
+    ∙ (ap (λ (b : Bool). refusal_in
+    ((refusal.UnknownSecurity, is_none (bill_of (announced_in tables.auctions.list) cusip)) ∷ (
+      refusal.NotRedeemed,
+      not b,
+    ) ∷ [])) c.has_bill-redeemed.ensures
     ∙ ap refusal_in (tied_redemption c.self.inside.entries.list tables c.self.invariant.tied cusip))))

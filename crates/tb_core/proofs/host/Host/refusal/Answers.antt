@@ -10,49 +10,59 @@ use Rattle.tb_core.proofs.host.Host.refusal.Goals as goal
 pub returns-in-Announce : goal.returns-in-Announce
 returns-in-Announce c =
     c.announce.ensures c.args.sender.now c.args.moment
-    ∙ ap (λ (m : Message). refusal_in (rows_of c.args.self.now.history c.args.sender.now c.args.moment m)) (sym c.in-Announce.is)
+    ∙ ap (λ (m : Message). refusal_in (rows_of c.args.self.now.history c.args.sender.now c.args.moment m))
+    (sym c.in-Announce.is)
 
 pub returns-in-Position : goal.returns-in-Position
 returns-in-Position c =
     c.position.ensures c.in-Position.position
-    ∙ ap (λ (m : Message). refusal_in (rows_of c.args.self.now.history c.args.sender.now c.args.moment m)) (sym c.in-Position.is)
+    ∙ ap (λ (m : Message). refusal_in (rows_of c.args.self.now.history c.args.sender.now c.args.moment m))
+    (sym c.in-Position.is)
 
 pub returns-in-Publish : goal.returns-in-Publish
 returns-in-Publish c =
     c.publish.ensures c.args.sender.now
-    ∙ ap (λ (m : Message). refusal_in (rows_of c.args.self.now.history c.args.sender.now c.args.moment m)) (sym c.in-Publish.is)
+    ∙ ap (λ (m : Message). refusal_in (rows_of c.args.self.now.history c.args.sender.now c.args.moment m))
+    (sym c.in-Publish.is)
 
 pub returns-in-Settle : goal.returns-in-Settle
 returns-in-Settle c =
     c.settle.ensures c.args.sender.now
-    ∙ ap (λ (m : Message). refusal_in (rows_of c.args.self.now.history c.args.sender.now c.args.moment m)) (sym c.in-Settle.is)
+    ∙ ap (λ (m : Message). refusal_in (rows_of c.args.self.now.history c.args.sender.now c.args.moment m))
+    (sym c.in-Settle.is)
 
 pub transfer-requires : goal.transfer-requires
 transfer-requires c =
-    caller_registered c.args.self.now.history c.args.sender.now c.args.message.now c.requires.caller c.requires.permitted
+    caller_registered c.args.self.now.history c.args.sender.now c.args.message.now c.requires.caller
+    c.requires.permitted
     (ap is_operators c.in-Transfer.is)
 
 pub pledge-requires : goal.pledge-requires
 pledge-requires c =
-    caller_registered c.args.self.now.history c.args.sender.now c.args.message.now c.requires.caller c.requires.permitted
+    caller_registered c.args.self.now.history c.args.sender.now c.args.message.now c.requires.caller
+    c.requires.permitted
     (ap is_operators c.in-Pledge.is)
 
 pub release-requires : goal.release-requires
 release-requires c =
-    caller_registered c.args.self.now.history c.args.sender.now c.args.message.now c.requires.caller c.requires.permitted
+    caller_registered c.args.self.now.history c.args.sender.now c.args.message.now c.requires.caller
+    c.requires.permitted
     (ap is_operators c.in-Release.is)
 
 pub returns-in-Transfer : goal.returns-in-Transfer
 returns-in-Transfer c =
     c.transfer.ensures
-    ∙ ap (λ (m : Message). refusal_in (rows_of c.args.self.now.history c.args.sender.now c.args.moment m)) (sym c.in-Transfer.is)
+    ∙ ap (λ (m : Message). refusal_in (rows_of c.args.self.now.history c.args.sender.now c.args.moment m))
+    (sym c.in-Transfer.is)
 
 pub returns-in-Release : goal.returns-in-Release
 returns-in-Release c =
     c.release.ensures c.args.moment
-    ∙ ap (λ (m : Message). refusal_in (rows_of c.args.self.now.history c.args.sender.now c.args.moment m)) (sym c.in-Release.is)
+    ∙ ap (λ (m : Message). refusal_in (rows_of c.args.self.now.history c.args.sender.now c.args.moment m))
+    (sym c.in-Release.is)
 
 pub returns-in-Redeem : goal.returns-in-Redeem
 returns-in-Redeem c =
     c.redeem.ensures c.args.sender.now
-    ∙ ap (λ (m : Message). refusal_in (rows_of c.args.self.now.history c.args.sender.now c.args.moment m)) (sym c.in-Redeem.is)
+    ∙ ap (λ (m : Message). refusal_in (rows_of c.args.self.now.history c.args.sender.now c.args.moment m))
+    (sym c.in-Redeem.is)

@@ -19,7 +19,8 @@ results_reading-requires c = (
 pub returns : goal.returns
 returns c =
     let a = c.announced-terms.result.announcement in
-    let is : IsAuctionOf c.args.self.now.history c.self.inside.tables c.announced-terms.result c.book.result.now.lines = record {
+    let is : IsAuctionOf c.args.self.now.history c.self.inside.tables c.announced-terms.result c.book.result.now.lines =
+    record {
       tied = subst (λ (h : House). AreTied h.history c.self.inside.tables) c.self.view_is c.self.invariant.tied;
       name = c.args.auction.now;
       announced = c.announced-terms.ensures;

@@ -9,8 +9,11 @@ use Rattle.tb_core.proofs.host.Host.settle.Goals as goal
 
 pub returns : goal.returns
 returns c sender =
-    subst (λ (h : House). c.settle_refusal.result ≡ refusal_in (rows_of h.history sender c.args.moment (message.Settle c.args.auction.now)))
+    subst (λ (h : House). c.settle_refusal.result
+    ≡ refusal_in (rows_of h.history sender c.args.moment (message.Settle c.args.auction.now)))
     c.self.view_is
-    (c.settle_refusal.ensures ∙ ap refusal_in (tied_settle c.self.inside.entries.list c.self.inside.tables c.self.invariant.tied sender c.args.moment
+    (c.settle_refusal.ensures
+    ∙ ap refusal_in (tied_settle c.self.inside.entries.list c.self.inside.tables c.self.invariant.tied sender
+    c.args.moment
     c.args.auction.now c.terms_of-terms.result c.has_name-published.result c.has_name-settled.result
     c.terms_of-terms.ensures c.has_name-published.ensures c.has_name-settled.ensures))

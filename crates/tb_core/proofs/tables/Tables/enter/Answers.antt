@@ -18,7 +18,8 @@ enter_rows-requires-clause-few c =
 
 pub enter_rows-requires-clause-takes : goal.enter_rows-requires-clause-takes
 enter_rows-requires-clause-takes c =
-    subst (λ (tables : Tables). TakesMessage tables.bidders.list c.args.sender.now c.args.number c.args.message.now tables.shelf)
+    subst (λ (tables : Tables).
+    TakesMessage tables.bidders.list c.args.sender.now c.args.number c.args.message.now tables.shelf)
     (sym c.move_par.ensures.keeps.same) c.requires.takes
 
 pub returns-clause-entered : goal.returns-clause-entered

@@ -10,13 +10,20 @@ use Rattle.tb_core.proofs.tables.Tables.move_par.Goals as goal
 
 pub returns-in-Settle-clause-told : goal.returns-in-Settle-clause-told
 returns-in-Settle-clause-told c =
-    subst (λ (m : Message). TellsNext (movement_in c.args.self.now c.args.sender.now c.args.number m) c.args.self.now.accounts
+    subst (λ (m : Message). TellsNext (movement_in c.args.self.now c.args.sender.now c.args.number m)
+    c.args.self.now.accounts
     c.settle.new.self.accounts) (sym c.in-Settle.is) c.settle.ensures.told
 
 pub returns-in_default-clause-keeps : goal.returns-in_default-clause-keeps
 returns-in_default-clause-keeps c = record {
   same = refl;
-  scratch = record { lasts = refl; lines = omega arith; bidders = omega arith; positions = omega arith };
+  scratch = record {
+    lasts = refl;
+    lines = omega arith;
+    bidders = omega arith;
+    positions = omega arith;
+    awards = omega arith;
+  };
 }
 
 pub returns-in_default-clause-told : goal.returns-in_default-clause-told

@@ -7,7 +7,8 @@ use Rattle.tb_core.proofs.tables.Tables.reserve.Goals as goal
 pub returns-clause-rows : goal.returns-clause-rows
 returns-clause-rows c =
     whatever c.reserve_ahead.result
-    (c.reserve_ahead.ensures.room (length c.args.ahead.now + 1) c.in_ok-reserve_rows.ensures.spare)
+    (c.reserve_ahead.ensures.room (length c.args.ahead.now + length c.args.messages.now)
+    c.in_ok-reserve_rows.ensures.spare)
 
 pub returns-clause-room : goal.returns-clause-room
 returns-clause-room c room has = c.reserve_ahead.ensures.room room (c.reserve_rows.ensures.room room has)

@@ -11,7 +11,8 @@ pub settle_by-requires-clause-tied : goal.settle_by-requires-clause-tied
 settle_by-requires-clause-tied c = (
   c.requires.tied.0,
   c.requires.tied.1,
-  subst (λ (all : List Announcement). announcement_of all c.in-Some.terms.announcement.auction ≡ Some c.in-Some.terms.announcement)
+  subst (λ (all : List Announcement). announcement_of all c.in-Some.terms.announcement.auction
+      ≡ Some c.in-Some.terms.announcement)
       c.requires.tied.1.auctions_are
       (found-named _ c.args.auction.now c.in-Some.terms.announcement (sym c.in-Some.ensures)),
 )

@@ -25,7 +25,8 @@ pub cut_auction-outcome-requires-clause-lines : goal.cut_auction-outcome-require
 cut_auction-outcome-requires-clause-lines c =
     omega (
       arith,
-      lines-few c.requires.tied.0 c.args.self.now c.args.terms.now.announcement.auction c.in-Some.book.now c.requires.tied.1
+      lines-few c.requires.tied.0 c.args.self.now c.args.terms.now.announcement.auction c.in-Some.book.now
+          c.requires.tied.1
           c.in-Some.ensures.some,
       c.requires.room.lines,
     )
@@ -51,7 +52,8 @@ credit_awards-requires-clause-bidding c = (
 pub returns-in-Some-clause-told : goal.returns-in-Some-clause-told
 returns-in-Some-clause-told c =
     let bidding = bidding_on c.args.self.now c.args.terms.now.announcement in
-    let same : Some (Settled c.bill_number-security.result (credits_for c.args.self.now.submitters.list bidding c.rows.result.now))
+    let same : Some (Settled c.bill_number-security.result
+    (credits_for c.args.self.now.submitters.list bidding c.rows.result.now))
     ≡ settled_in c.args.self.now (Some c.args.terms.now.announcement) =
     rw (c.bill_number-security.ensures, c.rows.ensures) refl in
     subst (λ (next : Option Movement). TellsNext next c.args.self.now.accounts c.credit_awards.new.accounts) same
@@ -63,5 +65,6 @@ returns-in-Some-clause-told c =
 
 pub returns-in_default-clause-told : goal.returns-in_default-clause-told
 returns-in_default-clause-told c movements told =
-    absurd (book-there c.requires.tied.0 c.args.self.now c.args.terms.now.announcement.auction c.args.terms.now.announcement
+    absurd (book-there c.requires.tied.0 c.args.self.now c.args.terms.now.announcement.auction
+    c.args.terms.now.announcement
     c.requires.tied.1 c.requires.tied.2 c.in_default.ensures.none)
