@@ -1,0 +1,9 @@
+pub mod GroupLemmas
+pub mod StepLemmas
+pub mod TurnLemmas
+pub mod DeskLemmas
+pub mod ReplayLemmas
+pub mod ExactLemmas
+pub mod JudgeLemmas
+pub mod AnswerLemmas
+pub mod GroupAnswerLemmas

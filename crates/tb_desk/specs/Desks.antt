@@ -1,0 +1,106 @@
+-- What contracts see of a desk, and what holds of every desk.
+use Rattle.std.specs.Prelude.{◌≡◌, ◌⊎◌, ℕ, ◌+◌, ◌≤◌, min, List, [], ◌∷◌, ◌++◌, ◌-◌, length, map, replicate, take, Option, Some, None, refl}
+use Rattle.std.specs.Coded.{Coded, code_by, coded×, coded_ℕ, coded_list}
+use Rattle.tb_link.specs.Counts.{last_count}
+use Rattle.tb_disk.specs.Disks.{DiskState}
+use Rattle.tb_message.specs.declared.message.Entry.{Entry}
+use Rattle.tb_message.specs.contracts.message.Entry as entry
+use Rattle.tb_message.specs.declared.verdict.Verdict.{Verdict}
+use Rattle.tb_core.specs.declared.host.Host.{Host}
+use Rattle.tb_core.specs.contracts.host.Host as host
+use Rattle.tb_history.specs.Legal.{IsLegal}
+use Rattle.tb_desk.specs.declared.reply.Reply.{Reply}
+use Rattle.tb_desk.specs.declared.reply.Reply.TheVariants as reply
+use Rattle.tb_desk.specs.declared.reply.GroupReply.{GroupReply}
+use Rattle.tb_desk.specs.declared.reply.GroupReply.TheVariants as group
+use Rattle.tb_desk.specs.Stands.{StandsForEither, Stands, CrashesLeave}
+use Rattle.tb_desk.specs.Turn.{Held, Replies}
+
+-- The disk now and as the opening left it; what was accepted, and the room for more; the group in doubt; the place of
+-- the journal's gate; how many entries were recovered; and how many calls since the opening were answered with a disk
+-- fault.
+pub record DeskView (D : Type 0) : Type 0 where
+  pub disk : D
+  pub opened : D
+  pub host : Host
+  pub doubt : List Entry
+  pub gate : ℕ
+  pub recovered : ℕ
+  pub faults : ℕ
+
+abbrev pub desk_code : {D : Type 0} → Coded D → Coded (DeskView D)
+desk_code {D} disk =
+    code_by (D × (D × (Host × (List Entry × (ℕ × (ℕ × ℕ))))))
+    (coded× disk (coded× disk (coded× host.the_row.coded (coded× (coded_list entry.the_row.coded)
+    (coded× coded_ℕ (coded× coded_ℕ coded_ℕ))))))
+    (λ v. (v.disk, (v.opened, (v.host, (v.doubt, (v.gate, (v.recovered, v.faults)))))))
+    (λ p. record {
+      disk = p.0;
+      opened = p.1.0;
+      host = p.1.1.0;
+      doubt = p.1.1.1.0;
+      gate = p.1.1.1.1.0;
+      recovered = p.1.1.1.1.1.0;
+      faults = p.1.1.1.1.1.1;
+    })
+    (λ _. refl)
+
+-- the history and the group in doubt
+abbrev pub held : {D : Type 0} → DeskView D → Held
+held desk = record { history = desk.host.history; doubt = desk.doubt }
+
+-- but for the room, nothing has changed
+pub record IsSame {D : Type 0} (old new : DeskView D) : Type 0 where
+  pub disk : new.disk ≡ old.disk
+  pub opened : new.opened ≡ old.opened
+  pub doubt : new.doubt ≡ old.doubt
+  pub gate : new.gate ≡ old.gate
+  pub recovered : new.recovered ≡ old.recovered
+  pub faults : new.faults ≡ old.faults
+
+-- A file stands for a beginning of the history that has the recovered one, or for it followed by one group that was
+-- accepted on it.
+pub record IsBeginning (history : List Entry) (recovered : ℕ) (file : List ℕ) : Type 0 where
+  pub kept : ℕ
+  pub enough : recovered ≤ kept
+  pub within : kept ≤ length history
+  pub group : List Entry
+  pub accepted : IsLegal (take kept history ++ group)
+  pub stands : StandsForEither (take kept history) group file
+
+-- what holds of every desk
+pub record IsDesk (disk opened : DiskState) (gate : ℕ) (next : Option ℕ) (history doubt : List Entry)
+    (recovered faults : ℕ) : Type 0 where
+  pub stands : Stands disk gate next history doubt
+  pub recovers : recovered ≤ length history
+  -- every crash since the opening
+  pub since : CrashesLeave (IsBeginning history recovered) opened disk
+  pub counted : (opened.faults + faults ≤ disk.faults) ⊎ (disk.faults ≡ last_count)
+  pub limited : faults ≤ last_count
+
+-- the room that every desk has for a group, and for its payload
+pub record HasBuffers (entries bytes : ℕ) : Type 0 where
+  pub entries_fit : 64 ≤ entries
+  pub bytes_fit : 32768 ≤ bytes
+
+-- a reply to one message
+abbrev pub replies_of : Reply → Replies
+replies_of (reply.Verdict verdict) = Some (verdict ∷ [])
+replies_of reply.DiskFault = None
+
+-- the answer to a group tells the verdicts in the first places, in order, and nothing in the others
+abbrev pub Tells : GroupReply → List (Option Verdict) → Replies → Type 0
+Tells group.Verdicts places (Some given) = places ≡ map Some given ++ replicate (64 - length given) None
+Tells group.Verdicts places None = ⊥
+Tells group.DiskFault places (Some given) = ⊥
+Tells group.DiskFault places None = places ≡ replicate 64 None
+
+-- a group was answered, or met a fault
+abbrev pub told_by : GroupReply → Replies
+told_by group.Verdicts = Some []
+told_by group.DiskFault = None
+
+-- a disk fault is counted, as long as the count isn't at its last value
+abbrev pub CountsFault : Replies → ℕ → ℕ → Type 0
+CountsFault None old new = new ≡ min (old + 1) last_count
+CountsFault (Some verdicts) old new = new ≡ old

@@ -1,0 +1,5 @@
+pub mod Stands
+pub mod Turn
+pub mod Desks
+pub mod Replay
+pub mod Replaying

@@ -1,0 +1,67 @@
+-- What an opening finds in a journal's payloads.
+use Rattle.std.specs.Prelude.{◌≡◌, ◌≢◌, ◌⊎◌, ℕ, ◌<◌, List, [], ◌++◌, length, take, slice_index_or, Result, Ok, Err}
+use Rattle.tb_disk.specs.Past.{Past, Then}
+use Rattle.tb_disk.specs.Steps.{Synced}
+use Rattle.tb_journal.specs.Frames.{front}
+use Rattle.tb_journal.specs.Image.{StandsFor, IsNoJournal, IsDamaged}
+use Rattle.tb_journal.specs.declared.fault.JournalFault.{JournalFault}
+use Rattle.tb_journal.specs.declared.fault.JournalFault.TheVariants as journal
+use Rattle.tb_desk.specs.declared.fault.OpenFault.{OpenFault}
+use Rattle.tb_desk.specs.declared.fault.OpenFault.TheVariants as fault
+use Rattle.tb_message.specs.declared.message.Entry.{Entry}
+use Rattle.tb_message.specs.Spelling.{spellings}
+use Rattle.tb_history.specs.Legal.{IsLegal}
+use Rattle.tb_desk.specs.Stands.{joined, payloads_of, IsGroup, StandsForHistory}
+
+-- The payload is the records of no group that can follow on the history: it is no list of records, or one of them isn't
+-- accepted on those before it, or its moment goes back.
+abbrev pub IsNoGroup : List Entry → List ℕ → Type 0
+IsNoGroup history payload = (group : List Entry) → IsGroup group → payload ≡ spellings group
+    → ¬ (IsLegal (history ++ group))
+
+-- The payloads before this place are groups that make up a legal history, and the one there is no group that can
+-- follow.
+pub record IsBadPayload (payloads : List (List ℕ)) (place : ℕ) : Type 0 where
+  pub groups : List (List Entry)
+  pub legal : IsLegal (joined groups)
+  pub within : length groups < length payloads
+  pub before : payloads_of groups ≡ take (length groups) payloads
+  pub bad : IsNoGroup (joined groups) (slice_index_or payloads (length groups) [])
+  pub at : place ≡ length (front (payloads_of groups))
+
+-- a refusal of the journal is one of the desk
+abbrev pub lifted : JournalFault → OpenFault
+lifted journal.DiskFault = fault.DiskFault
+lifted (journal.NotAJournal found) = fault.NotAJournal found
+lifted (journal.Damaged place) = fault.Damaged place
+lifted journal.OutOfMemory = fault.OutOfMemory
+
+-- what an opening may answer: the history, or the refusal
+abbrev pub Answer : Type 0
+Answer = Result (List Entry) OpenFault
+
+-- the answer is true of the file
+abbrev pub IsTrueOf : List ℕ → Answer → Type 0
+IsTrueOf file (Ok history) = StandsForHistory history file × IsLegal history
+IsTrueOf file (Err (fault.NotAJournal found)) = IsNoJournal file found
+IsTrueOf file (Err (fault.Damaged place)) =
+    IsDamaged file place ⊎ ((payloads : List (List ℕ)) × StandsFor payloads file × IsBadPayload payloads place)
+IsTrueOf file (Err fault.DiskFault) = Unit {0}
+IsTrueOf file (Err fault.OutOfMemory) = Unit {0}
+
+-- the answer speaks of the file, and not of a failing disk or of memory
+abbrev pub SpeaksOfFile : Answer → Type 0
+SpeaksOfFile answer = (answer ≢ Err fault.DiskFault) × (answer ≢ Err fault.OutOfMemory)
+
+-- It is true of the file, and no other is: so where the disk doesn't fail and memory doesn't run out, each answer is
+-- given exactly where it is true.
+pub record IsExact (file : List ℕ) (answer : Answer) : Type 0 where
+  pub is_true : IsTrueOf file answer
+  pub only : (other : Answer) → IsTrueOf file other → SpeaksOfFile other → SpeaksOfFile answer → answer ≡ other
+
+-- a file that is no journal, or damaged, was put on the disk and nothing else: its contents are as they were
+abbrev pub LeavesRefused : OpenFault → Past → Past → Type 0
+LeavesRefused (fault.NotAJournal found) before now = now ≡ Then Synced before
+LeavesRefused (fault.Damaged place) before now = now ≡ Then Synced before
+LeavesRefused fault.DiskFault before now = Unit {0}
+LeavesRefused fault.OutOfMemory before now = Unit {0}

@@ -1,0 +1,391 @@
+//! The desk between its calls.
+ghost use Rattle.std.specs.Prelude.{ℕ, ◌≡◌, ◌≢◌, ◌⊎◌, ◌+◌, ◌*◌, ◌≤◌, ◌++◌, ◌∷◌, [], ◌↔◌, List, None, Some, true, false, IsTrue, IfSome, OnOk, OnErr, IfOk, IfErr, Ok, Err, length, vec_capacity};
+ghost use Rattle.tb_link.specs.Counts.{Rose, NeverFalls, last_count};
+ghost use Rattle.tb_disk.specs.Past.{contents_of};
+ghost use Rattle.tb_terms.specs.declared.refusal.Refusal.{Refusal};
+ghost use Rattle.tb_message.specs.declared.message.Entry.{Entry};
+ghost use Rattle.tb_message.specs.Spelling.{IsNumbered};
+ghost use Rattle.tb_history.specs.Roster.{registrations, is_published};
+ghost use Rattle.tb_history.specs.Legal.{IsLegal, last_of};
+ghost use Rattle.tb_history.specs.OwnPart.{own_part};
+ghost use Rattle.tb_history.specs.Answer.{submitter_of, query_refusal, asks_on};
+ghost use Rattle.tb_history.specs.Readings.{IsReading};
+ghost use Rattle.tb_core.specs.declared.refused.QueryRefused.TheVariants as answer;
+ghost use Rattle.tb_core.specs.Rooms.{Fits, behind, behind_all};
+ghost use Rattle.tb_disk.specs.Disks.{DiskState};
+ghost use Rattle.tb_journal.specs.Journal.{Told};
+ghost use Rattle.tb_journal.specs.Opening.{Finds, IsHarmless};
+ghost use Rattle.tb_journal.specs.Places.{StandsAt};
+ghost use Rattle.tb_desk.specs.declared.reply.Reply.TheVariants as reply;
+ghost use Rattle.tb_desk.specs.declared.reply.GroupReply.TheVariants as group;
+ghost use Rattle.tb_desk.specs.declared.fault.OpenFault.TheVariants as fault;
+ghost use Rattle.tb_desk.specs.Stands.{StandsForHistory, StandsForEither, Stands, CrashesLeave, LeavesEither};
+ghost use Rattle.tb_desk.specs.Replay.{IsExact, LeavesRefused};
+ghost use Rattle.tb_desk.specs.Replaying.{IsReplayed, IsReplayFault};
+ghost use Rattle.tb_desk.specs.Turn.{Turns, Replies, IsOneOf, AreBids, AreNumbered};
+ghost use Rattle.tb_desk.specs.Desks.{held, IsSame, IsBeginning, replies_of, Tells, told_by, CountsFault};
+
+use crate::fault::{OpenFault, lifted};
+use crate::replay::replay;
+use crate::reply::{GroupReply, Reply};
+use crate::steps::{turn, turn_group};
+use std::alloc::Global;
+use std::marker::Model;
+use std::snapshot::Snapshot;
+use tb_core::{Host, QueryRefused};
+use tb_disk::Disk;
+use tb_history::Reading;
+use tb_journal::Journal;
+use tb_message::{Entry, Message, Query, Verdict};
+use tb_units::{Ident, Moment, OutOfMemory};
+
+// Entries of the longest group, and bytes of the longest payload.
+const LONGEST_GROUP: usize = 64;
+
+const LONGEST_PAYLOAD: usize = 32_768;
+
+/// The host machine on a disk. It keeps the group in doubt, and for contracts the disk as the opening left it.
+#[derive(Drop)]
+pub struct Desk<D: Disk> {
+    journal: Journal<D>,
+    host: Host,
+    doubt: Vec<Entry>,
+    payload: Vec<u8>,
+    faults: u64,
+    recovered: u64,
+    opened: Snapshot<Journal<D>>,
+}
+
+impl<D: Disk> Model for Desk<D> {
+    ghost use Rattle.std.specs.Prelude.{vec_capacity};
+    ghost use Rattle.tb_desk.specs.Desks.{DeskView, desk_code, IsDesk, HasBuffers};
+
+    ghost Value = { DeskView D };
+
+    ghost coded = { desk_code D.code };
+
+    ghost view = { λ a. record {
+      disk = a.journal.disk;
+      opened = a.opened.value.disk;
+      host = a.host;
+      doubt = a.doubt.items;
+      gate = a.journal.gate;
+      recovered = a.recovered;
+      faults = a.faults;
+    } };
+
+    ghost invariant = { λ a. IsDesk (D.disk a.journal.disk) (D.disk a.opened.value.disk) a.journal.gate a.journal.doubt
+        a.host.history a.doubt.items a.recovered a.faults
+        × HasBuffers (vec_capacity a.doubt) (vec_capacity a.payload) };
+}
+
+// A desk that was just opened.
+fn opened<D: Disk>(journal: Journal<D>, host: Host, doubt: Vec<Entry>, payload: Vec<u8>) -> Desk<D>
+    requires stands { Stands (D.disk journal.disk) journal.gate journal.doubt host.history [] }
+    requires sure { doubt.items ≡ [] }
+    requires buffers { (64 ≤ vec_capacity doubt) × (32768 ≤ vec_capacity payload) }
+    ensures disk { (result.disk ≡ journal.disk) × (result.opened ≡ journal.disk) × (result.gate ≡ journal.gate) }
+    ensures host { result.host ≡ host }
+    ensures made { (result.doubt ≡ []) × (result.recovered ≡ length host.history) × (result.faults ≡ 0) }
+{
+    Desk {
+        opened: Snapshot::of(&journal),
+        recovered: host.entries(),
+        journal,
+        host,
+        doubt,
+        payload,
+        faults: 0,
+    }
+}
+
+// The count of faults after a reply.
+fn faults_after(reply: &Reply, faults: u64) -> u64
+    ensures { CountsFault (replies_of reply.now) faults result }
+{
+    match reply {
+        Reply::DiskFault => faults.saturating_add(1),
+        Reply::Verdict(_) => faults,
+    }
+}
+
+impl<D: Disk> Desk<D> {
+    /// Opens the desk on a disk, with the history that it stands for. A refusal hands the disk back.
+    pub fn open(alloc: Global, disk: D) -> Result<Desk<D>, (D, OpenFault)>
+        ensures found { IfOk result (λ desk. IfSome (D.disk disk).past
+            (λ past. StandsForHistory desk.host.history (contents_of past))) }
+        ensures made { IfOk result (λ desk. (desk.doubt ≡ []) × (desk.recovered ≡ length desk.host.history)
+            × (desk.faults ≡ 0) × (desk.opened ≡ desk.disk)) }
+        // Each answer is given exactly where it is true of the file.
+        ensures exact { IfOk result (λ desk. IfSome (D.disk disk).past
+            (λ past. IsExact (contents_of past) (Ok desk.host.history))) }
+        ensures exact_refusal { IfErr result (λ refused. IfSome (D.disk disk).past
+            (λ past. IsExact (contents_of past) (Err refused.1))) }
+        // A refused file was synced and nothing else.
+        ensures refused { IfErr result (λ refused. Told (D.disk disk) (D.disk refused.0) (LeavesRefused refused.1)) }
+        // A crash at any moment leaves what a crash before the call could leave, or what stands for the same payloads.
+        ensures crash { IfOk result (λ desk. Told (D.disk disk) (D.disk desk.disk) IsHarmless) }
+        ensures crash_refused { IfErr result (λ refused. Told (D.disk disk) (D.disk refused.0) IsHarmless) }
+        ensures fault { IfErr result (λ refused. refused.1 ≡ fault.DiskFault
+            → Rose (D.disk disk).faults (D.disk refused.0).faults) }
+        ensures no_fault { IfOk result (λ desk. (D.disk desk.disk).faults ≡ (D.disk disk).faults) }
+        ensures no_fault_refused { IfErr result (λ refused. refused.1 ≢ fault.DiskFault
+            → (D.disk refused.0).faults ≡ (D.disk disk).faults) }
+        ensures count_refused { IfErr result (λ refused. NeverFalls (D.disk disk).faults (D.disk refused.0).faults) }
+    {
+        match Journal::open(alloc, disk) {
+            Err((disk, fault)) => Err((disk, lifted(fault))),
+            Ok(journal) => ready(alloc, journal),
+        }
+    }
+
+    /// Takes the memory for a message, and for what is in doubt.
+    pub fn make_room(&mut self, message: &Message) -> Result<(), OutOfMemory>
+        ensures fits { OnOk result (Fits self.new.host.room (behind self.new.doubt message.now)) }
+        // All else stays, whatever the result.
+        ensures history { self.new.host.history ≡ self.old.host.history }
+        ensures same { IsSame self.old self.new }
+    {
+        self.host.make_room(&self.doubt, message)
+    }
+
+    /// Whether there is room for a message, and for what is in doubt.
+    pub fn has_room(&self, message: &Message) -> bool
+        ensures { (result ≡ true) ↔ Fits self.now.host.room (behind self.now.doubt message.now) }
+    {
+        self.host.has_room(&self.doubt, message)
+    }
+
+    /// The submitter that is registered with the key.
+    pub fn caller(&self, key: &Ident) -> Option<Ident>
+        ensures { result ≡ submitter_of (registrations self.now.host.history) key.now }
+    {
+        self.host.caller(key)
+    }
+
+    /// The moment of the last entry, and the first moment there is where there is none.
+    pub fn last(&self) -> Moment
+        ensures { result.seconds ≡ last_of self.now.host.history }
+    {
+        self.host.last()
+    }
+
+    /// How many entries there are.
+    pub fn entries(&self) -> u64
+        ensures entries { result ≡ length self.now.host.history }
+        ensures limit { length self.now.host.history ≤ 4097 * 1048576 }
+        ensures legal { IsLegal self.now.host.history }
+        ensures accepted { IsLegal (self.now.host.history ++ self.now.doubt) }
+        ensures recovers { self.now.recovered ≤ length self.now.host.history }
+        // What every crash since the opening left, and what one now leaves.
+        ensures since { CrashesLeave (IsBeginning self.now.host.history self.now.recovered) (D.disk self.now.opened)
+            (D.disk self.now.disk) }
+        ensures leaves { LeavesEither (D.disk self.now.disk) self.now.host.history self.now.doubt }
+    {
+        self.host.entries()
+    }
+
+    /// Whether a group is in doubt.
+    pub fn unsure(&self) -> bool
+        ensures { IsTrue result ↔ (1 ≤ length self.now.doubt) }
+    {
+        !self.doubt.is_empty()
+    }
+
+    /// How many of its calls since the opening were answered with a disk fault, or the last value of a count where
+    /// there were more.
+    pub fn faults(&self) -> u64
+        ensures faults { result ≡ self.now.faults }
+        ensures counted { ((D.disk self.now.opened).faults + result ≤ (D.disk self.now.disk).faults)
+            ⊎ ((D.disk self.now.disk).faults ≡ last_count) }
+    {
+        self.faults
+    }
+
+    /// The disk as it stands.
+    pub fn into_disk(self) -> D
+        ensures disk { result ≡ self.disk }
+        ensures legal { IsLegal self.host.history }
+        ensures accepted { IsLegal (self.host.history ++ self.doubt) }
+        ensures stands { IfSome (D.disk result).past
+            (λ past. StandsForEither self.host.history self.doubt (contents_of past)) }
+        ensures leaves { LeavesEither (D.disk result) self.host.history self.doubt }
+        ensures since { CrashesLeave (IsBeginning self.host.history self.recovered) (D.disk self.opened)
+            (D.disk result) }
+    {
+        let Desk {
+            journal,
+            host: _,
+            doubt: _,
+            payload: _,
+            faults: _,
+            recovered: _,
+            opened: _,
+        } = self;
+        journal.into_disk()
+    }
+
+    /// What a query of the submitter is answered, by the entries that count.
+    pub fn read(
+        &self,
+        alloc: Global,
+        submitter: &Ident,
+        query: &Query,
+    ) -> Result<Reading, QueryRefused>
+        ensures refused { (refusal : Refusal) → (result ≡ Err (answer.Refused refusal))
+            ↔ (query_refusal self.now.host.history submitter.now query.now ≡ Some refusal) }
+        ensures reading { IfOk result (λ reading. IsReading self.now.host.history submitter.now query.now reading) }
+        // Answers are sealed: a refusal is that on the submitter's own part of the history, and so is what is read on
+        // an auction whose results aren't published.
+        ensures sealed_refusal { (refusal : Refusal) → (result ≡ Err (answer.Refused refusal))
+            ↔ (query_refusal (own_part submitter.now self.now.host.history) submitter.now query.now ≡ Some refusal) }
+        ensures sealed_reading { (auction : List ℕ) → asks_on auction query.now ≡ true
+            → is_published self.now.host.history auction ≡ false
+            → IfOk result
+            (λ reading. IsReading (own_part submitter.now self.now.host.history) submitter.now query.now reading) }
+    {
+        self.host.read(alloc, submitter, query)
+    }
+
+    /// Answers a message: what is in doubt is resolved, and then the verdict is given at the running moment. What is
+    /// accepted stays through a crash at any moment from then on.
+    pub fn submit(
+        &mut self,
+        submitter: &Ident,
+        number: u64,
+        moment: Moment,
+        message: &Message,
+    ) -> Reply
+        requires room { Fits self.old.host.room (behind self.old.doubt message.now) }
+        requires numbered { IsNumbered number message.now }
+        // The four ways of a turn.
+        ensures turn { Turns self.old.gate (D.disk self.old.disk)
+            (record { submitter = submitter.now; moment = moment; messages = (number, message.now) ∷ [] })
+            (held self.old) (held self.new) (replies_of result) }
+        // A crash at any moment of the call leaves one of these histories.
+        ensures crash { CrashesLeave (IsOneOf (held self.old) (held self.new)) (D.disk self.old.disk)
+            (D.disk self.new.disk) }
+        // From then on a crash leaves the history, and after a fault it or that with what is in doubt.
+        ensures sure { result ≢ reply.DiskFault → self.new.doubt ≡ [] }
+        ensures leaves { LeavesEither (D.disk self.new.disk) self.new.host.history self.new.doubt }
+        ensures fault { result ≡ reply.DiskFault → Rose (D.disk self.old.disk).faults (D.disk self.new.disk).faults }
+        ensures no_fault { result ≢ reply.DiskFault → (D.disk self.new.disk).faults ≡ (D.disk self.old.disk).faults }
+        ensures count { NeverFalls (D.disk self.old.disk).faults (D.disk self.new.disk).faults }
+        ensures faults { CountsFault (replies_of result) self.old.faults self.new.faults }
+        ensures kept { (self.new.opened ≡ self.old.opened) × (self.new.recovered ≡ self.old.recovered) }
+    {
+        let reply = turn(
+            &mut self.journal,
+            &mut self.host,
+            &mut self.doubt,
+            &mut self.payload,
+            submitter,
+            number,
+            moment,
+            message,
+        );
+        self.faults = faults_after(&reply, self.faults);
+        reply
+    }
+
+    /// Takes the memory for a group of bids, and for what is in doubt.
+    pub fn make_room_group(&mut self, messages: &[(u64, Message)]) -> Result<(), OutOfMemory>
+        ensures fits { OnOk result (Fits self.new.host.room (behind_all self.new.doubt messages.now)) }
+        ensures history { self.new.host.history ≡ self.old.host.history }
+        ensures same { IsSame self.old self.new }
+    {
+        self.host.make_room_group(&self.doubt, messages)
+    }
+
+    /// Whether there is room for a group of bids, and for what is in doubt.
+    pub fn has_room_group(&self, messages: &[(u64, Message)]) -> bool
+        ensures { (result ≡ true) ↔ Fits self.now.host.room (behind_all self.now.doubt messages.now) }
+    {
+        self.host.has_room_group(&self.doubt, messages)
+    }
+
+    /// Answers a group of bids of one submitter at one moment, under one gate: each is judged on the history and the
+    /// bids before it that were accepted, and a crash keeps all that were accepted or none of them. The first places
+    /// hold the verdicts in order, the others nothing; after a fault none does.
+    pub fn submit_group(
+        &mut self,
+        submitter: &Ident,
+        moment: Moment,
+        messages: &[(u64, Message)],
+        verdicts: &mut [Option<Verdict>; 64],
+    ) -> GroupReply
+        requires size { (1 ≤ length messages.now) × (length messages.now ≤ 64) }
+        requires bids { AreBids messages.now }
+        requires numbered { AreNumbered messages.now }
+        requires room { Fits self.old.host.room (behind_all self.old.doubt messages.now) }
+        // The ways of a turn.
+        ensures turn { (replies : Replies) × Tells result verdicts.new replies
+            × Turns self.old.gate (D.disk self.old.disk)
+            (record { submitter = submitter.now; moment = moment; messages = messages.now })
+            (held self.old) (held self.new) replies }
+        ensures crash { CrashesLeave (IsOneOf (held self.old) (held self.new)) (D.disk self.old.disk)
+            (D.disk self.new.disk) }
+        ensures sure { result ≢ group.DiskFault → self.new.doubt ≡ [] }
+        ensures leaves { LeavesEither (D.disk self.new.disk) self.new.host.history self.new.doubt }
+        ensures fault { result ≡ group.DiskFault → Rose (D.disk self.old.disk).faults (D.disk self.new.disk).faults }
+        ensures no_fault { result ≢ group.DiskFault → (D.disk self.new.disk).faults ≡ (D.disk self.old.disk).faults }
+        ensures count { NeverFalls (D.disk self.old.disk).faults (D.disk self.new.disk).faults }
+        ensures faults { CountsFault (told_by result) self.old.faults self.new.faults }
+        ensures kept { (self.new.opened ≡ self.old.opened) × (self.new.recovered ≡ self.old.recovered) }
+    {
+        let reply = turn_group(
+            &mut self.journal,
+            &mut self.host,
+            &mut self.doubt,
+            &mut self.payload,
+            submitter,
+            moment,
+            messages,
+            verdicts,
+        );
+        self.faults = faults_after_group(&reply, self.faults);
+        reply
+    }
+}
+
+// The count of faults after a reply to a group.
+fn faults_after_group(reply: &GroupReply, faults: u64) -> u64
+    ensures { CountsFault (told_by reply.now) faults result }
+{
+    match reply {
+        GroupReply::DiskFault => faults.saturating_add(1),
+        GroupReply::Verdicts => faults,
+    }
+}
+
+// A desk on a journal that was just opened.
+fn ready<D: Disk>(alloc: Global, mut journal: Journal<D>) -> Result<Desk<D>, (D, OpenFault)>
+    requires opened { journal.opened ≡ journal.disk }
+    requires sure { journal.doubt ≡ None }
+    requires first { StandsAt (D.disk journal.disk) journal.gate 16 }
+    requires finds { (old : DiskState) × Told old (D.disk journal.disk) (Finds journal.gate) }
+    ensures found { IfOk result (λ desk. IsReplayed (D.disk journal.disk) journal.gate desk.host.history) }
+    ensures made { IfOk result (λ desk. (desk.doubt ≡ []) × (desk.recovered ≡ length desk.host.history)
+        × (desk.faults ≡ 0) × (desk.opened ≡ desk.disk)) }
+    ensures refused { IfErr result (λ refused. IsReplayFault (D.disk journal.disk) journal.gate refused.1) }
+    ensures kept { IfOk result (λ desk. (D.disk desk.disk).past ≡ (D.disk journal.disk).past) }
+    ensures kept_refused { IfErr result (λ refused. (D.disk refused.0).past ≡ (D.disk journal.disk).past) }
+    ensures fault { IfErr result (λ refused. refused.1 ≡ fault.DiskFault
+        → Rose (D.disk journal.disk).faults (D.disk refused.0).faults) }
+    ensures no_fault { IfOk result (λ desk. (D.disk desk.disk).faults ≡ (D.disk journal.disk).faults) }
+    ensures no_fault_refused { IfErr result (λ refused. refused.1 ≢ fault.DiskFault
+        → (D.disk refused.0).faults ≡ (D.disk journal.disk).faults) }
+    ensures count_refused { IfErr result (λ refused. NeverFalls (D.disk journal.disk).faults
+        (D.disk refused.0).faults) }
+{
+    let Ok(doubt) = Vec::with_capacity(alloc, LONGEST_GROUP) else {
+        return Err((journal.into_disk(), OpenFault::OutOfMemory));
+    };
+    let Ok(payload) = Vec::with_capacity(alloc, LONGEST_PAYLOAD) else {
+        return Err((journal.into_disk(), OpenFault::OutOfMemory));
+    };
+    match replay(alloc, &mut journal) {
+        Ok(host) => Ok(opened(journal, host, doubt, payload)),
+        Err(fault) => Err((journal.into_disk(), fault)),
+    }
+}

@@ -1,0 +1,20 @@
+//! The desk: the host machine on a disk, where what was acknowledged stays through a crash at any moment.
+#![tactic(auto)]
+
+mod desk;
+mod fault;
+#[cfg(test)]
+mod group_tests;
+mod groups;
+mod judging;
+mod laws;
+mod replay;
+mod reply;
+mod steps;
+#[cfg(test)]
+mod tests;
+
+pub use desk::Desk;
+pub use fault::OpenFault;
+pub use laws::one_history;
+pub use reply::{GroupReply, Reply};
