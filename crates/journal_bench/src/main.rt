@@ -2,7 +2,8 @@
 //!
 //! With no argument it appends three and prints how many it finds when it opens the journal again. With a number it
 //! takes so many turns: an append, and beside it on a second file the two writes, each with a sync of its data, that a
-//! plain program would do. It prints both rates.
+//! plain program would do. It prints both rates. With the word `walk` it walks the frames of `auction.journal` in the
+//! current folder, and prints how many there are.
 #![tactic(auto)]
 
 ghost use Rattle.std.specs.Prelude.{◌≡◌, None};
@@ -90,33 +91,60 @@ fn race(
     println!(rt; "plain: {} turns a second", per_second(count, writing))
 }
 
+// Walks the frames of a journal that lies in the current folder.
+fn walk(rt: &HostRuntime) -> io::Result<()> {
+    let file = OpenOptions::new()
+        .read(true)
+        .write(true)
+        .open(rt, "auction.journal")?;
+    print_payloads(rt, FileDisk::new(file))
+}
+
+fn print_payloads(rt: &HostRuntime, disk: FileDisk) -> io::Result<()> {
+    match Journal::open(rt.alloc(), disk) {
+        Ok(mut journal) => println!(rt; "{} payloads", payloads(&mut journal)),
+        Err((_disk, fault)) => println!(rt; "not opened: {fault:?}"),
+    }
+}
+
 fn main(rt: HostRuntime) -> io::Result<()> {
-    let mut path = env::temp_dir(&rt)?;
+    if is_walk(&rt)? {
+        return walk(&rt);
+    }
+    append(&rt)
+}
+
+fn is_walk(rt: &HostRuntime) -> io::Result<bool> {
+    match env::args(rt)?.nth(1) {
+        Some(word) => Ok(word.as_str() == "walk"),
+        None => Ok(false),
+    }
+}
+
+fn append(rt: &HostRuntime) -> io::Result<()> {
+    let mut path = env::temp_dir(rt)?;
     path.push("journal_bench")?;
-    let mut beside = env::temp_dir(&rt)?;
+    let mut beside = env::temp_dir(rt)?;
     beside.push("journal_bench_plain")?;
-    let asked = match env::args(&rt)?.nth(1) {
+    let asked = match env::args(rt)?.nth(1) {
         Some(word) => word.parse::<u64>().ok(),
         None => None,
     };
-    match Journal::open(rt.alloc(), FileDisk::new(open_empty(&rt, &path)?)) {
+    match Journal::open(rt.alloc(), FileDisk::new(open_empty(rt, &path)?)) {
         Ok(mut journal) => match asked {
             Some(count) => {
-                let file = open_empty(&rt, &beside)?;
-                race(&rt, &mut journal, &file, count)?;
-                fs::remove_file(&rt, beside.as_path())?;
+                let file = open_empty(rt, &beside)?;
+                race(rt, &mut journal, &file, count)?;
+                fs::remove_file(rt, beside.as_path())?;
             }
             None => {
                 for _ in 0..3 {
                     is_added(&mut journal, PAYLOAD);
                 }
-                match Journal::open(rt.alloc(), journal.into_disk()) {
-                    Ok(mut journal) => println!(rt; "{} payloads", payloads(&mut journal))?,
-                    Err((_disk, fault)) => println!(rt; "not opened: {fault:?}")?,
-                }
+                print_payloads(rt, journal.into_disk())?;
             }
         },
         Err((_disk, fault)) => println!(rt; "not opened: {fault:?}")?,
     }
-    fs::remove_file(&rt, path.as_path())
+    fs::remove_file(rt, path.as_path())
 }

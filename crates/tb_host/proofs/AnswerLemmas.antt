@@ -1,5 +1,5 @@
 -- What is answered, in the words of replies.
-use Rattle.std.proofs.Common.{◌≡◌, ℕ, true, Option, Some, None, List, [], ◌++◌, sym, ap, ◌∙◌, refl, append-nil}
+use Rattle.std.proofs.Common.{◌≡◌, ℕ, true, Option, Some, None, List, sym, ap, ◌∙◌, refl}
 use Rattle.std.specs.Prelude.{Result, Ok, Err, IfOk, codes}
 use Rattle.tb_units.specs.Names.{is_name, name_of}
 use Rattle.tb_units.specs.declared.memory.OutOfMemory.{OutOfMemory}
@@ -17,9 +17,13 @@ use Rattle.tb_history.specs.Entries.{is_same, operator}
 use Rattle.tb_history.specs.Readings.{IsReading}
 use Rattle.tb_history.specs.declared.reading.Reading.{Reading}
 use Rattle.tb_history.specs.declared.roster.Registration.{Registration}
-use Rattle.tb_host.specs.Answers.{HasAnswered, reply_text}
-use Rattle.tb_host.specs.Replies.{IsTold, reading_text, refusal_of, refused}
+use Rattle.tb_disk.specs.Disks.{DiskState}
+use Rattle.tb_desk.specs.Desks.{DeskView, IsSame}
+use Rattle.tb_host.specs.Answers.{reply_text}
+use Rattle.tb_host.specs.Replies.{IsAnswered, IsTold, reading_text, refusal_of, refused}
+use Rattle.tb_host.specs.Standings.{Standing, standing}
 use Rattle.tb_host.specs.declared.reply.Reply.{Reply}
+use Rattle.tb_host.proofs.TurnLemmas.{stands-is}
 
 -- the operator's key is that of the operator
 pub operator-caller : (registered : List Registration) (name word : List ℕ) (key : Key) (found : Option (List ℕ))
@@ -44,27 +48,29 @@ told-reading history caller query None reading (Err fault) none is text = tt
 told-reading history caller query (Some other) reading result none is text = absurd (none other refl)
 
 -- a text that is no request is answered its refusal
-pub answered-fault : (history : List Entry) (caller : List ℕ) (moment : Moment) (json reply : List ℕ)
-    (at_fault : ReadFault) (why : Refusal)
+pub answered-fault : (old : Standing) (caller : List ℕ) (moment : Moment) (json reply : List ℕ) (at_fault : ReadFault)
+    (why : Refusal)
     → FaultOf json at_fault
     → refusal_of at_fault ≡ Some why
     → reply ≡ refused why
-    → HasAnswered (Some caller) history moment json reply history
-answered-fault history caller moment json reply at_fault why is told says = record {
-  added = [];
-  answered = (Err why, (at_fault, is, told), (says, refl));
-  new_is = sym (append-nil history);
-}
+    → IsAnswered old (Some caller) moment json reply old
+answered-fault old caller moment json reply at_fault why is told says = (Err why, (at_fault, is, told), (says, refl))
 
 -- a query is answered what it is told
-pub answered-query : (history : List Entry) (caller : List ℕ) (moment : Moment) (json : List ℕ) (query : Query)
+pub answered-query : (old : Standing) (caller : List ℕ) (moment : Moment) (json : List ℕ) (query : Query)
     (result : Result Reply OutOfMemory)
     → AnswerOf json (Ok (request.Query query))
-    → IfOk result (λ reply. IsTold history caller query (query_refusal history caller query) (reply_text reply))
-    → IfOk result (λ reply. HasAnswered (Some caller) history moment json (reply_text reply) history)
-answered-query history caller moment json query (Ok reply) asks told = record {
-  added = [];
-  answered = (Ok (request.Query query), asks, (told, refl));
-  new_is = sym (append-nil history);
-}
-answered-query history caller moment json query (Err fault) asks told = tt
+    → IfOk result
+    (λ reply. IsTold old.history caller query (query_refusal old.history caller query) (reply_text reply))
+    → IfOk result (λ reply. IsAnswered old (Some caller) moment json (reply_text reply) old)
+answered-query old caller moment json query (Ok reply) asks told = (Ok (request.Query query), asks, (told, refl))
+answered-query old caller moment json query (Err fault) asks told = tt
+
+-- where room was made a desk stands as it stood
+pub standing-same : {D : Type 0} (disk : D → DiskState) (old new : DeskView D)
+    → IsSame old new
+    → new.host.history ≡ old.host.history
+    → standing (disk new.disk) new ≡ standing (disk old.disk) old
+standing-same disk old new same history =
+    stands-is (standing (disk new.disk) new) old.host.history old.doubt (disk old.disk).faults history same.doubt
+    (ap (λ (d : DiskState). d.faults) (ap disk same.disk))

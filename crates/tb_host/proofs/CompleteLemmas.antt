@@ -166,6 +166,9 @@ award_complete full ending.ReadFault input input' out out' text ends told book n
     absurd (no_read ends.1)
 award_complete full ending.WriteFault input input' out out' text ends told book no_read no_write =
     absurd (no_write ends.0)
+award_complete full ending.DiskFault input input' out out' text ends told book no_read no_write = absurd ends
+award_complete full (ending.NotAJournal found) input input' out out' text ends told book no_read no_write = absurd ends
+award_complete full (ending.Damaged place) input input' out out' text ends told book no_read no_write = absurd ends
 award_complete full ending.OutOfMemory input input' out out' text ends told book no_read no_write = inr refl
 
 -- an input outside the grammar is refused
@@ -182,4 +185,7 @@ award_refused full (ending.BadInput number) input input' out out' text ends told
 award_refused full ending.ReadFault input input' out out' text ends told bad no_read = absurd (no_read ends.1)
 award_refused full ending.WriteFault input input' out out' text ends told bad no_read =
     absurd (HasBook-good (lines text) (prefix_book full input out out' text ends.1 told) bad)
+award_refused full ending.DiskFault input input' out out' text ends told bad no_read = absurd ends
+award_refused full (ending.NotAJournal found) input input' out out' text ends told bad no_read = absurd ends
+award_refused full (ending.Damaged place) input input' out out' text ends told bad no_read = absurd ends
 award_refused full ending.OutOfMemory input input' out out' text ends told bad no_read = inr refl

@@ -1,6 +1,8 @@
 -- Statuses and the endings that they are of.
-use Rattle.std.proofs.Common.{◌≡◌, ◌≢◌, ℕ, sym, ◌∙◌, refl, arith}
-use Rattle.tb_host.specs.Endings.{status_of}
+use Rattle.std.proofs.Common.{◌≡◌, ◌≢◌, ◌<◌, ◌≤◌, ◌⊎◌, ℕ, List, Some, None, inl, inr, sym, ◌∙◌, refl, arith}
+use Rattle.tb_desk.specs.declared.fault.OpenFault.{OpenFault}
+use Rattle.tb_desk.specs.declared.fault.OpenFault.TheVariants as fault
+use Rattle.tb_host.specs.Endings.{IsUnopened, ending_of, status_of}
 use Rattle.tb_host.specs.declared.ending.Ending.{Ending}
 use Rattle.tb_host.specs.declared.ending.Ending.TheVariants as ending
 
@@ -11,6 +13,9 @@ done-at_0 ending.Usage is = absurd (omega (arith, is))
 done-at_0 (ending.BadInput number) is = absurd (omega (arith, is))
 done-at_0 ending.ReadFault is = absurd (omega (arith, is))
 done-at_0 ending.WriteFault is = absurd (omega (arith, is))
+done-at_0 ending.DiskFault is = absurd (omega (arith, is))
+done-at_0 (ending.NotAJournal found) is = absurd (omega (arith, is))
+done-at_0 (ending.Damaged place) is = absurd (omega (arith, is))
 done-at_0 ending.OutOfMemory is = absurd (omega (arith, is))
 
 -- 2 that of words outside the command set
@@ -20,6 +25,9 @@ usage-at_2 ending.Usage is = refl
 usage-at_2 (ending.BadInput number) is = absurd (omega (arith, is))
 usage-at_2 ending.ReadFault is = absurd (omega (arith, is))
 usage-at_2 ending.WriteFault is = absurd (omega (arith, is))
+usage-at_2 ending.DiskFault is = absurd (omega (arith, is))
+usage-at_2 (ending.NotAJournal found) is = absurd (omega (arith, is))
+usage-at_2 (ending.Damaged place) is = absurd (omega (arith, is))
 usage-at_2 ending.OutOfMemory is = absurd (omega (arith, is))
 
 -- 3 that of a line outside the grammar
@@ -29,6 +37,9 @@ bad-at_3 ending.Usage is = absurd (omega (arith, is))
 bad-at_3 (ending.BadInput number) is = (number, refl)
 bad-at_3 ending.ReadFault is = absurd (omega (arith, is))
 bad-at_3 ending.WriteFault is = absurd (omega (arith, is))
+bad-at_3 ending.DiskFault is = absurd (omega (arith, is))
+bad-at_3 (ending.NotAJournal found) is = absurd (omega (arith, is))
+bad-at_3 (ending.Damaged place) is = absurd (omega (arith, is))
 bad-at_3 ending.OutOfMemory is = absurd (omega (arith, is))
 
 -- 4 that of a failed read
@@ -38,6 +49,9 @@ read-at_4 ending.Usage is = absurd (omega (arith, is))
 read-at_4 (ending.BadInput number) is = absurd (omega (arith, is))
 read-at_4 ending.ReadFault is = refl
 read-at_4 ending.WriteFault is = absurd (omega (arith, is))
+read-at_4 ending.DiskFault is = absurd (omega (arith, is))
+read-at_4 (ending.NotAJournal found) is = absurd (omega (arith, is))
+read-at_4 (ending.Damaged place) is = absurd (omega (arith, is))
 read-at_4 ending.OutOfMemory is = absurd (omega (arith, is))
 
 -- 5 that of a failed write
@@ -47,7 +61,22 @@ write-at_5 ending.Usage is = absurd (omega (arith, is))
 write-at_5 (ending.BadInput number) is = absurd (omega (arith, is))
 write-at_5 ending.ReadFault is = absurd (omega (arith, is))
 write-at_5 ending.WriteFault is = refl
+write-at_5 ending.DiskFault is = absurd (omega (arith, is))
+write-at_5 (ending.NotAJournal found) is = absurd (omega (arith, is))
+write-at_5 (ending.Damaged place) is = absurd (omega (arith, is))
 write-at_5 ending.OutOfMemory is = absurd (omega (arith, is))
+
+-- 6 that of a disk that failed while it was opened
+pub disk-at_6 : (ended : Ending) → status_of ended ≡ 6 → ended ≡ ending.DiskFault
+disk-at_6 ending.Done is = absurd (omega (arith, is))
+disk-at_6 ending.Usage is = absurd (omega (arith, is))
+disk-at_6 (ending.BadInput number) is = absurd (omega (arith, is))
+disk-at_6 ending.ReadFault is = absurd (omega (arith, is))
+disk-at_6 ending.WriteFault is = absurd (omega (arith, is))
+disk-at_6 ending.DiskFault is = refl
+disk-at_6 (ending.NotAJournal found) is = absurd (omega (arith, is))
+disk-at_6 (ending.Damaged place) is = absurd (omega (arith, is))
+disk-at_6 ending.OutOfMemory is = absurd (omega (arith, is))
 
 -- 9 that of want of memory
 pub memory-at_9 : (ended : Ending) → status_of ended ≡ 9 → ended ≡ ending.OutOfMemory
@@ -56,4 +85,48 @@ memory-at_9 ending.Usage is = absurd (omega (arith, is))
 memory-at_9 (ending.BadInput number) is = absurd (omega (arith, is))
 memory-at_9 ending.ReadFault is = absurd (omega (arith, is))
 memory-at_9 ending.WriteFault is = absurd (omega (arith, is))
+memory-at_9 ending.DiskFault is = absurd (omega (arith, is))
+memory-at_9 (ending.NotAJournal found) is = absurd (omega (arith, is))
+memory-at_9 (ending.Damaged place) is = absurd (omega (arith, is))
 memory-at_9 ending.OutOfMemory is = refl
+
+-- 6, 7 and 8 are those of a disk that wasn't opened
+pub unopened-at : (ended : Ending) → 6 ≤ status_of ended → status_of ended ≤ 8 → IsUnopened ended
+unopened-at ending.Done least most = absurd (omega (arith, least, most))
+unopened-at ending.Usage least most = absurd (omega (arith, least, most))
+unopened-at (ending.BadInput number) least most = absurd (omega (arith, least, most))
+unopened-at ending.ReadFault least most = absurd (omega (arith, least, most))
+unopened-at ending.WriteFault least most = absurd (omega (arith, least, most))
+unopened-at ending.DiskFault least most = tt
+unopened-at (ending.NotAJournal found) least most = tt
+unopened-at (ending.Damaged place) least most = tt
+unopened-at ending.OutOfMemory least most = absurd (omega (arith, least, most))
+
+-- there is no other status
+pub other-at : (ended : Ending)
+    → status_of ended ≢ 0
+    → status_of ended ≢ 2
+    → (status_of ended < 3) ⊎ (8 < status_of ended)
+    → status_of ended ≡ 9
+other-at ending.Done done usage far = absurd (done refl)
+other-at ending.Usage done usage far = absurd (usage refl)
+other-at (ending.BadInput number) done usage (inl low) = absurd (omega (arith, low))
+other-at (ending.BadInput number) done usage (inr high) = absurd (omega (arith, high))
+other-at ending.ReadFault done usage (inl low) = absurd (omega (arith, low))
+other-at ending.ReadFault done usage (inr high) = absurd (omega (arith, high))
+other-at ending.WriteFault done usage (inl low) = absurd (omega (arith, low))
+other-at ending.WriteFault done usage (inr high) = absurd (omega (arith, high))
+other-at ending.DiskFault done usage (inl low) = absurd (omega (arith, low))
+other-at ending.DiskFault done usage (inr high) = absurd (omega (arith, high))
+other-at (ending.NotAJournal found) done usage (inl low) = absurd (omega (arith, low))
+other-at (ending.NotAJournal found) done usage (inr high) = absurd (omega (arith, high))
+other-at (ending.Damaged place) done usage (inl low) = absurd (omega (arith, low))
+other-at (ending.Damaged place) done usage (inr high) = absurd (omega (arith, high))
+other-at ending.OutOfMemory done usage far = refl
+
+-- a disk that wasn't opened ends no command at another status than 6 to 9
+pub status-unopened : (why : OpenFault) → 6 ≤ status_of (ending_of why)
+status-unopened fault.DiskFault = omega arith
+status-unopened (fault.NotAJournal found) = omega arith
+status-unopened (fault.Damaged place) = omega arith
+status-unopened fault.OutOfMemory = omega arith

@@ -1,18 +1,23 @@
 -- What the program's status says of the command.
-use Rattle.std.proofs.Common.{◌≡◌, ◌≢◌, ℕ, List, sym, subst, ◌∙◌, refl, arith}
+use Rattle.std.proofs.Common.{◌≡◌, ◌≢◌, ◌<◌, ◌≤◌, ◌⊎◌, ℕ, List, inl, inr, ap, sym, subst, ◌∙◌, refl, arith}
 use Rattle.std.specs.Prelude.{Bool}
 use Rattle.std.specs.Str.Lines.{lines}
 use Rattle.tb_link.specs.Sources.{SourceState}
 use Rattle.tb_link.specs.Sinks.{SinkState}
+use Rattle.tb_disk.specs.Disks.{DiskState}
+use Rattle.tb_desk.specs.declared.fault.OpenFault.{OpenFault}
+use Rattle.tb_desk.specs.declared.fault.OpenFault.TheVariants as fault
 use Rattle.tb_host.specs.AwardRun.{AwardEnds, Printed, PrintedPrefix}
 use Rattle.tb_host.specs.Books.{IsBadLine}
-use Rattle.tb_host.specs.Endings.{status_of}
-use Rattle.tb_host.specs.HostRun.{Reports, TellsLine}
-use Rattle.tb_host.specs.RunEnds.{BrokenOff, CutOff, Finished, LeftOff, RunEnds, Stopped}
+use Rattle.tb_host.specs.DiskRun.{OnDesk}
+use Rattle.tb_host.specs.Endings.{Tells, ending_of, message_of, status_of}
+use Rattle.tb_host.specs.HostRun.{Reports, TellsLine, ToldUnopened}
+use Rattle.tb_host.specs.RunEnds.{BrokenOff, CutOff, Devices, Finished, LeftOff, NotBegun, RunEnds, ScriptEnds, Stopped}
+use Rattle.tb_host.specs.Standings.{Standing}
 use Rattle.tb_host.specs.Told.{WhereTold}
 use Rattle.tb_host.specs.declared.ending.Ending.{Ending}
 use Rattle.tb_host.specs.declared.ending.Ending.TheVariants as ending
-use Rattle.tb_host.proofs.EndingLemmas.{bad-at_3, done-at_0, memory-at_9, read-at_4, write-at_5}
+use Rattle.tb_host.proofs.EndingLemmas.{bad-at_3, done-at_0, memory-at_9, read-at_4, status-unopened, write-at_5}
 
 -- of an `award` that ended so
 module _ (full : Bool) (ended : Ending) (input input' : SourceState) (out out' : SinkState)
@@ -49,36 +54,116 @@ award-silent full ending.Usage input input' out out' ends done wrote = absurd en
 award-silent full (ending.BadInput number) input input' out out' ends done wrote = ends.0
 award-silent full ending.ReadFault input input' out out' ends done wrote = ends.0
 award-silent full ending.WriteFault input input' out out' ends done wrote = absurd (wrote refl)
+award-silent full ending.DiskFault input input' out out' ends done wrote = absurd ends
+award-silent full (ending.NotAJournal found) input input' out out' ends done wrote = absurd ends
+award-silent full (ending.Damaged place) input input' out out' ends done wrote = absurd ends
 award-silent full ending.OutOfMemory input input' out out' ends done wrote = ends
 
+-- below 6 a script ended on a desk
+script_of : (operator : List ℕ) (ended : Ending) (input input' : SourceState) (old new : Devices)
+    → status_of ended < 6
+    → RunEnds operator ended input input' old new
+    → OnDesk old.disk new.disk (ScriptEnds operator ended input input' old.out new.out)
+script_of operator ended input input' old new low (inl ends) = ends
+script_of operator ended input input' old new low (inr not_begun) =
+    absurd (omega (arith, ap status_of not_begun.ended_is, status-unopened not_begun.why))
+
+-- what is so of where a script stood is so with less
+on_desk-weaker : (old new : DiskState) (Holds Less : Standing → Standing → Type 0)
+    → ((first last : Standing) → Holds first last → Less first last)
+    → OnDesk old new Holds
+    → OnDesk old new Less
+on_desk-weaker old new Holds Less less ends = (ends.0, ends.1, ends.2, less ends.0 ends.1 ends.3)
+
 -- of a `run` that ended so
-module _ (operator : List ℕ) (ended : Ending) (input input' : SourceState) (out out' : SinkState)
-    (ends : RunEnds operator ended input input' out out') where
+module _ (operator : List ℕ) (ended : Ending) (input input' : SourceState) (old new : Devices)
+    (ends : RunEnds operator ended input input' old new) where
   -- the same of the ending that its status is of
-  run_as : (other : Ending) → ended ≡ other → RunEnds operator other input input' out out'
-  run_as other is = subst (λ (e : Ending). RunEnds operator e input input' out out') is ends
+  run_as : (other : Ending)
+      → ended ≡ other
+      → status_of other < 6
+      → OnDesk old.disk new.disk (ScriptEnds operator other input input' old.out new.out)
+  run_as other is low =
+      script_of operator other input input' old new low
+      (subst (λ (e : Ending). RunEnds operator e input input' old new) is ends)
 
   -- at 0 the script was acted on
-  pub run-at_0 : status_of ended ≡ 0 → WhereTold input.left (Finished operator out out')
-  run-at_0 is = run_as ending.Done (done-at_0 ended is)
+  pub run-at_0 : status_of ended ≡ 0
+      → OnDesk old.disk new.disk (λ first last. WhereTold input.left (Finished operator old.out new.out first last))
+  run-at_0 is = run_as ending.Done (done-at_0 ended is) (omega arith)
 
   -- at 3 the lines before the one that is told were acted on
   pub run-at_3 : (err err' : SinkState)
       → status_of ended ≡ 3
       → Reports ended err err'
-      → TellsLine input.left (λ number. Stopped number operator out out') err err'
+      → OnDesk old.disk new.disk
+      (λ first last. TellsLine input.left (λ number. Stopped number operator old.out new.out first last) err err')
   run-at_3 err err' is told =
       let bad = bad-at_3 ended is in
-      (bad.0, subst (λ (e : Ending). Reports e err err') bad.1 told, run_as (ending.BadInput bad.0) bad.1)
+      let tells : Reports (ending.BadInput bad.0) err err' = subst (λ (e : Ending). Reports e err err') bad.1 told in
+      on_desk-weaker old.disk new.disk (ScriptEnds operator (ending.BadInput bad.0) input input' old.out new.out)
+      (λ first last. TellsLine input.left (λ number. Stopped number operator old.out new.out first last) err err')
+      (λ first last stopped. (bad.0, tells, stopped))
+      (run_as (ending.BadInput bad.0) bad.1 (omega arith))
 
   -- at 4 the lines that were whole
-  pub run-at_4 : status_of ended ≡ 4 → WhereTold input.left (CutOff operator input'.left out out')
-  run-at_4 is = (run_as ending.ReadFault (read-at_4 ended is)).1
+  pub run-at_4 : status_of ended ≡ 4
+      → OnDesk old.disk new.disk
+      (λ first last. WhereTold input.left (CutOff operator input'.left old.out new.out first last))
+  run-at_4 is =
+      on_desk-weaker old.disk new.disk (ScriptEnds operator ending.ReadFault input input' old.out new.out)
+      (λ first last. WhereTold input.left (CutOff operator input'.left old.out new.out first last))
+      (λ first last cut. cut.1) (run_as ending.ReadFault (read-at_4 ended is) (omega arith))
 
   -- at 5 those to which the replies were taken, and one more
-  pub run-at_5 : status_of ended ≡ 5 → WhereTold input.left (BrokenOff operator out out')
-  run-at_5 is = (run_as ending.WriteFault (write-at_5 ended is)).1
+  pub run-at_5 : status_of ended ≡ 5
+      → OnDesk old.disk new.disk (λ first last. WhereTold input.left (BrokenOff operator old.out new.out first last))
+  run-at_5 is =
+      on_desk-weaker old.disk new.disk (ScriptEnds operator ending.WriteFault input input' old.out new.out)
+      (λ first last. WhereTold input.left (BrokenOff operator old.out new.out first last))
+      (λ first last broken. broken.1) (run_as ending.WriteFault (write-at_5 ended is) (omega arith))
 
-  -- at 9 those to which the replies were taken
-  pub run-at_9 : status_of ended ≡ 9 → WhereTold input.left (LeftOff operator out out')
-  run-at_9 is = run_as ending.OutOfMemory (memory-at_9 ended is)
+  -- at 9 those to which the replies were taken, or the disk wasn't opened
+  pub run-at_9 : status_of ended ≡ 9
+      → OnDesk old.disk new.disk (λ first last. WhereTold input.left (LeftOff operator old.out new.out first last))
+      ⊎ NotBegun ending.OutOfMemory input input' old new
+  run-at_9 is = subst (λ (e : Ending). RunEnds operator e input input' old new) (memory-at_9 ended is) ends
+
+  -- at 6, 7 and 8 the disk wasn't opened, and why is told
+  pub run-at_unopened : (err err' : SinkState)
+      → 6 ≤ status_of ended
+      → status_of ended ≤ 8
+      → Reports ended err err'
+      → ToldUnopened (status_of ended) old.disk new.disk err err'
+  run-at_unopened err err' least most told = the_reason ends
+    where
+      tells : (why : OpenFault) → Reports (ending_of why) err err' → Tells err err' (message_of (ending_of why))
+      tells fault.DiskFault reports = reports
+      tells (fault.NotAJournal found) reports = reports
+      tells (fault.Damaged place) reports = reports
+      tells fault.OutOfMemory reports = reports
+
+      no_script : (e : Ending) (first last : Standing)
+          → 6 ≤ status_of e
+          → status_of e ≤ 8
+          → ScriptEnds operator e input input' old.out new.out first last
+          → ⊥
+      no_script ending.Done first last low high script = absurd (omega (arith, low))
+      no_script ending.Usage first last low high script = script
+      no_script (ending.BadInput number) first last low high script = absurd (omega (arith, low))
+      no_script ending.ReadFault first last low high script = absurd (omega (arith, low))
+      no_script ending.WriteFault first last low high script = absurd (omega (arith, low))
+      no_script ending.DiskFault first last low high script = script
+      no_script (ending.NotAJournal found) first last low high script = script
+      no_script (ending.Damaged place) first last low high script = script
+      no_script ending.OutOfMemory first last low high script = absurd (omega (arith, high))
+
+      the_reason : RunEnds operator ended input input' old new
+          → ToldUnopened (status_of ended) old.disk new.disk err err'
+      the_reason (inl script) = absurd (no_script ended script.0 script.1 least most script.3)
+      the_reason (inr not_begun) = record {
+        why = not_begun.why;
+        status_is = ap status_of not_begun.ended_is;
+        told = tells not_begun.why (subst (λ (e : Ending). Reports e err err') not_begun.ended_is told);
+        unopened = not_begun.unopened;
+      }

@@ -17,13 +17,18 @@ pub mod CompleteLemmas
 pub mod UniqueLemmas
 pub mod OneTextLemmas
 mod ScriptLineLemmas
+mod TurnLemmas
+mod GrownLemmas
+mod DiskLemmas
 mod ScriptLemmas
 mod ScriptStepLemmas
 mod CommandLemmas
 mod EndingLemmas
+mod HexLemmas
 mod HostLemmas
 mod ScriptLawLemmas
 mod OneRunLemmas
-mod SubmitLemmas
+mod SealedLemmas
+mod ExactLemmas
 mod HostCommandLemmas
 mod AnswerLemmas

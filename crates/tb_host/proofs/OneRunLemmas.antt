@@ -1,9 +1,13 @@
 -- Lines have one run from a history.
-use Rattle.std.proofs.Common.{◌≡◌, ◌≢◌, ℕ, List, [], ◌∷◌, ◌++◌, sym, subst, ap, ◌∙◌, refl}
+use Rattle.std.proofs.Common.{◌≡◌, ◌≢◌, ℕ, List, [], ◌∷◌, ◌++◌, sym, subst, ap, ◌∙◌, refl, arith}
 use Rattle.std.specs.Prelude.{Option, Some, None, Result, Ok, Err}
 use Rattle.std.specs.Fmt.{decimal}
 use Rattle.tb_units.specs.Bytes.{blank}
 use Rattle.tb_units.specs.declared.moment.Moment.{Moment}
+use Rattle.tb_link.specs.Counts.{last_count}
+use Rattle.tb_desk.specs.Turn.{group}
+use Rattle.tb_desk.specs.declared.reply.Reply.{Reply}
+use Rattle.tb_desk.specs.declared.reply.Reply.TheVariants as turned
 use Rattle.tb_terms.specs.declared.announcement.Announcement.{Announcement}
 use Rattle.tb_terms.specs.declared.cusip.Cusip.{Cusip}
 use Rattle.tb_terms.specs.declared.refusal.Refusal.{Refusal}
@@ -12,6 +16,7 @@ use Rattle.tb_message.specs.Keys.{key_of}
 use Rattle.tb_message.specs.Requests.{AnswerOf, FaultOf, request_in}
 use Rattle.tb_message.specs.declared.key.Key.{Key}
 use Rattle.tb_message.specs.declared.message.Entry.{Entry}
+use Rattle.tb_message.specs.declared.message.Message.{Message}
 use Rattle.tb_message.specs.declared.query.Query.{Query}
 use Rattle.tb_message.specs.declared.query.Query.TheVariants as query
 use Rattle.tb_message.specs.declared.query.ReadFault.{ReadFault}
@@ -20,6 +25,8 @@ use Rattle.tb_message.specs.declared.query.Request.{Request}
 use Rattle.tb_message.specs.declared.query.Request.TheVariants as request
 use Rattle.tb_message.proofs.OneRequest.{one_asked}
 use Rattle.tb_history.specs.Answer.{caller_of, query_refusal}
+use Rattle.tb_history.specs.Legal.{running}
+use Rattle.tb_history.specs.Verdict.{verdict_on}
 use Rattle.tb_history.specs.Readings.{IsReading, AreResults, AreAwards}
 use Rattle.tb_history.specs.Holdings.{bidding_in}
 use Rattle.tb_history.specs.Roster.{registrations}
@@ -30,10 +37,21 @@ use Rattle.tb_history.specs.declared.readings.Results.{Results}
 use Rattle.tb_history.proofs.ReadingLemmas.{AreResults-one, AreAwardLines-one, AreHoldingLines-one, ArePaidLines-one}
 use Rattle.std.specs.List.{after_first, before_first}
 use Rattle.tb_host.specs.Fields.{is_blank}
-use Rattle.tb_host.specs.Replies.{Asks, IsAnswered, IsReply, IsTold, reading_text, refusal_of, refused}
+use Rattle.tb_host.specs.Replies.{Asks, IsAnswered, IsReply, IsTold, asked_by, reading_text, refusal_of, refused}
 use Rattle.tb_host.specs.ScriptLines.{SpellsAsk}
 use Rattle.tb_host.specs.ScriptRun.{IsActedOn, IsRun}
-use Rattle.tb_host.proofs.ScriptLineLemmas.{NoBlank, NoBlank-key, NoBlank-moment, after_first-word, before_first-word, moment-one}
+use Rattle.tb_host.specs.Standings.{Standing}
+use Rattle.tb_host.specs.Turns.{MakesTurn, turn_text}
+use Rattle.tb_host.proofs.GrownLemmas.{line-goes, run-goes}
+use Rattle.tb_host.proofs.TurnLemmas.{Gave-sure, no-fault, said-is, stands-is, stands_at}
+use Rattle.tb_host.proofs.ScriptLineLemmas.{
+  NoBlank,
+  NoBlank-key,
+  NoBlank-moment,
+  after_first-word,
+  before_first-word,
+  moment-one,
+}
 
 -- a word, a space and more are told by the whole
 words_one : (word other rest rest' : List ℕ)
@@ -197,65 +215,154 @@ told-one history caller asked (Some why) one other is is' = is ∙ sym is'
 told-one history caller asked None one other is is' =
     is.2 ∙ (ap reading_text (reading-one history caller asked is.0 is'.0 is.1 is'.1) ∙ sym is'.2)
 
--- the reply, and what is added
-pub record SameReply (one other : List ℕ) (added added' : List Entry) : Type 0 where
+-- the reply, and where the script stands then
+pub record SameReply (one other : List ℕ) (new new' : Standing) : Type 0 where
   pub replies : one ≡ other
-  pub entries : added ≡ added'
+  pub stands : new ≡ new'
 
--- what is asked has one reply, and adds one list of entries
-reply-one : (history : List Entry) (caller : List ℕ) (moment : Moment) (asked : Result Request Refusal)
-    (one other : List ℕ) (added added' : List Entry)
-    → IsReply history caller moment asked one added
-    → IsReply history caller moment asked other added'
-    → SameReply one other added added'
-reply-one history caller moment (Ok (request.Message number message)) one other added added' is is' =
-    record { replies = is.0 ∙ sym is'.0; entries = is.1 ∙ sym is'.1 }
-reply-one history caller moment (Ok (request.Query asked)) one other added added' is is' = record {
-  replies = told-one history caller asked (query_refusal history caller asked) one other is.0 is'.0;
-  entries = is.1 ∙ sym is'.1;
+-- where nothing is in doubt, and the count isn't at its last value
+pub record Sure (stands : Standing) : Type 0 where
+  pub sure : stands.doubt ≡ []
+  pub counting : stands.faults ≢ last_count
+
+-- a turn without a fault is a function of the history: its verdict, and where the script stands then
+turn-one : (caller : List ℕ) (moment : Moment) (number : ℕ) (message : Message) (old new : Standing) (answer : Reply)
+    → Sure old
+    → MakesTurn (asked_by caller moment number message) old new answer
+    → new.faults ≡ old.faults
+    → (answer ≡ turned.Verdict (verdict_on old.history caller number (running old.history moment) message))
+    × (new ≡ stands_at (old.history ++ group old.history (asked_by caller moment number message)) [] old.faults)
+turn-one caller moment number message old new (turned.Verdict said) sure turn same =
+    let gave = Gave-sure (asked_by caller moment number message) old new said sure.sure turn in (
+      ap turned.Verdict (said-is old.history caller moment number message said new gave),
+      stands-is new (old.history ++ group old.history (asked_by caller moment number message)) [] old.faults gave.grown
+          gave.sure same,
+    )
+turn-one caller moment number message old new turned.DiskFault sure turn same =
+    absurd (no-fault old.faults new.faults same sure.counting turn.counts.1)
+
+-- what is asked has one reply
+reply-one : (old : Standing) (caller : List ℕ) (moment : Moment) (asked : Result Request Refusal) (one other : List ℕ)
+    (new new' : Standing)
+    → Sure old
+    → IsReply old caller moment asked one new
+    → IsReply old caller moment asked other new'
+    → new.faults ≡ old.faults
+    → new'.faults ≡ old.faults
+    → SameReply one other new new'
+reply-one old caller moment (Ok (request.Message number message)) one other new new' sure is is' same same' =
+    let first = turn-one caller moment number message old new is.0 sure is.1 same in
+    let second = turn-one caller moment number message old new' is'.0 sure is'.1 same' in
+    record {
+      replies = is.2 ∙ (ap turn_text (first.0 ∙ sym second.0) ∙ sym is'.2);
+      stands = first.1 ∙ sym second.1;
+    }
+reply-one old caller moment (Ok (request.Query asked)) one other new new' sure is is' same same' = record {
+  replies = told-one old.history caller asked (query_refusal old.history caller asked) one other is.0 is'.0;
+  stands = is.1 ∙ sym is'.1;
 }
-reply-one history caller moment (Err why) one other added added' is is' =
-    record { replies = is.0 ∙ sym is'.0; entries = is.1 ∙ sym is'.1 }
+reply-one old caller moment (Err why) one other new new' sure is is' same same' =
+    record { replies = is.0 ∙ sym is'.0; stands = is.1 ∙ sym is'.1 }
 
 -- so has a text
-answer-one : (history : List Entry) (caller : Option (List ℕ)) (moment : Moment) (json one other : List ℕ)
-    (added added' : List Entry)
-    → IsAnswered history caller moment json one added
-    → IsAnswered history caller moment json other added'
-    → SameReply one other added added'
-answer-one history None moment json one other added added' is is' =
-    record { replies = is.0 ∙ sym is'.0; entries = is.1 ∙ sym is'.1 }
-answer-one history (Some caller) moment json one other added added' is is' =
-    let same = asks-one json is.0 is'.0 is.1 is'.1 in
-    reply-one history caller moment is'.0 one other added added'
-    (subst (λ (asked : Result Request Refusal). IsReply history caller moment asked one added) same is.2) is'.2
+answer-one : (old : Standing) (caller : Option (List ℕ)) (moment : Moment) (json one other : List ℕ)
+    (new new' : Standing)
+    → Sure old
+    → IsAnswered old caller moment json one new
+    → IsAnswered old caller moment json other new'
+    → new.faults ≡ old.faults
+    → new'.faults ≡ old.faults
+    → SameReply one other new new'
+answer-one old None moment json one other new new' sure is is' same same' =
+    record { replies = is.0 ∙ sym is'.0; stands = is.1 ∙ sym is'.1 }
+answer-one old (Some caller) moment json one other new new' sure is is' same same' =
+    let asks = asks-one json is.0 is'.0 is.1 is'.1 in
+    reply-one old caller moment is'.0 one other new new' sure
+    (subst (λ (asked : Result Request Refusal). IsReply old caller moment asked one new) asks is.2) is'.2 same same'
 
 -- so has a line
-line-one : (operator : List ℕ) (history : List Entry) (line one other : List ℕ) (added added' : List Entry)
-    → IsActedOn operator history line one added
-    → IsActedOn operator history line other added'
-    → SameReply one other added added'
-line-one operator history line one other added added' is is' =
-    let same = ask-one line is.moment is'.moment is.key is'.key is.json is'.json is.spells is'.spells in
+line-one : (operator : List ℕ) (old : Standing) (line one other : List ℕ) (new new' : Standing)
+    → Sure old
+    → IsActedOn operator old line one new
+    → IsActedOn operator old line other new'
+    → new.faults ≡ old.faults
+    → new'.faults ≡ old.faults
+    → SameReply one other new new'
+line-one operator old line one other new new' sure is is' same same' =
+    let asks = ask-one line is.moment is'.moment is.key is'.key is.json is'.json is.spells is'.spells in
     let Answered : Moment → Key → List ℕ → Type 0 =
-    λ moment key json. IsAnswered history (caller_of (registrations history) operator key) moment json one added in
-    answer-one history (caller_of (registrations history) operator is'.key) is'.moment is'.json one other added added'
-    (subst (λ (json : List ℕ). Answered is'.moment is'.key json) same.texts
-    (subst (λ (key : Key). Answered is'.moment key is.json) same.keys
-    (subst (λ (moment : Moment). Answered moment is.key is.json) same.moments is.answered))) is'.answered
+    λ moment key json. IsAnswered old (caller_of (registrations old.history) operator key) moment json one new in
+    answer-one old (caller_of (registrations old.history) operator is'.key) is'.moment is'.json one other new new' sure
+    (subst (λ (json : List ℕ). Answered is'.moment is'.key json) asks.texts
+    (subst (λ (key : Key). Answered is'.moment key is.json) asks.keys
+    (subst (λ (moment : Moment). Answered moment is.key is.json) asks.moments is.answered))) is'.answered same same'
 
--- so have lines, from one history
-pub run-one : (operator : List ℕ) (start : List Entry) (lines : List (List ℕ)) (one other : List ℕ)
-    (last last' : List Entry)
+-- and it leaves nothing in doubt
+reply-sure : (old new : Standing) (caller : List ℕ) (moment : Moment) (asked : Result Request Refusal) (reply : List ℕ)
+    → Sure old
+    → IsReply old caller moment asked reply new
+    → new.faults ≡ old.faults
+    → new.doubt ≡ []
+reply-sure old new caller moment (Ok (request.Message number message)) reply sure is same =
+    ap (λ (s : Standing). s.doubt) (turn-one caller moment number message old new is.0 sure is.1 same).1
+reply-sure old new caller moment (Ok (request.Query asked)) reply sure is same =
+    ap (λ (s : Standing). s.doubt) is.1 ∙ sure.sure
+reply-sure old new caller moment (Err why) reply sure is same = ap (λ (s : Standing). s.doubt) is.1 ∙ sure.sure
+
+answer-sure : (old new : Standing) (caller : Option (List ℕ)) (moment : Moment) (json reply : List ℕ)
+    → Sure old
+    → IsAnswered old caller moment json reply new
+    → new.faults ≡ old.faults
+    → new.doubt ≡ []
+answer-sure old new None moment json reply sure is same = ap (λ (s : Standing). s.doubt) is.1 ∙ sure.sure
+answer-sure old new (Some caller) moment json reply sure is same =
+    reply-sure old new caller moment is.0 reply sure is.2 same
+
+-- where a line without a fault leaves the script
+line-sure : (operator : List ℕ) (old new : Standing) (line reply : List ℕ)
+    → Sure old
+    → IsActedOn operator old line reply new
+    → new.faults ≡ old.faults
+    → Sure new
+line-sure operator old new line reply sure acted same = record {
+  sure = answer-sure old new (caller_of (registrations old.history) operator acted.key)
+      acted.moment acted.json reply sure
+      acted.answered same;
+  counting = λ last. sure.counting (sym same ∙ last);
+}
+
+-- the count stays at each line where it stays in all
+first-stays : (operator : List ℕ) (old next last : Standing) (line reply : List ℕ) (lines : List (List ℕ))
+    (replies : List ℕ)
+    → IsActedOn operator old line reply next
+    → IsRun operator next lines replies last
+    → last.faults ≡ old.faults
+    → next.faults ≡ old.faults
+first-stays operator old next last line reply lines replies acted run same =
+    let here = (line-goes operator old next line reply acted).counted in
+    let later = (run-goes operator next last lines replies run).counted in
+    omega arith
+
+-- so lines have one text of replies, and one end
+pub run-one : (operator : List ℕ) (start : Standing) (lines : List (List ℕ)) (one other : List ℕ)
+    (last last' : Standing)
+    → Sure start
     → IsRun operator start lines one last
     → IsRun operator start lines other last'
+    → last.faults ≡ start.faults
+    → last'.faults ≡ start.faults
     → SameReply one other last last'
-run-one operator start [] one other last last' is is' =
-    record { replies = is.0 ∙ sym is'.0; entries = is.1 ∙ sym is'.1 }
-run-one operator start (line ∷ lines) one other last last' is is' =
-    let first = line-one operator start line is.0 is'.0 is.1 is'.1 is.3 is'.3 in
-    let later = run-one operator (start ++ is'.1) lines is.2 is'.2 last last'
-    (subst (λ (added : List Entry). IsRun operator (start ++ added) lines is.2 last) first.entries is.4) is'.4 in
+run-one operator start [] one other last last' sure is is' same same' =
+    record { replies = is.0 ∙ sym is'.0; stands = is.1 ∙ sym is'.1 }
+run-one operator start (line ∷ lines) one other last last' sure is is' same same' =
+    let here = first-stays operator start is.1 last line is.0 lines is.2 is.3 is.4 same in
+    let here' = first-stays operator start is'.1 last' line is'.0 lines is'.2 is'.3 is'.4 same' in
+    let first = line-one operator start line is.0 is'.0 is.1 is'.1 sure is.3 is'.3 here here' in
+    let later = run-one operator is'.1 lines is.2 is'.2 last last'
+    (line-sure operator start is'.1 line is'.0 sure is'.3 here')
+    (subst (λ (s : Standing). IsRun operator s lines is.2 last) first.stands is.4) is'.4
+    (same ∙ sym here') (same' ∙ sym here') in
     let replies : one ≡ other =
-    is.5 ∙ (ap (λ (r : List ℕ). r ++ is.2) first.replies ∙ (ap (λ (r : List ℕ). is'.0 ++ r) later.replies ∙ sym is'.5)) in
-    record { replies = replies; entries = later.entries }
+    is.5 ∙ (ap (λ (r : List ℕ). r ++ is.2) first.replies
+    ∙ (ap (λ (r : List ℕ). is'.0 ++ r) later.replies ∙ sym is'.5)) in
+    record { replies = replies; stands = later.stands }

@@ -1,5 +1,26 @@
 -- Lines begin with one script, or leave the grammar of scripts at one line.
-use Rattle.std.proofs.Common.{◌≡◌, ◌≢◌, ℕ, ◌+◌, ◌<◌, ◌≤◌, List, [], ◌∷◌, ◌++◌, length, sym, subst, ap, ◌∙◌, refl, arith, ◌⊎◌, inl, inr}
+use Rattle.std.proofs.Common.{
+  ◌≡◌,
+  ◌≢◌,
+  ℕ,
+  ◌+◌,
+  ◌<◌,
+  ◌≤◌,
+  List,
+  [],
+  ◌∷◌,
+  ◌++◌,
+  length,
+  sym,
+  subst,
+  ap,
+  ◌∙◌,
+  refl,
+  arith,
+  ◌⊎◌,
+  inl,
+  inr,
+}
 use Rattle.std.specs.Prelude.{Some, codes}
 use Rattle.std.specs.List.{AllByRecursion, position_or_len}
 use Rattle.std.specs.Fmt.{decimal}
@@ -7,17 +28,23 @@ use Rattle.std.specs.Str.Lines.{lines}
 use Rattle.tb_link.specs.Counts.{Rose}
 use Rattle.tb_link.specs.Sources.{SourceState}
 use Rattle.tb_link.specs.Sinks.{SinkState}
+use Rattle.tb_disk.specs.Disks.{DiskState}
+use Rattle.tb_desk.specs.declared.fault.OpenFault.{OpenFault}
+use Rattle.tb_desk.specs.declared.fault.OpenFault.TheVariants as fault
 use Rattle.tb_units.specs.Bytes.{blank}
-use Rattle.tb_host.specs.Endings.{status_of}
+use Rattle.tb_host.specs.DiskRun.{Unopened}
+use Rattle.tb_host.specs.Endings.{ending_of, status_of}
 use Rattle.tb_host.specs.Fields.{is_blank}
 use Rattle.tb_host.specs.Grammars.{LeavesGrammar}
+use Rattle.tb_host.specs.HostRun.{HasHistory}
 use Rattle.tb_host.specs.LineEnds.{most_lines}
-use Rattle.tb_host.specs.RunEnds.{RunEnds}
+use Rattle.tb_host.specs.RunEnds.{Devices, RunEnds, ScriptEnds}
 use Rattle.tb_host.specs.ScriptLines.{IsAsk, IsEnd}
-use Rattle.tb_host.specs.ScriptRun.{IsRun}
 use Rattle.tb_host.specs.Scripts.{BeginsWithScript, HasScript, LeavesScript, MayStand, StopsBehind}
+use Rattle.tb_host.specs.Standings.{Standing}
 use Rattle.tb_host.specs.declared.ending.Ending.{Ending}
 use Rattle.tb_host.specs.declared.ending.Ending.TheVariants as ending
+use Rattle.tb_host.proofs.ExactLemmas.{refused-not}
 use Rattle.tb_host.proofs.ScriptLineLemmas.{NoBlank-moment, has_blank}
 
 -- a line that asks isn't the end
@@ -25,7 +52,8 @@ pub ask-not_end : (text : List ℕ) → IsAsk text → ¬ (IsEnd text)
 ask-not_end text ask end =
     let spells = ask.3 in
     let space = has_blank (decimal ask.0.seconds) (spells.word ++ blank ∷ ask.2) (NoBlank-moment ask.0) in
-    let same : decimal ask.0.seconds ++ blank ∷ (spells.word ++ blank ∷ ask.2) ≡ codes "end" = sym spells.written ∙ end in
+    let same : decimal ask.0.seconds ++ blank ∷ (spells.word ++ blank ∷ ask.2) ≡ codes "end" = sym spells.written
+    ∙ end in
     let none : position_or_len is_blank (codes "end") < length (codes "end") =
     subst (λ (t : List ℕ). position_or_len is_blank t < length t) same space in
     absurd (omega (arith, none))
@@ -72,44 +100,118 @@ HasScript-stays texts number has leaves =
     (sym begins.lines_are ∙ stops.lines_are)
     (subst (λ (n : ℕ). LeavesGrammar MayStand n stops.rest) (omega arith) stops.bad) (omega (arith, begins.few))
 
--- a script is answered
-pub run-complete : (operator : List ℕ) (ended : Ending) (input input' : SourceState) (out out' : SinkState) (text : List ℕ)
-    → RunEnds operator ended input input' out out'
+-- a disk that stands for a legal history is opened, unless it fails or memory runs out
+opened-of : (why : OpenFault) (old new : DiskState)
+    → HasHistory old
+    → Unopened why old new
+    → ¬ (Rose old.faults new.faults)
+    → why ≡ fault.OutOfMemory
+opened-of fault.DiskFault old new stands unopened no_fault = absurd (no_fault (unopened.rose refl))
+opened-of (fault.NotAJournal found) old new stands unopened no_fault =
+    absurd (refused-not (fault.NotAJournal found) old new stands unopened ((λ is. (cc)), (λ is. (cc))))
+opened-of (fault.Damaged place) old new stands unopened no_fault =
+    absurd (refused-not (fault.Damaged place) old new stands unopened ((λ is. (cc)), (λ is. (cc))))
+opened-of fault.OutOfMemory old new stands unopened no_fault = refl
+
+-- a script over such a disk is answered
+script-complete : (operator : List ℕ) (ended : Ending) (input input' : SourceState) (out out' : SinkState)
+    (first last : Standing) (text : List ℕ)
+    → ScriptEnds operator ended input input' out out' first last
     → input.left ≡ Some text
     → HasScript (lines text)
     → ¬ (Rose input.faults input'.faults)
     → ¬ (Rose out.faults out'.faults)
     → (status_of ended ≡ 0) ⊎ (status_of ended ≡ 9)
-run-complete operator ending.Done input input' out out' text ends told script no_read no_write = inl refl
-run-complete operator ending.Usage input input' out out' text ends told script no_read no_write = absurd ends
-run-complete operator (ending.BadInput number) input input' out out' text ends told script no_read no_write =
+script-complete operator ending.Done input input' out out' first last text ends told script no_read no_write = inl refl
+script-complete operator ending.Usage input input' out out' first last text ends told script no_read no_write =
+    absurd ends
+script-complete operator
+    (ending.BadInput number) input input' out out' first last text ends told script no_read no_write =
     let stopped = ends text told in
     absurd (HasScript-stays (lines text) number script (stopped.acted, stopped.stops))
-run-complete operator ending.ReadFault input input' out out' text ends told script no_read no_write =
+script-complete operator ending.ReadFault input input' out out' first last text ends told script no_read no_write =
     absurd (no_read ends.0)
-run-complete operator ending.WriteFault input input' out out' text ends told script no_read no_write =
+script-complete operator ending.WriteFault input input' out out' first last text ends told script no_read no_write =
     absurd (no_write ends.0)
-run-complete operator ending.OutOfMemory input input' out out' text ends told script no_read no_write = inr refl
+script-complete operator ending.DiskFault input input' out out' first last text ends told script no_read no_write =
+    absurd ends
+script-complete operator
+    (ending.NotAJournal found) input input' out out' first last text ends told script no_read no_write =
+    absurd ends
+script-complete operator
+    (ending.Damaged place) input input' out out' first last text ends told script no_read no_write =
+    absurd ends
+script-complete operator ending.OutOfMemory input input' out out' first last text ends told script no_read no_write =
+    inr refl
+
+pub run-complete : (operator : List ℕ) (ended : Ending) (input input' : SourceState) (old new : Devices) (text : List ℕ)
+    → RunEnds operator ended input input' old new
+    → HasHistory old.disk
+    → input.left ≡ Some text
+    → HasScript (lines text)
+    → ¬ (Rose input.faults input'.faults)
+    → ¬ (Rose old.out.faults new.out.faults)
+    → ¬ (Rose old.disk.faults new.disk.faults)
+    → (status_of ended ≡ 0) ⊎ (status_of ended ≡ 9)
+run-complete operator ended input input' old new text (inl ends) stands told script no_read no_write no_fault =
+    script-complete operator ended input input' old.out new.out ends.0 ends.1 text ends.3 told script no_read no_write
+run-complete operator ended input input' old new text (inr not_begun) stands told script no_read no_write no_fault =
+    inr (ap status_of (not_begun.ended_is
+    ∙ ap ending_of (opened-of not_begun.why old.disk new.disk stands not_begun.unopened no_fault)))
 
 -- an input that leaves the grammar of scripts is refused
-pub run-refused : (operator : List ℕ) (ended : Ending) (input input' : SourceState) (out out' : SinkState) (text : List ℕ)
-    (number : ℕ)
-    → RunEnds operator ended input input' out out'
+script-refused : (operator : List ℕ) (ended : Ending) (input input' : SourceState) (out out' : SinkState)
+    (first last : Standing) (text : List ℕ) (number : ℕ)
+    → ScriptEnds operator ended input input' out out' first last
     → input.left ≡ Some text
     → LeavesScript number (lines text)
     → ¬ (Rose input.faults input'.faults)
     → ¬ (Rose out.faults out'.faults)
     → (status_of ended ≡ 3) ⊎ (status_of ended ≡ 9)
-run-refused operator ending.Done input input' out out' text number ends told leaves no_read no_write =
+script-refused operator ending.Done input input' out out' first last text number ends told leaves no_read no_write =
     let finished = ends text told in
     absurd (HasScript-stays (lines text) number (finished.acted, finished.script) leaves)
-run-refused operator ending.Usage input input' out out' text number ends told leaves no_read no_write = absurd ends
-run-refused operator (ending.BadInput at) input input' out out' text number ends told leaves no_read no_write = inl refl
-run-refused operator ending.ReadFault input input' out out' text number ends told leaves no_read no_write =
+script-refused operator ending.Usage input input' out out' first last text number ends told leaves no_read no_write =
+    absurd ends
+script-refused operator (ending.BadInput at) input input' out out' first last text number ends told leaves no_read
+    no_write =
+    inl refl
+script-refused operator ending.ReadFault input input' out out' first last text number ends told leaves no_read
+    no_write =
     absurd (no_read ends.0)
-run-refused operator ending.WriteFault input input' out out' text number ends told leaves no_read no_write =
+script-refused operator ending.WriteFault input input' out out' first last text number ends told leaves no_read
+    no_write =
     absurd (no_write ends.0)
-run-refused operator ending.OutOfMemory input input' out out' text number ends told leaves no_read no_write = inr refl
+script-refused operator ending.DiskFault input input' out out' first last text number ends told leaves no_read
+    no_write =
+    absurd ends
+script-refused operator (ending.NotAJournal found) input input' out out' first last text number ends told leaves no_read
+    no_write =
+    absurd ends
+script-refused operator (ending.Damaged place) input input' out out' first last text number ends told leaves no_read
+    no_write =
+    absurd ends
+script-refused operator ending.OutOfMemory input input' out out' first last text number ends told leaves no_read
+    no_write =
+    inr refl
+
+pub run-refused : (operator : List ℕ) (ended : Ending) (input input' : SourceState) (old new : Devices) (text : List ℕ)
+    (number : ℕ)
+    → RunEnds operator ended input input' old new
+    → HasHistory old.disk
+    → input.left ≡ Some text
+    → LeavesScript number (lines text)
+    → ¬ (Rose input.faults input'.faults)
+    → ¬ (Rose old.out.faults new.out.faults)
+    → ¬ (Rose old.disk.faults new.disk.faults)
+    → (status_of ended ≡ 3) ⊎ (status_of ended ≡ 9)
+run-refused operator ended input input' old new text number (inl ends) stands told leaves no_read no_write no_fault =
+    script-refused operator ended input input' old.out new.out ends.0 ends.1 text number ends.3 told leaves no_read
+    no_write
+run-refused operator ended input input' old new text number
+    (inr not_begun) stands told leaves no_read no_write no_fault =
+    inr (ap status_of (not_begun.ended_is
+    ∙ ap ending_of (opened-of not_begun.why old.disk new.disk stands not_begun.unopened no_fault)))
 
 -- lines that ask up to an end are those of one text
 asking-one : (asking : List (List ℕ)) (last : List ℕ) (rest asking' : List (List ℕ)) (last' : List ℕ)

@@ -1,5 +1,27 @@
 -- Acting on a script, from line to line.
-use Rattle.std.proofs.Common.{◌≡◌, ◌≢◌, ℕ, ◌+◌, ◌<◌, ◌≤◌, List, [], ◌∷◌, ◌++◌, length, sym, subst, ap, ◌∙◌, refl, arith, append_assoc, append-nil, inl, inr}
+use Rattle.std.proofs.Common.{
+  ◌≡◌,
+  ◌≢◌,
+  ℕ,
+  ◌+◌,
+  ◌<◌,
+  ◌≤◌,
+  List,
+  [],
+  ◌∷◌,
+  ◌++◌,
+  length,
+  sym,
+  subst,
+  ap,
+  ◌∙◌,
+  refl,
+  arith,
+  append_assoc,
+  append-nil,
+  inl,
+  inr,
+}
 use Rattle.std.specs.Prelude.{Option, Some, None, position}
 use Rattle.std.specs.List.{AllByRecursion}
 use Rattle.std.specs.Str.Lines.{lines}
@@ -7,55 +29,55 @@ use Rattle.std.proofs.lemmas.List.{length-append}
 use Rattle.tb_link.specs.Counts.{Rose}
 use Rattle.tb_link.specs.Sources.{SourceState, before_left}
 use Rattle.tb_link.specs.Sinks.{SinkState, after_taken}
-use Rattle.tb_message.specs.declared.message.Entry.{Entry}
-use Rattle.tb_history.specs.Legal.{IsLegal}
+use Rattle.tb_host.specs.DiskRun.{HasGrown}
 use Rattle.tb_host.specs.Grammars.{LeavesGrammar}
 use Rattle.tb_host.specs.LineEnds.{is_line_feed, most_lines}
 use Rattle.tb_host.specs.Lines.{ahead, unread}
 use Rattle.tb_host.specs.Reads.{ReadsNoMore, ReadsScriptAlone}
-use Rattle.tb_host.specs.RunEnds.{ActedOn, BrokenOff, CutOff, Finished, LeftOff, RunEnds, Stopped}
+use Rattle.tb_host.specs.RunEnds.{ActedOn, BrokenOff, CutOff, Finished, LeftOff, ScriptEnds, Stopped}
 use Rattle.tb_host.specs.ScriptLines.{IsAsk, IsEnd}
 use Rattle.tb_host.specs.ScriptRun.{IsActedOn, IsRun}
-use Rattle.tb_host.specs.ScriptSteps.{Acts, ActsInVain, IsNext, NextEnds, NoneStands, RunState, TakesLine}
+use Rattle.tb_host.specs.ScriptSteps.{Acts, ActsInVain, IsNext, NextEnds, NoneStands, RunState, Stay, TakesLine}
 use Rattle.tb_host.specs.Scripts.{MayStand}
+use Rattle.tb_host.specs.Standings.{Standing}
 use Rattle.tb_host.specs.Told.{WhereTold}
 use Rattle.tb_host.specs.declared.ending.Ending.{Ending}
 use Rattle.tb_host.specs.declared.ending.Ending.TheVariants as ending
+use Rattle.tb_host.proofs.GrownLemmas.{run-goes}
 use Rattle.tb_host.proofs.ReadLemmas.{ahead-start}
 use Rattle.tb_host.proofs.ReadsLemmas.{ReadsNoMore-start, ReadsNoMore-then, some-text}
 
 -- one line more was acted on
-pub IsRun-more : (operator : List ℕ) (start : List Entry) (lines : List (List ℕ)) (replies : List ℕ)
-    (history : List Entry) (line reply : List ℕ) (added : List Entry)
-    → IsRun operator start lines replies history
-    → IsActedOn operator history line reply added
-    → IsRun operator start (lines ++ line ∷ []) (replies ++ reply) (history ++ added)
-IsRun-more operator start [] replies history line reply added run acted = (
+pub IsRun-more : (operator : List ℕ) (first : Standing) (lines : List (List ℕ)) (replies : List ℕ) (now : Standing)
+    (line reply : List ℕ) (new : Standing)
+    → IsRun operator first lines replies now
+    → IsActedOn operator now line reply new
+    → IsRun operator first (lines ++ line ∷ []) (replies ++ reply) new
+IsRun-more operator first [] replies now line reply new run acted = (
   reply,
-  added,
+  new,
   [],
-  subst (λ (h : List Entry). IsActedOn operator h line reply added) run.1 acted,
-  (refl, ap (λ (h : List Entry). h ++ added) run.1),
+  subst (λ (s : Standing). IsActedOn operator s line reply new) run.1 acted,
+  (refl, refl),
   ap (λ (r : List ℕ). r ++ reply) run.0 ∙ sym (append-nil reply),
 )
-IsRun-more operator start (first ∷ lines) replies history line reply added run acted = (
+IsRun-more operator first (before ∷ lines) replies now line reply new run acted = (
   run.0,
   run.1,
   run.2 ++ reply,
   run.3,
-  IsRun-more operator (start ++ run.1) lines run.2 history line reply added run.4 acted,
+  IsRun-more operator run.1 lines run.2 now line reply new run.4 acted,
   ap (λ (r : List ℕ). r ++ reply) run.5 ∙ append_assoc run.0 run.2 reply,
 )
 
 -- the lines that were acted on ask
-pub IsRun-asks : (operator : List ℕ) (start : List Entry) (lines : List (List ℕ)) (replies : List ℕ)
-    (last : List Entry)
-    → IsRun operator start lines replies last
+pub IsRun-asks : (operator : List ℕ) (first : Standing) (lines : List (List ℕ)) (replies : List ℕ) (last : Standing)
+    → IsRun operator first lines replies last
     → AllByRecursion IsAsk lines
-IsRun-asks operator start [] replies last run = tt
-IsRun-asks operator start (line ∷ lines) replies last run = (
+IsRun-asks operator first [] replies last run = tt
+IsRun-asks operator first (line ∷ lines) replies last run = (
   (run.3.moment, run.3.key, run.3.json, run.3.spells),
-  IsRun-asks operator (start ++ run.1) lines run.2 last run.4,
+  IsRun-asks operator run.1 lines run.2 last run.4,
 )
 
 -- of a text these lines were acted on, and so much of it follows
@@ -65,18 +87,17 @@ pub record IsReached (before after : ℕ) (acted : List (List ℕ)) (behind : Op
     pub lines_are : lines text ≡ acted ++ lines reads.rest
 
 -- what the loop over the lines keeps
-pub record SoFar (operator : List ℕ) (count : ℕ) (source : SourceState) (out : SinkState) (now : RunState) : Type 0
-  where
-    pub acted : List (List ℕ)
-    pub replies : List ℕ
-    pub run : IsRun operator [] acted replies now.history
-    pub legal : IsLegal now.history
-    pub size : length acted ≡ count
-    pub taken : now.out.taken ≡ after_taken out.taken replies
-    pub out_faults : now.out.faults ≡ out.faults
-    pub faults : now.source.faults ≡ source.faults
-    pub reached : WhereTold source.left
-        (IsReached source.reads now.source.reads acted (ahead now.reader now.source))
+pub record SoFar (operator : List ℕ) (count : ℕ) (source : SourceState) (out : SinkState) (first : Standing)
+    (now : RunState) : Type 0 where
+  pub acted : List (List ℕ)
+  pub replies : List ℕ
+  pub run : IsRun operator first acted replies now.stands
+  pub size : length acted ≡ count
+  pub taken : now.out.taken ≡ after_taken out.taken replies
+  pub out_faults : now.out.faults ≡ out.faults
+  pub faults : now.source.faults ≡ source.faults
+  pub reached : WhereTold source.left
+      (IsReached source.reads now.source.reads acted (ahead now.reader now.source))
 
 -- one rest follows
 pub same_rest : (behind : Option (List ℕ)) (one other : List ℕ) → behind ≡ Some one → behind ≡ Some other → one ≡ other
@@ -87,21 +108,6 @@ pub after_taken-nothing : (taken : Option (List ℕ)) → taken ≡ after_taken 
 after_taken-nothing None = refl
 after_taken-nothing (Some bytes) = ap Some (sym (append-nil bytes))
 
--- nothing was acted on
-pub LeftOff-nothing : (operator : List ℕ) (out : SinkState) (text : List ℕ) → LeftOff operator out out text
-LeftOff-nothing operator out text = record {
-  acted = [];
-  rest = lines text;
-  lines_are = refl;
-  replies = record {
-    replies = [];
-    last = [];
-    run = (refl, refl);
-    legal = IsLegal.Empty;
-    taken = after_taken-nothing out.taken;
-  };
-}
-
 -- two pieces that were taken, one behind the other
 pub after_taken-more : (taken : Option (List ℕ)) (one other : List ℕ)
     → after_taken (after_taken taken one) other ≡ after_taken taken (one ++ other)
@@ -111,13 +117,11 @@ after_taken-more (Some bytes) one other = ap Some (append_assoc bytes one other)
 -- before the first line
 pub SoFar-start : (operator : List ℕ) (now : RunState)
     → unread now.reader ≡ []
-    → now.history ≡ []
-    → SoFar operator 0 now.source now.out now
-SoFar-start operator now none empty = record {
+    → SoFar operator 0 now.source now.out now.stands now
+SoFar-start operator now none = record {
   acted = [];
   replies = [];
-  run = (refl, empty);
-  legal = subst IsLegal (sym empty) IsLegal.Empty;
+  run = (refl, refl);
   size = refl;
   taken = after_taken-nothing now.out.taken;
   out_faults = refl;
@@ -132,7 +136,10 @@ SoFar-start operator now none empty = record {
         let is = ahead-start (unread now.reader) now.source.left text none told in
         let start : ReadsNoMore now.source.reads now.source.reads (ahead now.reader now.source) text =
         ReadsNoMore-start now.source.reads (ahead now.reader now.source) text is in
-        record { reads = start; lines_are = ap lines (same_rest (ahead now.reader now.source) text start.rest is start.behind_is) }
+        record {
+          reads = start;
+          lines_are = ap lines (same_rest (ahead now.reader now.source) text start.rest is start.behind_is);
+        }
 
 -- a line was taken from the text that follows
 module _ (before between after : ℕ) (acted : List (List ℕ)) (middle behind : Option (List ℕ)) (line text : List ℕ)
@@ -176,30 +183,42 @@ module _ (before between after : ℕ) (acted : List (List ℕ)) (middle behind :
     }
 
 -- from what the loop has kept, line by line
-module _ (operator : List ℕ) (count : ℕ) (source : SourceState) (out : SinkState) (now new : RunState)
-    (so_far : SoFar operator count source out now) where
+module _ (operator : List ℕ) (count : ℕ) (source : SourceState) (out : SinkState) (first : Standing)
+    (now new : RunState) (so_far : SoFar operator count source out first now) where
+  -- the history so far begins with the first one
+  so_far-grown : HasGrown first now.stands
+  so_far-grown = (run-goes operator first now.stands so_far.acted so_far.replies so_far.run).grown
+
+  -- so does it where it stays
+  grown_as : new.stands ≡ now.stands → HasGrown first new.stands
+  grown_as same = (so_far-grown.0, ap (λ (s : Standing). s.history) same ∙ so_far-grown.1)
+
+  -- and with one line more
+  grown_by : (line reply : List ℕ) → IsActedOn operator now.stands line reply new.stands → HasGrown first new.stands
+  grown_by line reply acted =
+      (run-goes operator first new.stands (so_far.acted ++ line ∷ []) (so_far.replies ++ reply)
+      (IsRun-more operator first so_far.acted so_far.replies now.stands line reply new.stands so_far.run acted)).grown
+
   -- the output has taken the replies so far
-  acted_on : (out' : SinkState) → out' ≡ now.out → ActedOn operator out out' so_far.acted
-  acted_on out' same = record {
+  acted_on : (last : Standing) (out' : SinkState)
+      → Stay now.stands last now.out out'
+      → ActedOn operator first last out out' so_far.acted
+  acted_on last out' stay = record {
     replies = so_far.replies;
-    last = now.history;
-    run = so_far.run;
-    legal = so_far.legal;
-    taken = ap (λ (s : SinkState). s.taken) same ∙ so_far.taken;
+    run = subst (λ (s : Standing). IsRun operator first so_far.acted so_far.replies s) (sym stay.0) so_far.run;
+    taken = ap (λ (s : SinkState). s.taken) stay.1 ∙ so_far.taken;
   }
 
   -- one line more
-  pub SoFar-more : TakesLine now new (λ line. Acts operator line now.history new.history now.out new.out)
-      → SoFar operator (count + 1) source out new
+  pub SoFar-more : TakesLine now new (λ line. Acts operator line now.stands new.stands now.out new.out)
+      → SoFar operator (count + 1) source out first new
   SoFar-more takes =
       let acts = takes.holds in record {
         acted = so_far.acted ++ takes.line ∷ [];
         replies = so_far.replies ++ acts.reply;
-        run = subst (λ (h : List Entry). IsRun operator [] (so_far.acted ++ takes.line ∷ []) (so_far.replies ++ acts.reply) h)
-            (sym acts.new_is)
-            (IsRun-more operator [] so_far.acted so_far.replies now.history takes.line acts.reply acts.added so_far.run
-            acts.acted);
-        legal = acts.legal;
+        run = IsRun-more operator first so_far.acted so_far.replies now.stands takes.line acts.reply new.stands
+            so_far.run
+            acts.acted;
         size = omega (arith, length-append so_far.acted (takes.line ∷ []), so_far.size);
         taken = acts.takes.taken
             ∙ (ap (λ (t : Option (List ℕ)). after_taken t acts.reply) so_far.taken
@@ -207,15 +226,16 @@ module _ (operator : List ℕ) (count : ℕ) (source : SourceState) (out : SinkS
         out_faults = acts.takes.no_fault ∙ so_far.out_faults;
         faults = takes.no_fault ∙ so_far.faults;
         reached = λ text told. IsReached-more source.reads now.source.reads new.source.reads so_far.acted
-            (ahead now.reader now.source) (ahead new.reader new.source) takes.line text (so_far.reached text told) takes.next;
+            (ahead now.reader now.source) (ahead new.reader new.source) takes.line text
+            (so_far.reached text told) takes.next;
       }
 
   -- the next line ends the script
   pub Finished-here : TakesLine now new IsEnd
-      → new.out ≡ now.out
+      → Stay now.stands new.stands now.out new.out
       → count < most_lines
-      → WhereTold source.left (Finished operator out new.out)
-  Finished-here takes same few text told =
+      → WhereTold source.left (Finished operator out new.out first new.stands)
+  Finished-here takes stay few text told =
       let reached = so_far.reached text told in record {
         acted = so_far.acted;
         script = record {
@@ -224,11 +244,11 @@ module _ (operator : List ℕ) (count : ℕ) (source : SourceState) (out : SinkS
               (ahead now.reader now.source) (ahead new.reader new.source) takes.line text reached takes.next).rest;
           lines_are = line-behind source.reads now.source.reads new.source.reads so_far.acted
               (ahead now.reader now.source) (ahead new.reader new.source) takes.line text reached takes.next;
-          ask = IsRun-asks operator [] so_far.acted so_far.replies now.history so_far.run;
+          ask = IsRun-asks operator first so_far.acted so_far.replies now.stands so_far.run;
           end = takes.holds;
           few = omega (arith, so_far.size);
         };
-        replies = acted_on new.out same;
+        replies = acted_on new.stands new.out stay;
       }
 
   -- and nothing behind it was read
@@ -237,39 +257,39 @@ module _ (operator : List ℕ) (count : ℕ) (source : SourceState) (out : SinkS
   ReadsScriptAlone-end takes text told =
       ReadsScriptAlone-here source.reads now.source.reads new.source.reads so_far.acted
       (ahead now.reader now.source) (ahead new.reader new.source) takes.line text (so_far.reached text told) takes.next
-      (IsRun-asks operator [] so_far.acted so_far.replies now.history so_far.run) takes.holds
+      (IsRun-asks operator first so_far.acted so_far.replies now.stands so_far.run) takes.holds
 
   -- the script is left by what comes next
-  stopped : (number : ℕ) (out' : SinkState) (text : List ℕ)
+  stopped : (number : ℕ) (last : Standing) (out' : SinkState) (text : List ℕ)
       (reached : IsReached source.reads now.source.reads so_far.acted (ahead now.reader now.source) text)
-      → out' ≡ now.out
+      → Stay now.stands last now.out out'
       → count + 1 ≡ number
       → count ≤ most_lines
       → LeavesGrammar MayStand (length so_far.acted) (lines reached.reads.rest)
-      → Stopped number operator out out' text
-  stopped number out' text reached same number_is few bad = record {
+      → Stopped number operator out out' first last text
+  stopped number last out' text reached stay number_is few bad = record {
     acted = so_far.acted;
     stops = record {
       rest = lines reached.reads.rest;
       lines_are = reached.lines_are;
-      ask = IsRun-asks operator [] so_far.acted so_far.replies now.history so_far.run;
+      ask = IsRun-asks operator first so_far.acted so_far.replies now.stands so_far.run;
       few = omega (arith, so_far.size);
       bad = bad;
       number_is = omega (arith, so_far.size);
     };
-    replies = acted_on out' same;
+    replies = acted_on last out' stay;
   }
 
   -- the next line may not stand in a script
   pub Stopped-here : (number : ℕ)
       → WhereTold (ahead now.reader now.source) (λ text. NoneStands (lines text))
-      → new.out ≡ now.out
+      → Stay now.stands new.stands now.out new.out
       → count + 1 ≡ number
       → count ≤ most_lines
-      → WhereTold source.left (Stopped number operator out new.out)
-  Stopped-here number none same number_is few text told =
+      → WhereTold source.left (Stopped number operator out new.out first new.stands)
+  Stopped-here number none stay number_is few text told =
       let reached = so_far.reached text told in
-      stopped number new.out text reached same number_is few
+      stopped number new.stands new.out text reached stay number_is few
       (none_stands (length so_far.acted) (lines reached.reads.rest) (none reached.reads.rest reached.reads.behind_is))
     where
       none_stands : (n : ℕ) (texts : List (List ℕ)) → NoneStands texts → LeavesGrammar MayStand n texts
@@ -280,10 +300,10 @@ module _ (operator : List ℕ) (count : ℕ) (source : SourceState) (out : SinkS
   pub Stopped-full : (number : ℕ)
       → count ≡ most_lines
       → count + 1 ≡ number
-      → WhereTold source.left (Stopped number operator out now.out)
+      → WhereTold source.left (Stopped number operator out now.out first now.stands)
   Stopped-full number full number_is text told =
       let reached = so_far.reached text told in
-      stopped number now.out text reached refl number_is (omega arith)
+      stopped number now.stands now.out text reached (refl, refl) number_is (omega arith)
       (too_many (length so_far.acted) (lines reached.reads.rest) (omega (arith, so_far.size)))
     where
       too_many : (n : ℕ) (texts : List (List ℕ)) → most_lines ≤ n → LeavesGrammar MayStand n texts
@@ -293,9 +313,9 @@ module _ (operator : List ℕ) (count : ℕ) (source : SourceState) (out : SinkS
   -- a read has failed
   pub CutOff-here : ahead new.reader new.source ≡ ahead now.reader now.source
       → position is_line_feed (unread new.reader) ≡ None
-      → new.out ≡ now.out
-      → WhereTold source.left (CutOff operator new.source.left out new.out)
-  CutOff-here still none same text told =
+      → Stay now.stands new.stands now.out new.out
+      → WhereTold source.left (CutOff operator new.source.left out new.out first new.stands)
+  CutOff-here still none stay text told =
       let reached = so_far.reached text told in
       let parts = told_parts (unread new.reader) new.source.left reached.reads.rest (still ∙ reached.reads.behind_is) in
       record {
@@ -307,7 +327,7 @@ module _ (operator : List ℕ) (count : ℕ) (source : SourceState) (out : SinkS
         text_is = reached.reads.text_is ∙ ap (λ (r : List ℕ). reached.reads.taken ++ r) parts.2;
         lines_are = reached.lines_are ∙ ap (λ (r : List ℕ). so_far.acted ++ lines r) parts.2;
         begun_only = none;
-        replies = acted_on new.out same;
+        replies = acted_on new.stands new.out stay;
       }
     where
       told_parts : (front : List ℕ) (left : Option (List ℕ)) (t : List ℕ)
@@ -317,18 +337,19 @@ module _ (operator : List ℕ) (count : ℕ) (source : SourceState) (out : SinkS
       told_parts front (Some rest) t is = (rest, refl, (cc))
 
   -- memory has run out
-  pub LeftOff-here : new.out ≡ now.out → WhereTold source.left (LeftOff operator out new.out)
-  LeftOff-here same text told =
+  pub LeftOff-here : Stay now.stands new.stands now.out new.out
+      → WhereTold source.left (LeftOff operator out new.out first new.stands)
+  LeftOff-here stay text told =
       let reached = so_far.reached text told in record {
         acted = so_far.acted;
         rest = lines reached.reads.rest;
         lines_are = reached.lines_are;
-        replies = acted_on new.out same;
+        replies = acted_on new.stands new.out stay;
       }
 
   -- the output has failed to take a reply
-  pub BrokenOff-here : TakesLine now new (λ line. ActsInVain operator line now.history now.out new.out)
-      → WhereTold source.left (BrokenOff operator out new.out)
+  pub BrokenOff-here : TakesLine now new (λ line. ActsInVain operator line now.stands new.stands now.out new.out)
+      → WhereTold source.left (BrokenOff operator out new.out first new.stands)
   BrokenOff-here takes text told =
       let reached = so_far.reached text told in
       let vain = takes.holds in
@@ -341,47 +362,62 @@ module _ (operator : List ℕ) (count : ℕ) (source : SourceState) (out : SinkS
         lines_are = line-behind source.reads now.source.reads new.source.reads so_far.acted
             (ahead now.reader now.source) (ahead new.reader new.source) takes.line text reached takes.next;
         replies = so_far.replies;
-        history = now.history;
+        before = now.stands;
         run = so_far.run;
         part = prefix.0;
         lost = prefix.1;
-        added = vain.added;
-        last = subst (λ (r : List ℕ). IsActedOn operator now.history takes.line r vain.added) prefix.2 vain.acted;
+        acted_last = subst (λ (r : List ℕ). IsActedOn operator now.stands takes.line r new.stands) prefix.2 vain.acted;
         taken = prefix.3
             ∙ (ap (λ (t : Option (List ℕ)). after_taken t prefix.0) so_far.taken
             ∙ after_taken-more out.taken so_far.replies prefix.0);
       }
 
   -- the next line ends the run
-  pub RunEnds-here : (ended : Ending)
+  pub ScriptEnds-here : (ended : Ending)
       → count < most_lines
       → NextEnds operator (count + 1) (Some ended) now new
-      → RunEnds operator ended source new.source out new.out
-  RunEnds-here ending.Done few ends = Finished-here ends.0 ends.1 few
-  RunEnds-here ending.Usage few ends = ends
-  RunEnds-here (ending.BadInput number) few ends = Stopped-here number ends.1 ends.2 (sym ends.0) (omega arith)
-  RunEnds-here ending.ReadFault few ends = (
+      → ScriptEnds operator ended source new.source out new.out first new.stands
+  ScriptEnds-here ending.Done few ends = Finished-here ends.0 ends.1 few
+  ScriptEnds-here ending.Usage few ends = absurd ends
+  ScriptEnds-here (ending.BadInput number) few ends = Stopped-here number ends.1 ends.2 (sym ends.0) (omega arith)
+  ScriptEnds-here ending.ReadFault few ends = (
     subst (λ (n : ℕ). Rose n new.source.faults) so_far.faults ends.0,
     CutOff-here ends.1 ends.2 ends.3,
   )
-  RunEnds-here ending.WriteFault few ends = (
+  ScriptEnds-here ending.WriteFault few ends = (
     subst (λ (n : ℕ). Rose n new.out.faults) so_far.out_faults ends.holds.fails.rose,
     BrokenOff-here ends,
   )
-  RunEnds-here ending.OutOfMemory few ends = LeftOff-here ends
+  ScriptEnds-here ending.DiskFault few ends = absurd ends
+  ScriptEnds-here (ending.NotAJournal found) few ends = absurd ends
+  ScriptEnds-here (ending.Damaged place) few ends = absurd ends
+  ScriptEnds-here ending.OutOfMemory few ends = LeftOff-here ends
+
+  -- the history begins with the first one, whatever the next line did
+  pub HasGrown-end : (result : Option Ending) → NextEnds operator (count + 1) result now new → HasGrown first new.stands
+  HasGrown-end None ends = grown_by ends.line ends.holds.reply ends.holds.acted
+  HasGrown-end (Some ending.Done) ends = grown_as ends.1.0
+  HasGrown-end (Some ending.Usage) ends = absurd ends
+  HasGrown-end (Some (ending.BadInput number)) ends = grown_as ends.2.0
+  HasGrown-end (Some ending.ReadFault) ends = grown_as ends.3.0
+  HasGrown-end (Some ending.WriteFault) ends = grown_by ends.line ends.holds.reply ends.holds.acted
+  HasGrown-end (Some ending.DiskFault) ends = absurd ends
+  HasGrown-end (Some (ending.NotAJournal found)) ends = absurd ends
+  HasGrown-end (Some (ending.Damaged place)) ends = absurd ends
+  HasGrown-end (Some ending.OutOfMemory) ends = grown_as ends.0
 
   -- where it ends the script no fault was passed over
   pub no_fault-end : NextEnds operator (count + 1) (Some ending.Done) now new
       → (new.source.faults ≡ source.faults) × (new.out.faults ≡ out.faults)
   no_fault-end ends = (
     ends.0.no_fault ∙ so_far.faults,
-    ap (λ (s : SinkState). s.faults) ends.1 ∙ so_far.out_faults,
+    ap (λ (s : SinkState). s.faults) ends.1.1 ∙ so_far.out_faults,
   )
 
   -- the script goes on
   pub SoFar-next : (result : Option Ending)
       → ((ended : Ending) → result ≡ Some ended → ⊥)
       → NextEnds operator (count + 1) result now new
-      → SoFar operator (count + 1) source out new
+      → SoFar operator (count + 1) source out first new
   SoFar-next None on ends = SoFar-more ends
   SoFar-next (Some ended) on ends = absurd (on ended refl)

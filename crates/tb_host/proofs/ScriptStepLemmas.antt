@@ -1,20 +1,41 @@
 -- The next line of a script.
-use Rattle.std.proofs.Common.{◌≡◌, ℕ, ◌<◌, ◌≤◌, List, [], ◌∷◌, ◌++◌, ◌-◌, length, take, drop, sym, subst, ap, ◌∙◌, refl, arith, inl, inr, ⊎_elim}
+use Rattle.std.proofs.Common.{
+  ◌≡◌,
+  ℕ,
+  ◌<◌,
+  ◌≤◌,
+  List,
+  [],
+  ◌∷◌,
+  ◌++◌,
+  ◌-◌,
+  length,
+  take,
+  drop,
+  sym,
+  subst,
+  ap,
+  ◌∙◌,
+  refl,
+  arith,
+  inl,
+  inr,
+  ⊎_elim,
+}
 use Rattle.std.specs.Prelude.{Option, Some, None, codes}
 use Rattle.std.specs.Str.Lines.{lines}
 use Rattle.std.proofs.lemmas.List.{length-drop, take_all}
 use Rattle.tb_link.specs.Sinks.{SinkState, Takes, FailsToTake}
-use Rattle.tb_message.specs.declared.message.Entry.{Entry}
 use Rattle.tb_history.specs.Answer.{caller_of}
-use Rattle.tb_history.specs.Legal.{IsLegal}
 use Rattle.tb_history.specs.Roster.{registrations}
-use Rattle.tb_host.specs.Answers.{HasAnswered}
 use Rattle.tb_host.specs.LineEnds.{longest_line}
 use Rattle.tb_host.specs.Lines.{Finds, FindsWhereTold, ahead}
 use Rattle.tb_host.specs.Reads.{ReadsNoMore}
+use Rattle.tb_host.specs.Replies.{IsAnswered}
 use Rattle.tb_host.specs.ScriptLines.{IsAsk, IsEnd, SpellsFrom}
 use Rattle.tb_host.specs.ScriptSteps.{Acts, ActsInVain, IsNext, LineEnds, NextEnds, NoneStands, RunState}
 use Rattle.tb_host.specs.Scripts.{MayStand}
+use Rattle.tb_host.specs.Standings.{Standing}
 use Rattle.tb_host.specs.Told.{WhereTold}
 use Rattle.tb_host.specs.declared.ending.Ending.{Ending}
 use Rattle.tb_host.specs.declared.ending.Ending.TheVariants as ending
@@ -48,7 +69,8 @@ pub NoneStands-unread : (text line : List ℕ) (behind : Option (List ℕ))
 NoneStands-unread text line behind found none = none_stands (lines text) line (lines found.1.0) found.1.2 none
 
 -- no line was found
-pub NoneStands-end : (text line : List ℕ) (behind : Option (List ℕ)) → Finds next.End text line behind → NoneStands (lines text)
+pub NoneStands-end : (text line : List ℕ) (behind : Option (List ℕ)) → Finds next.End text line behind
+    → NoneStands (lines text)
 NoneStands-end text line behind found = subst (λ (t : List ℕ). NoneStands (lines t)) (sym found) tt
 
 -- a line that is too long may not stand in a script
@@ -70,43 +92,39 @@ pub rest_whole : (line : List ℕ) (at : ℕ) → take (length line - at) (drop 
 rest_whole line at = take_all (length line - at) (drop at line) (omega (arith, length-drop at line))
 
 -- what is asked was answered, and the output has taken the reply
-pub Acts-here : (operator line : List ℕ) (ask : Ask) (old new : List Entry) (reply : List ℕ) (out out' : SinkState)
+pub Acts-here : (operator line : List ℕ) (ask : Ask) (old new : Standing) (reply : List ℕ) (out out' : SinkState)
     → SpellsFrom line ask
-    → HasAnswered (caller_of (registrations old) operator ask.key) old ask.moment (drop ask.json_at line) reply new
-    → IsLegal new
+    → IsAnswered old (caller_of (registrations old.history) operator ask.key) ask.moment
+    (drop ask.json_at line) reply new
     → Takes out out' reply
     → Acts operator line old new out out'
-Acts-here operator line ask old new reply out out' spells answered legal takes = record {
+Acts-here operator line ask old new reply out out' spells answered takes = record {
   reply = reply;
-  added = answered.added;
   acted = record {
     moment = ask.moment;
     key = ask.key;
     json = drop ask.json_at line;
     spells = spells.spells;
-    answered = answered.answered;
+    answered = answered;
   };
-  new_is = answered.new_is;
-  legal = legal;
   takes = takes;
 }
 
 -- the same where the output has failed to take it
-pub ActsInVain-here : (operator line : List ℕ) (ask : Ask) (old new : List Entry) (reply : List ℕ)
-    (out out' : SinkState)
+pub ActsInVain-here : (operator line : List ℕ) (ask : Ask) (old new : Standing) (reply : List ℕ) (out out' : SinkState)
     → SpellsFrom line ask
-    → HasAnswered (caller_of (registrations old) operator ask.key) old ask.moment (drop ask.json_at line) reply new
+    → IsAnswered old (caller_of (registrations old.history) operator ask.key) ask.moment
+    (drop ask.json_at line) reply new
     → FailsToTake out out' reply
-    → ActsInVain operator line old out out'
+    → ActsInVain operator line old new out out'
 ActsInVain-here operator line ask old new reply out out' spells answered fails = record {
   reply = reply;
-  added = answered.added;
   acted = record {
     moment = ask.moment;
     key = ask.key;
     json = drop ask.json_at line;
     spells = spells.spells;
-    answered = answered.answered;
+    answered = answered;
   };
   fails = fails;
 }
@@ -117,7 +135,7 @@ pub NextEnds-line : (operator : List ℕ) (number : ℕ) (result : Option Ending
     → WhereTold (ahead old.reader old.source)
     (ReadsNoMore old.source.reads new.source.reads (ahead new.reader new.source))
     → new.source.faults ≡ old.source.faults
-    → LineEnds operator number line result old.history new.history old.out new.out
+    → LineEnds operator number line result old.stands new.stands old.out new.out
     → NextEnds operator number result old new
 NextEnds-line operator number None line old new found reads no_fault ends = record {
   line = line;
@@ -136,7 +154,10 @@ NextEnds-line operator number (Some ending.Done) line old new found reads no_fau
   },
   ends.1,
 )
-NextEnds-line operator number (Some ending.Usage) line old new found reads no_fault ends = ends
+NextEnds-line operator number (Some ending.Usage) line old new found reads no_fault ends = absurd ends
+NextEnds-line operator number (Some ending.DiskFault) line old new found reads no_fault ends = absurd ends
+NextEnds-line operator number (Some (ending.NotAJournal bytes)) line old new found reads no_fault ends = absurd ends
+NextEnds-line operator number (Some (ending.Damaged place)) line old new found reads no_fault ends = absurd ends
 NextEnds-line operator number (Some (ending.BadInput at)) line old new found reads no_fault ends = (
   ends.0,
   λ text told. NoneStands-unread text line (ahead new.reader new.source) (found text told) ends.1,

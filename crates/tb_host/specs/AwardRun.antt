@@ -25,10 +25,10 @@ pub record PrintedPrefix (full : Bool) (out out' : SinkState) (input : List ℕ)
 -- how the command ends, where the input and the output go from the first states to the second
 abbrev pub AwardEnds : Bool → Ending → SourceState → SourceState → SinkState → SinkState → Type 0
 AwardEnds full ending.Done input input' out out' = WhereTold input.left (Printed full out out')
-AwardEnds full ending.Usage input input' out out' = ⊥
 AwardEnds full (ending.BadInput number) input input' out out' =
     (out' ≡ out) × WhereTold input.left (λ text. IsBadLine number (lines text))
 AwardEnds full ending.ReadFault input input' out out' = (out' ≡ out) × Rose input.faults input'.faults
 AwardEnds full ending.WriteFault input input' out out' =
     Rose out.faults out'.faults × WhereTold input.left (PrintedPrefix full out out')
 AwardEnds full ending.OutOfMemory input input' out out' = out' ≡ out
+AwardEnds full ended input input' out out' = ⊥

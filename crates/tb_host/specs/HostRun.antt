@@ -1,21 +1,28 @@
 -- How the program ends.
-use Rattle.std.specs.Prelude.{◌≡◌, ℕ, List, Option}
+use Rattle.std.specs.Prelude.{◌≡◌, ℕ, List, Option, Some}
 use Rattle.tb_link.specs.Sources.{SourceState}
 use Rattle.tb_link.specs.Sinks.{SinkState}
+use Rattle.tb_disk.specs.Disks.{DiskState}
+use Rattle.tb_disk.specs.Past.{Past, contents_of}
+use Rattle.tb_message.specs.declared.message.Entry.{Entry}
+use Rattle.tb_history.specs.Legal.{IsLegal}
+use Rattle.tb_desk.specs.Stands.{StandsForHistory}
+use Rattle.tb_desk.specs.declared.fault.OpenFault.{OpenFault}
+use Rattle.tb_host.specs.DiskRun.{Unopened}
 use Rattle.tb_host.specs.AwardRun.{AwardEnds}
 use Rattle.tb_host.specs.Reads.{ReadsBookAlone, ReadsScriptAlone}
-use Rattle.tb_host.specs.RunEnds.{RunEnds}
+use Rattle.tb_host.specs.RunEnds.{Devices, RunEnds}
 use Rattle.tb_host.specs.declared.command.Command.{Command}
 use Rattle.tb_host.specs.declared.command.Command.TheVariants as command
 use Rattle.tb_host.specs.Told.{WhereTold}
-use Rattle.tb_host.specs.Endings.{message_of, bad_input_message, Tells}
+use Rattle.tb_host.specs.Endings.{status_of, ending_of, message_of, bad_input_message, Tells}
 use Rattle.tb_host.specs.declared.ending.Ending.{Ending}
 use Rattle.tb_host.specs.declared.ending.Ending.TheVariants as ending
 
 -- how a command ends
-abbrev pub EndsAs : Command → Ending → SourceState → SourceState → SinkState → SinkState → Type 0
-EndsAs (command.Award full) ended input input' out out' = AwardEnds full ended input input' out out'
-EndsAs (command.Run operator) ended input input' out out' = RunEnds operator ended input input' out out'
+abbrev pub EndsAs : Command → Ending → SourceState → SourceState → Devices → Devices → Type 0
+EndsAs (command.Award full) ended input input' old new = AwardEnds full ended input input' old.out new.out
+EndsAs (command.Run operator) ended input input' old new = RunEnds operator ended input input' old new
 
 -- a text was read up to the line that ends what the command reads, and nothing behind that
 abbrev pub ReadsAlone : Command → ℕ → ℕ → List ℕ → Type 0
@@ -31,3 +38,15 @@ Reports ended err err' = Tells err err' (message_of ended)
 abbrev pub TellsLine : Option (List ℕ) → (ℕ → List ℕ → Type 0) → SinkState → SinkState → Type 0
 TellsLine told Holds err err' =
     (number : ℕ) × Tells err err' (bad_input_message number) × WhereTold told (Holds number)
+
+-- at this status the desk wasn't opened, for a reason that is told
+pub record ToldUnopened (status : ℕ) (disk disk' : DiskState) (err err' : SinkState) : Type 0 where
+  pub why : OpenFault
+  pub status_is : status ≡ status_of (ending_of why)
+  pub told : Tells err err' (message_of (ending_of why))
+  pub unopened : Unopened why disk disk'
+
+-- the disk tells that it stands for a legal history
+abbrev pub HasHistory : DiskState → Type 0
+HasHistory disk = (past : Past) × (disk.past ≡ Some past)
+    × (history : List Entry) × StandsForHistory history (contents_of past) × IsLegal history

@@ -18,10 +18,13 @@ pub mod Commands
 pub mod Endings
 pub mod AwardRun
 pub mod ScriptLines
+pub mod Standings
+pub mod Turns
 pub mod Replies
 pub mod Answers
 pub mod ScriptRun
 pub mod Scripts
+pub mod DiskRun
 pub mod RunEnds
 pub mod ScriptSteps
 pub mod HostRun

@@ -1,48 +1,46 @@
 -- What acting on one line of a script does.
-use Rattle.std.specs.Prelude.{◌≡◌, ℕ, ◌⊎◌, List, [], ◌∷◌, ◌++◌, Option, Some, None, position}
+use Rattle.std.specs.Prelude.{◌≡◌, ℕ, List, [], ◌∷◌, Option, Some, None, position}
 use Rattle.std.specs.Str.Lines.{lines}
 use Rattle.tb_link.specs.Counts.{Rose}
 use Rattle.tb_link.specs.Sources.{SourceState}
 use Rattle.tb_link.specs.Sinks.{SinkState, Takes, FailsToTake}
-use Rattle.tb_message.specs.declared.message.Entry.{Entry}
-use Rattle.tb_history.specs.Legal.{IsLegal}
 use Rattle.tb_host.specs.LineEnds.{is_line_feed}
 use Rattle.tb_host.specs.Lines.{ahead, unread}
 use Rattle.tb_host.specs.Reads.{ReadsNoMore}
 use Rattle.tb_host.specs.ScriptLines.{IsEnd}
 use Rattle.tb_host.specs.ScriptRun.{IsActedOn}
 use Rattle.tb_host.specs.Scripts.{MayStand}
+use Rattle.tb_host.specs.Standings.{Standing}
 use Rattle.tb_host.specs.Told.{WhereTold}
 use Rattle.tb_host.specs.declared.ending.Ending.{Ending}
 use Rattle.tb_host.specs.declared.ending.Ending.TheVariants as ending
 use Rattle.tb_host.specs.declared.input.LineReader.{LineReader}
 
--- a line was acted on, from one history to another, and the output has taken the reply
-pub record Acts (operator : List ℕ) (line : List ℕ) (old new : List Entry) (out out' : SinkState) : Type 0 where
+-- a line was acted on, and the output has taken the reply
+pub record Acts (operator line : List ℕ) (old new : Standing) (out out' : SinkState) : Type 0 where
   pub reply : List ℕ
-  pub added : List Entry
-  pub acted : IsActedOn operator old line reply added
-  pub new_is : new ≡ old ++ added
-  pub legal : IsLegal new
+  pub acted : IsActedOn operator old line reply new
   pub takes : Takes out out' reply
 
 -- a line was acted on, and the output has failed to take the reply
-pub record ActsInVain (operator : List ℕ) (line : List ℕ) (old : List Entry) (out out' : SinkState) : Type 0 where
+pub record ActsInVain (operator line : List ℕ) (old new : Standing) (out out' : SinkState) : Type 0 where
   pub reply : List ℕ
-  pub added : List Entry
-  pub acted : IsActedOn operator old line reply added
+  pub acted : IsActedOn operator old line reply new
   pub fails : FailsToTake out out' reply
 
+-- where the script stands and the output are as they were
+abbrev pub Stay : Standing → Standing → SinkState → SinkState → Type 0
+Stay old new out out' = (new ≡ old) × (out' ≡ out)
+
 -- the line of this number was acted on, and the script goes on, or ends so
-abbrev pub LineEnds : List ℕ → ℕ → List ℕ → Option Ending → List Entry → List Entry → SinkState → SinkState → Type 0
+abbrev pub LineEnds : List ℕ → ℕ → List ℕ → Option Ending → Standing → Standing → SinkState → SinkState → Type 0
 LineEnds operator number line None old new out out' = Acts operator line old new out out'
-LineEnds operator number line (Some ending.Done) old new out out' = IsEnd line × (out' ≡ out)
-LineEnds operator number line (Some ending.Usage) old new out out' = ⊥
+LineEnds operator number line (Some ending.Done) old new out out' = IsEnd line × Stay old new out out'
 LineEnds operator number line (Some (ending.BadInput at)) old new out out' =
-    (at ≡ number) × (¬ (MayStand line)) × (out' ≡ out)
-LineEnds operator number line (Some ending.ReadFault) old new out out' = ⊥
-LineEnds operator number line (Some ending.WriteFault) old new out out' = ActsInVain operator line old out out'
-LineEnds operator number line (Some ending.OutOfMemory) old new out out' = out' ≡ out
+    (at ≡ number) × (¬ (MayStand line)) × Stay old new out out'
+LineEnds operator number line (Some ending.WriteFault) old new out out' = ActsInVain operator line old new out out'
+LineEnds operator number line (Some ending.OutOfMemory) old new out out' = Stay old new out out'
+LineEnds operator number line (Some ended) old new out out' = ⊥
 
 -- the line is the first of a text, and nothing behind it was read
 pub record IsNext (before after : ℕ) (line : List ℕ) (behind : Option (List ℕ)) (text : List ℕ) : Type 0 where
@@ -54,11 +52,11 @@ abbrev pub NoneStands : List (List ℕ) → Type 0
 NoneStands [] = Unit {0}
 NoneStands (line ∷ lines) = ¬ (MayStand line)
 
--- where a run stands: the reader with its source, the history, and the output
+-- how far a run has come: the reader with its source, where the script stands, and the output
 pub record RunState : Type 0 where
   pub reader : LineReader
   pub source : SourceState
-  pub history : List Entry
+  pub stands : Standing
   pub out : SinkState
 
 -- a line was taken from what is ahead, with no fault, and this is so of it
@@ -72,16 +70,19 @@ pub record TakesLine (old new : RunState) (Holds : List ℕ → Type 0) : Type 0
 -- the next line, the line of this number, was acted on, and the script goes on, or ends so
 abbrev pub NextEnds : List ℕ → ℕ → Option Ending → RunState → RunState → Type 0
 NextEnds operator number None old new =
-    TakesLine old new (λ line. Acts operator line old.history new.history old.out new.out)
-NextEnds operator number (Some ending.Done) old new = TakesLine old new IsEnd × (new.out ≡ old.out)
-NextEnds operator number (Some ending.Usage) old new = ⊥
+    TakesLine old new (λ line. Acts operator line old.stands new.stands old.out new.out)
+NextEnds operator number (Some ending.Done) old new =
+    TakesLine old new IsEnd × Stay old.stands new.stands old.out new.out
 NextEnds operator number (Some (ending.BadInput at)) old new =
-    (at ≡ number) × WhereTold (ahead old.reader old.source) (λ text. NoneStands (lines text)) × (new.out ≡ old.out)
+    (at ≡ number)
+    × WhereTold (ahead old.reader old.source) (λ text. NoneStands (lines text))
+    × Stay old.stands new.stands old.out new.out
 NextEnds operator number (Some ending.ReadFault) old new =
     Rose old.source.faults new.source.faults
     × (ahead new.reader new.source ≡ ahead old.reader old.source)
     × (position is_line_feed (unread new.reader) ≡ None)
-    × (new.out ≡ old.out)
+    × Stay old.stands new.stands old.out new.out
 NextEnds operator number (Some ending.WriteFault) old new =
-    TakesLine old new (λ line. ActsInVain operator line old.history old.out new.out)
-NextEnds operator number (Some ending.OutOfMemory) old new = new.out ≡ old.out
+    TakesLine old new (λ line. ActsInVain operator line old.stands new.stands old.out new.out)
+NextEnds operator number (Some ending.OutOfMemory) old new = Stay old.stands new.stands old.out new.out
+NextEnds operator number (Some ended) old new = ⊥

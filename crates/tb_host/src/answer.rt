@@ -1,129 +1,110 @@
 //! What a line of a script is answered, and what it does to the history.
-ghost use Rattle.std.specs.Prelude.{◌≡◌, ◌++◌, ◌∷◌, [], List, Some, IfOk, OnOk};
-ghost use Rattle.std.specs.List.{AllByRecursion};
+ghost use Rattle.std.specs.Prelude.{◌≡◌, Some, IfOk, OnErr};
 ghost use Rattle.tb_message.specs.Spelling.{IsNumbered};
-ghost use Rattle.tb_history.specs.Answer.{caller_of};
-ghost use Rattle.tb_history.specs.Legal.{Follows, IsLegal, running};
+ghost use Rattle.tb_history.specs.Answer.{caller_of, query_refusal};
 ghost use Rattle.tb_history.specs.Roster.{registrations};
-ghost use Rattle.tb_history.specs.Verdict.{verdict_on};
-ghost use Rattle.tb_core.specs.Rooms.{Fits};
-ghost use Rattle.tb_host.specs.Answers.{HasAnswered, reply_text};
-ghost use Rattle.tb_host.specs.Replies.{IsTold, added_by};
-ghost use Rattle.tb_history.specs.Answer.{query_refusal};
+ghost use Rattle.tb_host.specs.Answers.{reply_text};
+ghost use Rattle.tb_host.specs.Replies.{IsAnswered, IsTold, asked_by};
+ghost use Rattle.tb_host.specs.Standings.{standing};
+ghost use Rattle.tb_host.specs.Turns.{MakesTurn};
 
 use crate::reply::Reply;
 use std::alloc::Global;
-use tb_core::{Host, QueryRefused};
-use tb_message::{Entry, Key, Message, Query, ReadFault, Request, Verdict, read_request};
+use tb_core::QueryRefused;
+use tb_desk::Desk;
+use tb_disk::Disk;
+use tb_message::{Key, Message, Query, ReadFault, Request, read_request};
 use tb_terms::Refusal;
 use tb_units::{Ident, Moment, OutOfMemory};
 
-/// Answers what the caller of a key asks at a moment, by a text that is to be JSON, and enters a message that is accepted.
-/// The operator's key is `op:` and this name.
-pub fn answer(
+/// Answers what the caller of a key asks at a moment, by a text that is to be JSON: a message makes a turn of the desk.
+/// Where memory runs out the history is as it was. The operator's key is `op:` and this name.
+pub fn answer<D: Disk>(
     alloc: Global,
-    host: &mut Host,
+    desk: &mut Desk<D>,
     operator: &Ident,
     moment: Moment,
     key: &Key,
     json: &[u8],
 ) -> Result<Reply, OutOfMemory>
-    requires { IsLegal host.old.history }
-    ensures answered { IfOk result (λ reply. HasAnswered (caller_of (registrations host.old.history) operator.now key.now)
-        host.old.history moment json.now (reply_text reply) host.new.history) }
-    ensures legal { OnOk result (IsLegal host.new.history) }
+    ensures answered { IfOk result (λ reply. IsAnswered (standing (D.disk desk.old.disk) desk.old)
+        (caller_of (registrations desk.old.host.history) operator.now key.now) moment json.now (reply_text reply)
+        (standing (D.disk desk.new.disk) desk.new)) }
+    ensures stays { OnErr result (standing (D.disk desk.new.disk) desk.new ≡ standing (D.disk desk.old.disk) desk.old) }
+    ensures kept { (desk.new.opened ≡ desk.old.opened) × (desk.new.recovered ≡ desk.old.recovered) }
 {
-    match caller(host, operator, key) {
+    match caller(desk, operator, key) {
         None => Ok(Reply::refused(Refusal::UnknownKey)),
-        Some(caller) => answer_caller(alloc, host, caller, moment, json),
+        Some(caller) => answer_caller(alloc, desk, &caller, moment, json),
     }
 }
 
 // The submitter whose key it is, or the operator.
-fn caller(host: &Host, operator: &Ident, key: &Key) -> Option<Ident>
-    ensures { result ≡ caller_of (registrations host.now.history) operator.now key.now }
+fn caller<D: Disk>(desk: &Desk<D>, operator: &Ident, key: &Key) -> Option<Ident>
+    ensures { result ≡ caller_of (registrations desk.now.host.history) operator.now key.now }
 {
     match key {
-        Key::Submitter(word) => host.caller(word),
+        Key::Submitter(word) => desk.caller(word),
         Key::Operator(name) if name == operator => Ident::of_bytes(b"operator"),
         Key::Operator(_) => None,
     }
 }
 
-fn answer_caller(
+fn answer_caller<D: Disk>(
     alloc: Global,
-    host: &mut Host,
-    caller: Ident,
+    desk: &mut Desk<D>,
+    caller: &Ident,
     moment: Moment,
     json: &[u8],
 ) -> Result<Reply, OutOfMemory>
-    requires { IsLegal host.old.history }
-    ensures answered { IfOk result (λ reply. HasAnswered (Some caller) host.old.history moment json.now (reply_text reply)
-        host.new.history) }
-    ensures legal { OnOk result (IsLegal host.new.history) }
+    ensures answered { IfOk result (λ reply. IsAnswered (standing (D.disk desk.old.disk) desk.old) (Some caller.now)
+        moment json.now (reply_text reply) (standing (D.disk desk.new.disk) desk.new)) }
+    ensures stays { OnErr result (standing (D.disk desk.new.disk) desk.new ≡ standing (D.disk desk.old.disk) desk.old) }
+    ensures kept { (desk.new.opened ≡ desk.old.opened) × (desk.new.recovered ≡ desk.old.recovered) }
 {
     match read_request(alloc, json) {
         Ok(Request::Message { number, message }) => {
-            let verdict = submit(host, caller, number, moment, message)?;
-            Ok(Reply::Verdict(verdict))
+            let turned = submit(desk, caller, number, moment, &message)?;
+            Ok(Reply::of_turn(turned))
         }
-        Ok(Request::Query(query)) => tell(alloc, host, &caller, &query),
+        Ok(Request::Query(query)) => tell(alloc, desk, caller, &query),
         Err(ReadFault::BadJson) => Ok(Reply::refused(Refusal::BadJson)),
         Err(ReadFault::BadShape(member)) => Ok(Reply::refused(Refusal::BadShape(member))),
         Err(ReadFault::OutOfMemory) => Err(OutOfMemory),
     }
 }
 
-// The verdict on a message at the running moment. Where it is accepted it is entered.
-fn submit(
-    host: &mut Host,
-    caller: Ident,
+// One turn of the desk, with room for what it may keep.
+fn submit<D: Disk>(
+    desk: &mut Desk<D>,
+    caller: &Ident,
     number: u64,
     moment: Moment,
-    message: Message,
-) -> Result<Verdict, OutOfMemory>
-    requires legal { IsLegal host.old.history }
-    requires numbered { IsNumbered number message }
-    ensures verdict { IfOk result (λ said. said
-        ≡ verdict_on host.old.history caller number (running host.old.history moment) message) }
-    ensures history { IfOk result (λ said. host.new.history ≡ host.old.history ++ added_by said caller message) }
-    ensures legal { OnOk result (IsLegal host.new.history) }
+    message: &Message,
+) -> Result<tb_desk::Reply, OutOfMemory>
+    requires { IsNumbered number message.now }
+    ensures turn { IfOk result (MakesTurn (asked_by caller.now moment number message.now)
+        (standing (D.disk desk.old.disk) desk.old) (standing (D.disk desk.new.disk) desk.new)) }
+    ensures stays { OnErr result (standing (D.disk desk.new.disk) desk.new ≡ standing (D.disk desk.old.disk) desk.old) }
+    ensures kept { (desk.new.opened ≡ desk.old.opened) × (desk.new.recovered ≡ desk.old.recovered) }
 {
-    host.make_room(&[], &message)?;
-    // An entry's submitter is a name, which its bytes tell.
-    let _ = caller.bytes();
-    let moment = moment.later(host.last());
-    let verdict = host.decide(&caller, number, moment, &message);
-    enter(host, caller, message, &verdict);
-    Ok(verdict)
-}
-
-// Enters a message that was accepted.
-fn enter(host: &mut Host, caller: Ident, message: Message, verdict: &Verdict)
-    requires legal { IsLegal host.old.history }
-    requires fits { Fits host.old.room (message ∷ []) }
-    requires follows { AllByRecursion (Follows host.old.history) (added_by verdict.now caller message) }
-    ensures history { host.new.history ≡ host.old.history ++ added_by verdict.now caller message }
-    ensures legal { IsLegal host.new.history }
-{
-    match verdict {
-        Verdict::Accepted { number, moment } => host.apply(Entry {
-            submitter: caller,
-            number: *number,
-            moment: *moment,
-            message,
-        }),
-        Verdict::Repeat { .. } | Verdict::Refused(_) => {}
-    }
+    desk.make_room(message)?;
+    Ok(desk.submit(caller, number, moment, message))
 }
 
 // The reading that a query asks for, or its refusal.
-fn tell(alloc: Global, host: &Host, caller: &Ident, query: &Query) -> Result<Reply, OutOfMemory>
-    requires { IsLegal host.now.history }
-    ensures { IfOk result (λ reply. IsTold host.now.history caller.now query.now
-        (query_refusal host.now.history caller.now query.now) (reply_text reply)) }
+fn tell<D: Disk>(
+    alloc: Global,
+    desk: &Desk<D>,
+    caller: &Ident,
+    query: &Query,
+) -> Result<Reply, OutOfMemory>
+    ensures { IfOk result (λ reply. IsTold desk.now.host.history caller.now query.now
+        (query_refusal desk.now.host.history caller.now query.now) (reply_text reply)) }
 {
-    match host.read(alloc, caller, query) {
+    // The history is legal, which the desk tells with the number of its entries.
+    let _ = desk.entries();
+    match desk.read(alloc, caller, query) {
         Ok(reading) => Reply::of_reading(alloc, &reading),
         Err(QueryRefused::Refused(refusal)) => Ok(Reply::refused(refusal)),
         Err(QueryRefused::OutOfMemory) => Err(OutOfMemory),

@@ -1,7 +1,10 @@
 //! How a command ends.
-ghost use Rattle.std.specs.Prelude.{◌≡◌, ◌+◌, ◌≤◌, ◌++◌, length};
-ghost use Rattle.tb_host.specs.Endings.{status_of, message_of, bad_input_message};
+ghost use Rattle.std.specs.Prelude.{◌≡◌, ◌+◌, ◌*◌, ◌<◌, ◌≤◌, ◌++◌, false, length};
+ghost use Rattle.std.specs.Fmt.{digit_glyph};
+ghost use Rattle.tb_host.specs.Endings.{status_of, ending_of, message_of, bad_input_message, hexadecimal};
+ghost use Rattle.tb_host.specs.declared.ending.Ending.TheVariants as ending;
 
+use tb_desk::OpenFault;
 use tb_units::Short;
 
 /// How a command ends.
@@ -14,10 +17,28 @@ pub enum Ending {
     BadInput(u64),
     ReadFault,
     WriteFault,
+    /// The disk failed before the first line was read.
+    DiskFault,
+    /// The disk has more than 17 bytes that don't begin with a journal's header, but with these.
+    NotAJournal([u8; 16]),
+    /// At this place the disk has no whole frame, or none whose entries can follow on those before.
+    Damaged(u64),
     OutOfMemory,
 }
 
 impl Ending {
+    /// The ending where the desk wasn't opened.
+    pub fn of(fault: OpenFault) -> Ending
+        ensures { result ≡ ending_of fault }
+    {
+        match fault {
+            OpenFault::DiskFault => Ending::DiskFault,
+            OpenFault::NotAJournal(found) => Ending::NotAJournal(found),
+            OpenFault::Damaged(place) => Ending::Damaged(place),
+            OpenFault::OutOfMemory => Ending::OutOfMemory,
+        }
+    }
+
     /// The status of the program.
     pub fn status(self) -> u8
         ensures { result ≡ status_of self }
@@ -28,6 +49,9 @@ impl Ending {
             Ending::BadInput(_) => 3,
             Ending::ReadFault => 4,
             Ending::WriteFault => 5,
+            Ending::DiskFault => 6,
+            Ending::NotAJournal(_) => 7,
+            Ending::Damaged(_) => 8,
             Ending::OutOfMemory => 9,
         }
     }
@@ -42,6 +66,9 @@ impl Ending {
             Ending::BadInput(line) => bad_input(line),
             Ending::ReadFault => text(b"read fault\n"),
             Ending::WriteFault => text(b"write fault\n"),
+            Ending::DiskFault => text(b"disk fault\n"),
+            Ending::NotAJournal(found) => not_a_journal(&found),
+            Ending::Damaged(place) => damaged(place),
             Ending::OutOfMemory => text(b"out of memory\n"),
         }
     }
@@ -52,6 +79,39 @@ fn bad_input(line: u64) -> Short
 {
     let mut message = text(b"bad input at line ");
     push_text(&mut message, Short::whole(line as u128).bytes());
+    message.push(b'\n');
+    message
+}
+
+// The bytes found stand in lower-case hexadecimal.
+fn not_a_journal(found: &[u8; 16]) -> Short
+    ensures { result ≡ message_of (ending.NotAJournal found.now) }
+{
+    let mut message = text(b"not a journal ");
+    for byte in found {
+        message.push(hex_digit(*byte / 16));
+        message.push(hex_digit(*byte % 16));
+    }
+    message.push(b'\n');
+    message
+}
+
+fn hex_digit(value: u8) -> u8
+    requires { value < 16 }
+    ensures { result ≡ digit_glyph false value }
+{
+    if value < 10 {
+        b'0' + value
+    } else {
+        b'a' + (value - 10)
+    }
+}
+
+fn damaged(place: u64) -> Short
+    ensures { result ≡ message_of (ending.Damaged place) }
+{
+    let mut message = text(b"damaged at ");
+    push_text(&mut message, Short::whole(place as u128).bytes());
     message.push(b'\n');
     message
 }

@@ -1,16 +1,20 @@
 //! The top call: it does all that the program does.
-ghost use Rattle.std.specs.Prelude.{◌≡◌, ◌≢◌, ◌⊎◌, ◌↔◌, Bool, ℕ, List, map, string_bytes};
+ghost use Rattle.std.specs.Prelude.{◌≡◌, ◌≢◌, ◌⊎◌, ◌↔◌, ◌<◌, ◌≤◌, Bool, ℕ, List, map, string_bytes, Err, IfSome};
 ghost use Rattle.std.specs.Str.Lines.{lines};
 ghost use Rattle.tb_link.specs.Counts.{Rose};
+ghost use Rattle.tb_disk.specs.Past.{contents_of};
+ghost use Rattle.tb_desk.specs.Replay.{IsTrueOf, SpeaksOfFile};
+ghost use Rattle.tb_desk.specs.declared.fault.OpenFault.{OpenFault};
 ghost use Rattle.tb_host.specs.AwardRun.{AwardEnds, Printed, PrintedPrefix};
 ghost use Rattle.tb_host.specs.Told.{WhereTold};
 ghost use Rattle.tb_host.specs.Books.{HasBadLine, HasBook, IsBadLine};
 ghost use Rattle.tb_host.specs.Commands.{AreAward, AreCommand, AreRun};
-ghost use Rattle.tb_host.specs.Endings.{status_of};
+ghost use Rattle.tb_host.specs.DiskRun.{OnDesk};
+ghost use Rattle.tb_host.specs.Endings.{ending_of, status_of, IsUnopened};
 ghost use Rattle.tb_host.specs.Reads.{ReadsBookAlone, ReadsScriptAlone};
-ghost use Rattle.tb_host.specs.RunEnds.{BrokenOff, CutOff, Finished, LeftOff, RunEnds, Stopped};
+ghost use Rattle.tb_host.specs.RunEnds.{BrokenOff, CutOff, Finished, LeftOff, NotBegun, RunEnds, Stopped};
 ghost use Rattle.tb_host.specs.Scripts.{HasScript, LeavesScript};
-ghost use Rattle.tb_host.specs.HostRun.{EndsAs, ReadsAlone, Reports, TellsLine};
+ghost use Rattle.tb_host.specs.HostRun.{EndsAs, HasHistory, ReadsAlone, Reports, TellsLine, ToldUnopened};
 ghost use Rattle.tb_host.specs.declared.ending.Ending.{Ending};
 
 use crate::award_command::award;
@@ -18,143 +22,204 @@ use crate::command::{Command, read_command};
 use crate::ending::Ending;
 use crate::run_command::run;
 use std::alloc::Global;
+use tb_disk::Disk;
 use tb_link::{Sink, Source};
 use tb_words::WordsFault;
 
-/// Does the command that the words are, tells `err` how it ended, and answers the status.
+/// How the program ended: its status, and the disk, handed back.
+#[derive(Drop)]
+pub struct Ended<D: Disk> {
+    pub status: u8,
+    pub disk: D,
+}
+
+/// Does the command that the words are, tells `err` how it ended, and answers the status and the disk.
 ///
 /// 0: done. 2: the words are outside the command set. 3: the first line outside the grammar was reached, and is told.
-/// 4: the input failed. 5: the output failed. 9: out of memory.
-pub fn host_main<I: Source, O: Sink, E: Sink>(
+/// 4: the input failed. 5: the output failed. 6: the disk failed while it was opened. 7: the disk holds no journal; what
+/// it begins with is told. 8: the journal is damaged; the place is told. 9: out of memory.
+///
+/// `run` works on the journal that `disk` holds. No command touches `spare`.
+pub fn host_main<D: Disk, I: Source, O: Sink, E: Sink>(
     alloc: Global,
     words: &[String],
     input: &mut I,
     out: &mut O,
     err: &mut E,
-) -> u8
+    disk: D,
+    spare: &mut D,
+) -> Ended<D>
     // The statuses of every command, each with its cause. "Where told": where the input tells its bytes.
-    ensures usage { (result ≡ 2) ↔ (¬ (AreCommand (map string_bytes words.now))) }
-    ensures read_fault { result ≡ 4 → Rose (I.source input.old).faults (I.source input.new).faults }
-    ensures write_fault { result ≡ 5 → Rose (O.sink out.old).faults (O.sink out.new).faults }
-    ensures others { (result ≢ 0) → (result ≢ 2) → (result ≢ 3) → (result ≢ 4) → (result ≢ 5) → result ≡ 9 }
+    ensures usage { (result.status ≡ 2) ↔ (¬ (AreCommand (map string_bytes words.now))) }
+    ensures read_fault { result.status ≡ 4 → Rose (I.source input.old).faults (I.source input.new).faults }
+    ensures write_fault { result.status ≡ 5 → Rose (O.sink out.old).faults (O.sink out.new).faults }
+    ensures disk_fault { result.status ≡ 6 → Rose (D.disk disk).faults (D.disk result.disk).faults }
+    ensures opens { (6 ≤ result.status) → (result.status ≤ 8)
+        → (operator : List ℕ) × AreRun operator (map string_bytes words.now) }
+    ensures others { (result.status ≢ 0) → (result.status ≢ 2) → (result.status < 3) ⊎ (8 < result.status)
+        → result.status ≡ 9 }
     // At 0 no fault was passed over.
-    ensures no_fault { result ≡ 0 → ((I.source input.new).faults ≡ (I.source input.old).faults)
+    ensures no_fault { result.status ≡ 0 → ((I.source input.new).faults ≡ (I.source input.old).faults)
         × ((O.sink out.new).faults ≡ (O.sink out.old).faults) }
-    // Outside the command set nothing else is touched.
-    ensures untouched { result ≡ 2 → (input.new ≡ input.old) × (out.new ≡ out.old) }
-    // What is told of every status but 3.
-    ensures told { (ending : Ending) → status_of ending ≡ result → result ≢ 3
-        → Reports ending (E.sink err.old) (E.sink err.new) }
+    // Outside the command set nothing else is touched, and where the disk wasn't opened neither is input or output.
+    ensures untouched { result.status ≡ 2 → (input.new ≡ input.old) × (out.new ≡ out.old) × (result.disk ≡ disk) }
+    ensures unread { (6 ≤ result.status) → (result.status ≤ 8) → (input.new ≡ input.old) × (out.new ≡ out.old) }
+    ensures spare { spare.new ≡ spare.old }
+    // What is told of every status but 3, 7 and 8.
+    ensures told { (ending : Ending) → status_of ending ≡ result.status → (result.status ≢ 3) → (result.status ≢ 7)
+        → (result.status ≢ 8) → Reports ending (E.sink err.old) (E.sink err.new) }
 
-    // `award`: the input begins with a book, and nothing behind the line that ends it was read.
-    ensures done { result ≡ 0 → (full : Bool) → AreAward full (map string_bytes words.now)
+    // `award` touches no disk.
+    ensures award_disk { (full : Bool) → AreAward full (map string_bytes words.now) → result.disk ≡ disk }
+    // At 0 the input begins with a book, and nothing behind the line that ends it was read.
+    ensures done { result.status ≡ 0 → (full : Bool) → AreAward full (map string_bytes words.now)
         → WhereTold (I.source input.old).left (Printed full (O.sink out.old) (O.sink out.new)) }
-    ensures reads { result ≡ 0 → (full : Bool) → AreAward full (map string_bytes words.now)
+    ensures reads { result.status ≡ 0 → (full : Bool) → AreAward full (map string_bytes words.now)
         → WhereTold (I.source input.old).left
         (ReadsBookAlone (I.source input.old).reads (I.source input.new).reads) }
-    ensures bad_input { result ≡ 3 → (full : Bool) → AreAward full (map string_bytes words.now)
+    ensures bad_input { result.status ≡ 3 → (full : Bool) → AreAward full (map string_bytes words.now)
         → TellsLine (I.source input.old).left (λ number text. IsBadLine number (lines text))
         (E.sink err.old) (E.sink err.new) }
     // What the output has taken: all of the text at 0, a prefix of it at 5, and else nothing.
-    ensures prefix { result ≡ 5 → (full : Bool) → AreAward full (map string_bytes words.now)
+    ensures prefix { result.status ≡ 5 → (full : Bool) → AreAward full (map string_bytes words.now)
         → WhereTold (I.source input.old).left (PrintedPrefix full (O.sink out.old) (O.sink out.new)) }
-    ensures silent { (result ≢ 0) → (result ≢ 5) → (full : Bool) → AreAward full (map string_bytes words.now)
+    ensures silent { (result.status ≢ 0) → (result.status ≢ 5) → (full : Bool)
+        → AreAward full (map string_bytes words.now)
         → O.sink out.new ≡ O.sink out.old }
     // A book is answered, unless an object failed or memory ran out.
     ensures complete { (full : Bool) → AreAward full (map string_bytes words.now)
         → WhereTold (I.source input.old).left (λ text. HasBook (lines text)
         → (¬ (Rose (I.source input.old).faults (I.source input.new).faults))
         → (¬ (Rose (O.sink out.old).faults (O.sink out.new).faults))
-        → (result ≡ 0) ⊎ (result ≡ 9)) }
+        → (result.status ≡ 0) ⊎ (result.status ≡ 9)) }
     // An input that leaves the grammar is told so, unless it failed or memory ran out.
     ensures refused { (full : Bool) → AreAward full (map string_bytes words.now)
         → WhereTold (I.source input.old).left (λ text. HasBadLine (lines text)
         → (¬ (Rose (I.source input.old).faults (I.source input.new).faults))
-        → (result ≡ 3) ⊎ (result ≡ 9)) }
+        → (result.status ≡ 3) ⊎ (result.status ≡ 9)) }
 
-    // `run`: each line of the script was acted on, the output has taken the replies, and nothing behind the line that
+    // `run` opens the disk before it reads a line. What is said of the text of an input is said of where the script
+    // stood first and last: the file stood for the first, and the disk keeps the last (`OnDesk`).
+    //
+    // At 0 each line of the script was acted on, the output has taken the replies, and nothing behind the line that
     // ends the script was read.
-    ensures run_done { result ≡ 0 → (operator : List ℕ) → AreRun operator (map string_bytes words.now)
-        → WhereTold (I.source input.old).left (Finished operator (O.sink out.old) (O.sink out.new)) }
-    ensures run_reads { result ≡ 0 → (operator : List ℕ) → AreRun operator (map string_bytes words.now)
+    ensures run_done { result.status ≡ 0 → (operator : List ℕ) → AreRun operator (map string_bytes words.now)
+        → OnDesk (D.disk disk) (D.disk result.disk) (λ first last. WhereTold (I.source input.old).left
+        (Finished operator (O.sink out.old) (O.sink out.new) first last)) }
+    ensures run_reads { result.status ≡ 0 → (operator : List ℕ) → AreRun operator (map string_bytes words.now)
         → WhereTold (I.source input.old).left
         (ReadsScriptAlone (I.source input.old).reads (I.source input.new).reads) }
     // The lines before the one that is told were acted on.
-    ensures run_bad_input { result ≡ 3 → (operator : List ℕ) → AreRun operator (map string_bytes words.now)
-        → TellsLine (I.source input.old).left
-        (λ number. Stopped number operator (O.sink out.old) (O.sink out.new)) (E.sink err.old) (E.sink err.new) }
-    // At 4 the lines that were whole in the bytes taken were acted on, at 9 those to which the replies were taken, at 5
-    // these and one more, to which a prefix of the reply was taken.
-    ensures run_cut_off { result ≡ 4 → (operator : List ℕ) → AreRun operator (map string_bytes words.now)
-        → WhereTold (I.source input.old).left
-        (CutOff operator (I.source input.new).left (O.sink out.old) (O.sink out.new)) }
-    ensures run_broken_off { result ≡ 5 → (operator : List ℕ) → AreRun operator (map string_bytes words.now)
-        → WhereTold (I.source input.old).left (BrokenOff operator (O.sink out.old) (O.sink out.new)) }
-    ensures run_left_off { result ≡ 9 → (operator : List ℕ) → AreRun operator (map string_bytes words.now)
-        → WhereTold (I.source input.old).left (LeftOff operator (O.sink out.old) (O.sink out.new)) }
-    // A script is answered, and an input that leaves the grammar is told so, unless an object failed or memory ran out.
+    ensures run_bad_input { result.status ≡ 3 → (operator : List ℕ) → AreRun operator (map string_bytes words.now)
+        → OnDesk (D.disk disk) (D.disk result.disk) (λ first last. TellsLine (I.source input.old).left
+        (λ number. Stopped number operator (O.sink out.old) (O.sink out.new) first last) (E.sink err.old)
+        (E.sink err.new)) }
+    // At 4 the lines that were whole in the bytes taken were acted on, at 5 those to which the replies were taken and
+    // one more, to which a prefix of the reply was taken.
+    ensures run_cut_off { result.status ≡ 4 → (operator : List ℕ) → AreRun operator (map string_bytes words.now)
+        → OnDesk (D.disk disk) (D.disk result.disk) (λ first last. WhereTold (I.source input.old).left
+        (CutOff operator (I.source input.new).left (O.sink out.old) (O.sink out.new) first last)) }
+    ensures run_broken_off { result.status ≡ 5 → (operator : List ℕ) → AreRun operator (map string_bytes words.now)
+        → OnDesk (D.disk disk) (D.disk result.disk) (λ first last. WhereTold (I.source input.old).left
+        (BrokenOff operator (O.sink out.old) (O.sink out.new) first last)) }
+    // At 9 the lines to which the replies were taken were acted on, or the disk wasn't opened.
+    ensures run_left_off { result.status ≡ 9 → (operator : List ℕ) → AreRun operator (map string_bytes words.now)
+        → OnDesk (D.disk disk) (D.disk result.disk) (λ first last. WhereTold (I.source input.old).left
+        (LeftOff operator (O.sink out.old) (O.sink out.new) first last))
+        ⊎ NotBegun Ending.OutOfMemory (I.source input.old) (I.source input.new)
+        (record { out = O.sink out.old; disk = D.disk disk })
+        (record { out = O.sink out.new; disk = D.disk result.disk }) }
+    // At 6, 7 and 8 the disk wasn't opened, and what is told is true of it.
+    ensures run_unopened { (6 ≤ result.status) → (result.status ≤ 8)
+        → ToldUnopened result.status (D.disk disk) (D.disk result.disk) (E.sink err.old) (E.sink err.new) }
+    // A script over a disk that stands for a legal history is answered, an input that leaves the grammar is told so, and
+    // so is a file that is no journal or is damaged, unless an object failed or memory ran out.
     ensures run_complete { (operator : List ℕ) → AreRun operator (map string_bytes words.now)
+        → HasHistory (D.disk disk)
         → WhereTold (I.source input.old).left (λ text. HasScript (lines text)
         → (¬ (Rose (I.source input.old).faults (I.source input.new).faults))
         → (¬ (Rose (O.sink out.old).faults (O.sink out.new).faults))
-        → (result ≡ 0) ⊎ (result ≡ 9)) }
+        → (¬ (Rose (D.disk disk).faults (D.disk result.disk).faults))
+        → (result.status ≡ 0) ⊎ (result.status ≡ 9)) }
     ensures run_refused { (operator : List ℕ) → AreRun operator (map string_bytes words.now)
+        → HasHistory (D.disk disk)
         → WhereTold (I.source input.old).left (λ text. (number : ℕ) → LeavesScript number (lines text)
         → (¬ (Rose (I.source input.old).faults (I.source input.new).faults))
         → (¬ (Rose (O.sink out.old).faults (O.sink out.new).faults))
-        → (result ≡ 3) ⊎ (result ≡ 9)) }
+        → (¬ (Rose (D.disk disk).faults (D.disk result.disk).faults))
+        → (result.status ≡ 3) ⊎ (result.status ≡ 9)) }
+    ensures run_refused_file { (operator : List ℕ) → AreRun operator (map string_bytes words.now)
+        → IfSome (D.disk disk).past (λ past. (why : OpenFault) → IsTrueOf (contents_of past) (Err why)
+        → SpeaksOfFile (Err why)
+        → (¬ (Rose (D.disk disk).faults (D.disk result.disk).faults))
+        → (result.status ≡ status_of (ending_of why)) ⊎ (result.status ≡ 9)) }
 {
-    let ending = run_command(alloc, words, input, out);
+    let _ = spare;
+    let (ending, disk) = run_command(alloc, words, input, out, disk);
     report(ending, err);
-    ending.status()
+    Ended {
+        status: ending.status(),
+        disk,
+    }
 }
 
-fn run_command<I: Source, O: Sink>(
+fn run_command<D: Disk, I: Source, O: Sink>(
     alloc: Global,
     words: &[String],
     input: &mut I,
     out: &mut O,
-) -> Ending
-    ensures usage { (result ≡ Ending.Usage) ↔ (¬ (AreCommand (map string_bytes words.now))) }
+    disk: D,
+) -> (Ending, D)
+    ensures usage { (result.0 ≡ Ending.Usage) ↔ (¬ (AreCommand (map string_bytes words.now))) }
     ensures award { (full : Bool) → AreAward full (map string_bytes words.now)
-        → AwardEnds full result (I.source input.old) (I.source input.new) (O.sink out.old) (O.sink out.new) }
+        → AwardEnds full result.0 (I.source input.old) (I.source input.new) (O.sink out.old) (O.sink out.new) }
+    ensures award_disk { (full : Bool) → AreAward full (map string_bytes words.now) → result.1 ≡ disk }
     ensures run { (operator : List ℕ) → AreRun operator (map string_bytes words.now)
-        → RunEnds operator result (I.source input.old) (I.source input.new) (O.sink out.old) (O.sink out.new) }
-    ensures faults { (result ≡ Ending.ReadFault → Rose (I.source input.old).faults (I.source input.new).faults)
-        × (result ≡ Ending.WriteFault → Rose (O.sink out.old).faults (O.sink out.new).faults) }
-    ensures no_fault { result ≡ Ending.Done → ((I.source input.new).faults ≡ (I.source input.old).faults)
+        → RunEnds operator result.0 (I.source input.old) (I.source input.new)
+        (record { out = O.sink out.old; disk = D.disk disk })
+        (record { out = O.sink out.new; disk = D.disk result.1 }) }
+    ensures opens { IsUnopened result.0 → (operator : List ℕ) × AreRun operator (map string_bytes words.now) }
+    ensures faults { (result.0 ≡ Ending.ReadFault → Rose (I.source input.old).faults (I.source input.new).faults)
+        × (result.0 ≡ Ending.WriteFault → Rose (O.sink out.old).faults (O.sink out.new).faults)
+        × (result.0 ≡ Ending.DiskFault → Rose (D.disk disk).faults (D.disk result.1).faults) }
+    ensures no_fault { result.0 ≡ Ending.Done → ((I.source input.new).faults ≡ (I.source input.old).faults)
         × ((O.sink out.new).faults ≡ (O.sink out.old).faults) }
-    ensures reads { result ≡ Ending.Done → (full : Bool) → AreAward full (map string_bytes words.now)
+    ensures reads { result.0 ≡ Ending.Done → (full : Bool) → AreAward full (map string_bytes words.now)
         → WhereTold (I.source input.old).left
         (ReadsBookAlone (I.source input.old).reads (I.source input.new).reads) }
-    ensures run_reads { result ≡ Ending.Done → (operator : List ℕ) → AreRun operator (map string_bytes words.now)
+    ensures run_reads { result.0 ≡ Ending.Done → (operator : List ℕ) → AreRun operator (map string_bytes words.now)
         → WhereTold (I.source input.old).left
         (ReadsScriptAlone (I.source input.old).reads (I.source input.new).reads) }
-    ensures untouched { result ≡ Ending.Usage → (input.new ≡ input.old) × (out.new ≡ out.old) }
+    ensures untouched { result.0 ≡ Ending.Usage → (input.new ≡ input.old) × (out.new ≡ out.old) × (result.1 ≡ disk) }
+    ensures unread { IsUnopened result.0 → (input.new ≡ input.old) × (out.new ≡ out.old) }
 {
     match read_command(alloc, words) {
-        Ok(command) => do_command(alloc, &command, input, out),
-        Err(WordsFault::Usage) => Ending::Usage,
-        Err(WordsFault::OutOfMemory) => Ending::OutOfMemory,
+        Ok(command) => do_command(alloc, &command, input, out, disk),
+        Err(WordsFault::Usage) => (Ending::Usage, disk),
+        Err(WordsFault::OutOfMemory) => (Ending::OutOfMemory, disk),
     }
 }
 
-fn do_command<I: Source, O: Sink>(
+fn do_command<D: Disk, I: Source, O: Sink>(
     alloc: Global,
     command: &Command,
     input: &mut I,
     out: &mut O,
-) -> Ending
-    ensures ends { EndsAs command.now result (I.source input.old) (I.source input.new) (O.sink out.old)
-        (O.sink out.new) }
-    ensures no_fault { result ≡ Ending.Done → ((I.source input.new).faults ≡ (I.source input.old).faults)
+    disk: D,
+) -> (Ending, D)
+    ensures ends { EndsAs command.now result.0 (I.source input.old) (I.source input.new)
+        (record { out = O.sink out.old; disk = D.disk disk })
+        (record { out = O.sink out.new; disk = D.disk result.1 }) }
+    ensures award_disk { (full : Bool) → command.now ≡ Command.Award full → result.1 ≡ disk }
+    ensures no_fault { result.0 ≡ Ending.Done → ((I.source input.new).faults ≡ (I.source input.old).faults)
         × ((O.sink out.new).faults ≡ (O.sink out.old).faults) }
-    ensures reads { result ≡ Ending.Done → WhereTold (I.source input.old).left
+    ensures reads { result.0 ≡ Ending.Done → WhereTold (I.source input.old).left
         (ReadsAlone command.now (I.source input.old).reads (I.source input.new).reads) }
+    ensures unread { IsUnopened result.0 → (input.new ≡ input.old) × (out.new ≡ out.old) }
 {
     match command {
-        Command::Award { full } => award(alloc, *full, input, out),
-        Command::Run { operator } => run(alloc, operator, input, out),
+        Command::Award { full } => (award(alloc, *full, input, out), disk),
+        Command::Run { operator } => run(alloc, operator, input, out, disk),
     }
 }
 

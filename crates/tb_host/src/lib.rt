@@ -1,12 +1,16 @@
 //! The commands of the host, and the call that chooses among them.
 #![tactic(auto)]
 
+#[cfg(test)]
+mod account_tests;
 mod answer;
 mod auction_text;
 mod award_command;
 mod book;
 mod book_line;
 mod command;
+#[cfg(test)]
+mod disk_tests;
 mod ending;
 mod fields;
 mod host;
@@ -25,5 +29,5 @@ mod text_book;
 mod way;
 mod word;
 
-pub use host::host_main;
-pub use laws::{one_book_or_bad_line, one_run, one_script_or_bad_line, one_text};
+pub use host::{Ended, host_main};
+pub use laws::{one_book_or_bad_line, one_run, one_script_or_bad_line, one_text, sealed_replies};

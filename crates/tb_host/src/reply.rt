@@ -5,6 +5,7 @@ ghost use Rattle.tb_link.specs.Sinks.{Takes, FailsToTake};
 ghost use Rattle.tb_report.specs.Readings.{IsPrintable};
 ghost use Rattle.tb_host.specs.Replies.{reading_text, refused};
 ghost use Rattle.tb_host.specs.Answers.{reply_text};
+ghost use Rattle.tb_host.specs.Turns.{turn_text};
 
 use std::alloc::Global;
 use tb_history::Reading;
@@ -14,14 +15,26 @@ use tb_report::{line_count, text};
 use tb_terms::Refusal;
 use tb_units::{OutOfMemory, Short};
 
-/// What a line of a script is answered: a verdict, or the text of a reading.
+/// What a line of a script is answered: a verdict, that the disk failed, or the text of a reading.
 #[derive(Drop)]
 pub enum Reply {
     Verdict(Verdict),
+    /// The message may or may not have been accepted.
+    DiskFault,
     Reading(Vec<u8>),
 }
 
 impl Reply {
+    /// What a turn of the desk was answered.
+    pub fn of_turn(turned: tb_desk::Reply) -> Reply
+        ensures { reply_text result ≡ turn_text turned }
+    {
+        match turned {
+            tb_desk::Reply::Verdict(verdict) => Reply::Verdict(verdict),
+            tb_desk::Reply::DiskFault => Reply::DiskFault,
+        }
+    }
+
     pub fn refused(refusal: Refusal) -> Reply
         ensures { reply_text result ≡ refused refusal }
     {
@@ -49,6 +62,7 @@ impl Reply {
     {
         match self {
             Reply::Verdict(verdict) => write_line(&verdict_line(verdict), out),
+            Reply::DiskFault => out.write(b"unavailable DiskFault\n"),
             Reply::Reading(text) => out.write(text),
         }
     }

@@ -1,10 +1,11 @@
 //! The command `run`.
-ghost use Rattle.std.specs.Prelude.{◌≡◌, []};
-ghost use Rattle.tb_link.specs.Counts.{NeverFalls};
-ghost use Rattle.tb_history.specs.Legal.{IsLegal};
+ghost use Rattle.std.specs.Prelude.{◌≡◌};
+ghost use Rattle.tb_host.specs.DiskRun.{HasGrown};
+ghost use Rattle.tb_host.specs.Endings.{IsUnopened};
 ghost use Rattle.tb_host.specs.Reads.{ReadsScriptAlone};
-ghost use Rattle.tb_host.specs.RunEnds.{RunEnds};
+ghost use Rattle.tb_host.specs.RunEnds.{RunEnds, ScriptEnds};
 ghost use Rattle.tb_host.specs.ScriptSteps.{LineEnds, NextEnds};
+ghost use Rattle.tb_host.specs.Standings.{standing};
 ghost use Rattle.tb_host.specs.Told.{WhereTold};
 
 use crate::answer::answer;
@@ -13,41 +14,51 @@ use crate::input::{InputFault, LineReader};
 use crate::line_end::{MOST_LINES, NextLine};
 use crate::script_line::{ScriptLine, read_script_line};
 use std::alloc::Global;
-use tb_core::Host;
+use tb_desk::Desk;
+use tb_disk::Disk;
 use tb_link::{Sink, Source};
 use tb_units::Ident;
 
-/// Acts on a script from the empty history: each reply is written as soon as its line was acted on, in one write, before
-/// the next line is read. The operator's key is `op:` and this name.
-pub fn run<I: Source, O: Sink>(
+/// Acts on a script over the history that the disk stands for, and hands the disk back: each reply is written as soon
+/// as its line was acted on, in one write, before the next line is read. The journal is opened before the first line is
+/// read. The operator's key is `op:` and this name.
+pub fn run<D: Disk, I: Source, O: Sink>(
     alloc: Global,
     operator: &Ident,
     input: &mut I,
     out: &mut O,
-) -> Ending
-    ensures ends { RunEnds operator.now result (I.source input.old) (I.source input.new) (O.sink out.old)
-        (O.sink out.new) }
-    ensures no_fault { result ≡ Ending.Done → ((I.source input.new).faults ≡ (I.source input.old).faults)
+    disk: D,
+) -> (Ending, D)
+    ensures ends { RunEnds operator.now result.0 (I.source input.old) (I.source input.new)
+        (record { out = O.sink out.old; disk = D.disk disk })
+        (record { out = O.sink out.new; disk = D.disk result.1 }) }
+    ensures no_fault { result.0 ≡ Ending.Done → ((I.source input.new).faults ≡ (I.source input.old).faults)
         × ((O.sink out.new).faults ≡ (O.sink out.old).faults) }
-    ensures reads { result ≡ Ending.Done → WhereTold (I.source input.old).left
+    ensures reads { result.0 ≡ Ending.Done → WhereTold (I.source input.old).left
         (ReadsScriptAlone (I.source input.old).reads (I.source input.new).reads) }
+    // The desk was opened before anything was read or written.
+    ensures unbegun { IsUnopened result.0 → (input.new ≡ input.old) × (out.new ≡ out.old) }
 {
-    match Host::new(alloc) {
-        Ok(mut host) => act_on_script(alloc, &mut host, operator, input, out),
-        Err(_) => Ending::OutOfMemory,
+    match Desk::open(alloc, disk) {
+        Ok(mut desk) => {
+            let ending = act_on_script(alloc, &mut desk, operator, input, out);
+            (ending, desk.into_disk())
+        }
+        Err((disk, fault)) => (Ending::of(fault), disk),
     }
 }
 
-fn act_on_script<I: Source, O: Sink>(
+fn act_on_script<D: Disk, I: Source, O: Sink>(
     alloc: Global,
-    host: &mut Host,
+    desk: &mut Desk<D>,
     operator: &Ident,
     input: &mut I,
     out: &mut O,
 ) -> Ending
-    requires { host.old.history ≡ [] }
-    ensures ends { RunEnds operator.now result (I.source input.old) (I.source input.new) (O.sink out.old)
-        (O.sink out.new) }
+    ensures ends { ScriptEnds operator.now result (I.source input.old) (I.source input.new) (O.sink out.old)
+        (O.sink out.new) (standing (D.disk desk.old.disk) desk.old) (standing (D.disk desk.new.disk) desk.new) }
+    ensures grown { HasGrown (standing (D.disk desk.old.disk) desk.old) (standing (D.disk desk.new.disk) desk.new) }
+    ensures kept { (desk.new.opened ≡ desk.old.opened) × (desk.new.recovered ≡ desk.old.recovered) }
     ensures no_fault { result ≡ Ending.Done → ((I.source input.new).faults ≡ (I.source input.old).faults)
         × ((O.sink out.new).faults ≡ (O.sink out.old).faults) }
     ensures reads { result ≡ Ending.Done → WhereTold (I.source input.old).left
@@ -57,7 +68,7 @@ fn act_on_script<I: Source, O: Sink>(
     for read in 0..MOST_LINES {
         if let Some(ending) = act_on_next(
             alloc,
-            host,
+            desk,
             operator,
             &mut reader,
             read + 1,
@@ -71,22 +82,32 @@ fn act_on_script<I: Source, O: Sink>(
 }
 
 // Acts on the next line, the line of this number. `None` where the script goes on.
-fn act_on_next<I: Source, O: Sink>(
+fn act_on_next<D: Disk, I: Source, O: Sink>(
     alloc: Global,
-    host: &mut Host,
+    desk: &mut Desk<D>,
     operator: &Ident,
     reader: &mut LineReader,
     number: u64,
     input: &mut I,
     out: &mut O,
 ) -> Option<Ending>
-    requires { IsLegal host.old.history }
-    ensures { NextEnds operator.now number result
-        (record { reader = reader.old; source = I.source input.old; history = host.old.history; out = O.sink out.old })
-        (record { reader = reader.new; source = I.source input.new; history = host.new.history; out = O.sink out.new }) }
+    ensures ends { NextEnds operator.now number result
+        (record {
+          reader = reader.old;
+          source = I.source input.old;
+          stands = standing (D.disk desk.old.disk) desk.old;
+          out = O.sink out.old;
+        })
+        (record {
+          reader = reader.new;
+          source = I.source input.new;
+          stands = standing (D.disk desk.new.disk) desk.new;
+          out = O.sink out.new;
+        }) }
+    ensures kept { (desk.new.opened ≡ desk.old.opened) × (desk.new.recovered ≡ desk.old.recovered) }
 {
     match reader.next_line(alloc, input) {
-        Ok(NextLine::Line) => act_on_line(alloc, host, operator, reader.line(), number, out),
+        Ok(NextLine::Line) => act_on_line(alloc, desk, operator, reader.line(), number, out),
         Ok(NextLine::End) => Some(Ending::BadInput(number)),
         Ok(NextLine::TooLong) => Some(Ending::BadInput(number)),
         Err(InputFault::Read) => Some(Ending::ReadFault),
@@ -94,22 +115,22 @@ fn act_on_next<I: Source, O: Sink>(
     }
 }
 
-fn act_on_line<O: Sink>(
+fn act_on_line<D: Disk, O: Sink>(
     alloc: Global,
-    host: &mut Host,
+    desk: &mut Desk<D>,
     operator: &Ident,
     line: &[u8],
     number: u64,
     out: &mut O,
 ) -> Option<Ending>
-    requires { IsLegal host.old.history }
-    ensures { LineEnds operator.now number line.now result host.old.history host.new.history (O.sink out.old)
-        (O.sink out.new) }
+    ensures ends { LineEnds operator.now number line.now result (standing (D.disk desk.old.disk) desk.old)
+        (standing (D.disk desk.new.disk) desk.new) (O.sink out.old) (O.sink out.new) }
+    ensures kept { (desk.new.opened ≡ desk.old.opened) × (desk.new.recovered ≡ desk.old.recovered) }
 {
     match read_script_line(line) {
         Some(ScriptLine::Ask(ask)) => {
             let json = &line[ask.json_at..];
-            match answer(alloc, host, operator, ask.moment, &ask.key, json) {
+            match answer(alloc, desk, operator, ask.moment, &ask.key, json) {
                 Ok(reply) => match reply.write(out) {
                     Ok(()) => None,
                     Err(_) => Some(Ending::WriteFault),

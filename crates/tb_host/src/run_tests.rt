@@ -3,10 +3,11 @@ use crate::tests::run;
 use std::alloc::Global;
 use std::test::Fail;
 
-const WORDS: [&str; 3] = ["run", "--op", "root"];
+/// The words of a run whose operator is `root`.
+pub const WORDS: [&str; 3] = ["run", "--op", "root"];
 
 /// A bill of 91 days, from its announcement to the awards.
-const ORDINARY: &str =
+pub const ORDINARY: &str =
     r#"1730700000 op:root {"number":1,"kind":"register","submitter":"dealer1","key":"k1"}
 1730700000 op:root {"number":2,"kind":"enrol","bidder":"fund1","submitter":"dealer1"}
 1730700000 op:root {"number":3,"kind":"announce","auction":"bill13","cusip":"912797AA5","offering":76000000000,"minimum":100,"ceiling":10000000,"floor":1000000000,"threshold":26600000000,"date":"2024-11-04","nc_close":"11:00","c_close":"11:30","issue":"2024-11-07","maturity":"2025-02-06"}
@@ -204,9 +205,9 @@ fn an_ordinary_auction_goes_from_its_announcement_to_its_awards(
     Ok(())
 }
 
-// The lines behind the operator's, and the end of the script.
-fn script(alloc: Global, cases: &[(&str, &str)]) -> Result<String, Fail> {
-    let mut text = OPENED.to_string(alloc)?;
+/// The lines behind the first ones, and the end of the script.
+pub fn script(alloc: Global, first: &str, cases: &[(&str, &str)]) -> Result<String, Fail> {
+    let mut text = first.to_string(alloc)?;
     for (line, _) in cases {
         text.push_str(line)?;
         text.push('\n')?;
@@ -215,9 +216,9 @@ fn script(alloc: Global, cases: &[(&str, &str)]) -> Result<String, Fail> {
     Ok(text)
 }
 
-// The replies to them.
-fn replies(alloc: Global, cases: &[(&str, &str)]) -> Result<String, Fail> {
-    let mut text = OPENED_REPLIES.to_string(alloc)?;
+/// The replies to them, behind those to the first ones.
+pub fn replies(alloc: Global, first: &str, cases: &[(&str, &str)]) -> Result<String, Fail> {
+    let mut text = first.to_string(alloc)?;
     for (_, reply) in cases {
         text.push_str(reply)?;
         text.push('\n')?;
@@ -233,8 +234,8 @@ fn each_line_has_its_reply(rt: HostRuntime) -> Result<(), Fail> {
         READINGS.as_slice(),
         ANNOUNCEMENTS.as_slice(),
     ] {
-        let text = script(rt.alloc(), cases)?;
-        let told = replies(rt.alloc(), cases)?;
+        let text = script(rt.alloc(), OPENED, cases)?;
+        let told = replies(rt.alloc(), OPENED_REPLIES, cases)?;
         let run = run(rt.alloc(), &WORDS, text.as_str(), 4096, &[], &[])?;
         assert_eq!(rt; run.out.bytes(), told.as_str().as_bytes());
         assert_eq!(rt; run.status, 0);

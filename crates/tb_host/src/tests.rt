@@ -1,7 +1,9 @@
 //! Whole runs: texts, statuses, and reads and writes that fail.
 use super::*;
 use std::alloc::Global;
+use std::process::Abort;
 use std::test::Fail;
+use tb_disk::MemoryDisk;
 use tb_link::{TextSink, TextSource};
 
 const BOOK: &str = "offering 1000000000 1000000 91\n\
@@ -114,17 +116,31 @@ const WORKED: [(&str, &str); 5] = [
 ];
 
 /// Bytes that a sink has room for.
-const ROOM: usize = 40_000;
+const ROOM: usize = 120_000;
 
-/// How a run ended, and what its sinks have taken.
+/// How a run ended, what its sinks have taken, and its disk.
 #[derive(Drop)]
-pub struct Ended {
+pub struct Outcome {
     pub status: u8,
     pub out: TextSink,
     pub err: TextSink,
+    pub disk: MemoryDisk,
 }
 
-/// Runs the host. The reads and writes of these numbers fail.
+/// A disk with these contents and some room, of which the calls of these numbers fail: a failed write leaves the byte
+/// `torn` where something stood.
+pub fn disk_of(
+    rt: &impl Abort,
+    alloc: Global,
+    contents: &[u8],
+    fails: &[u64],
+    torn: u8,
+) -> Result<MemoryDisk, Fail> {
+    assert!(rt; contents.len() < 10_000);
+    Ok(MemoryDisk::new(alloc, contents, 10_000, 100_000, fails.to_vec(alloc)?, torn)?)
+}
+
+/// Runs the host on an empty disk. The reads and writes of these numbers fail.
 pub fn run(
     alloc: Global,
     words: &[&str],
@@ -132,7 +148,29 @@ pub fn run(
     piece: usize,
     failing_reads: &[u64],
     failing_writes: &[u64],
-) -> Result<Ended, Fail> {
+) -> Result<Outcome, Fail> {
+    let disk = MemoryDisk::new(alloc, b"", 200_000, 1_000_000, Vec::new(alloc), 0)?;
+    run_on(
+        alloc,
+        words,
+        text,
+        piece,
+        failing_reads,
+        failing_writes,
+        disk,
+    )
+}
+
+/// Runs the host on a disk.
+pub fn run_on(
+    alloc: Global,
+    words: &[&str],
+    text: &str,
+    piece: usize,
+    failing_reads: &[u64],
+    failing_writes: &[u64],
+    disk: MemoryDisk,
+) -> Result<Outcome, Fail> {
     let mut owned = Vec::new(alloc);
     for word in words {
         owned.push(word.to_string(alloc)?)?;
@@ -144,8 +182,16 @@ pub fn run(
     );
     let mut out = TextSink::new(alloc, ROOM, failing_writes.to_vec(alloc)?)?;
     let mut err = TextSink::new(alloc, ROOM, Vec::new(alloc))?;
-    let status = host_main(alloc, &owned, &mut input, &mut out, &mut err);
-    Ok(Ended { status, out, err })
+    let mut spare = MemoryDisk::new(alloc, b"spare", 5, 0, Vec::new(alloc), 0)?;
+    let ended = host_main(
+        alloc, &owned, &mut input, &mut out, &mut err, disk, &mut spare,
+    );
+    Ok(Outcome {
+        status: ended.status,
+        out,
+        err,
+        disk: ended.disk,
+    })
 }
 
 #[test]

@@ -1,91 +1,141 @@
-use Rattle.std.proofs.Common.{◌∙◌, sym}
+use Rattle.std.proofs.Common.{ℕ, ◌<◌, ◌≤◌, ◌⊎◌, ◌∙◌, subst, sym, arith}
+use Rattle.tb_host.specs.Endings.{status_of}
 use Rattle.tb_host.proofs.CompleteLemmas.{award_complete, award_refused}
-use Rattle.tb_host.proofs.EndingLemmas.{done-at_0, read-at_4, usage-at_2, write-at_5}
-use Rattle.tb_host.proofs.HostLemmas.{award-at_0, award-at_3, award-at_5, award-silent, run-at_0, run-at_3, run-at_4, run-at_5, run-at_9}
+use Rattle.tb_host.proofs.EndingLemmas.{disk-at_6, done-at_0, other-at, read-at_4, unopened-at, usage-at_2, write-at_5}
+use Rattle.tb_host.proofs.ExactLemmas.{run-refused_file, told_past}
+use Rattle.tb_host.proofs.HostLemmas.{
+  award-at_0,
+  award-at_3,
+  award-at_5,
+  award-silent,
+  run-at_0,
+  run-at_3,
+  run-at_4,
+  run-at_5,
+  run-at_9,
+  run-at_unopened,
+}
 use Rattle.tb_host.proofs.ScriptLawLemmas.{run-complete, run-refused}
 use Rattle.tb_host.proofs.host.host_main.Goals as goal
 
 pub returns-clause-no_fault : goal.returns-clause-no_fault
 returns-clause-no_fault g c = λ is.
-    c.run_command-ending.ensures.no_fault (done-at_0 c.run_command-ending.result (sym c.status.ensures ∙ is))
+    c.run_command-ending.ensures.no_fault (done-at_0 c.run_command-ending.result.0 (sym c.status.ensures ∙ is))
 
 pub returns-clause-read_fault : goal.returns-clause-read_fault
 returns-clause-read_fault g c = λ is.
-    c.run_command-ending.ensures.faults.0 (read-at_4 c.run_command-ending.result (sym c.status.ensures ∙ is))
+    c.run_command-ending.ensures.faults.0 (read-at_4 c.run_command-ending.result.0 (sym c.status.ensures ∙ is))
 
 pub returns-clause-write_fault : goal.returns-clause-write_fault
 returns-clause-write_fault g c = λ is.
-    c.run_command-ending.ensures.faults.1 (write-at_5 c.run_command-ending.result (sym c.status.ensures ∙ is))
+    c.run_command-ending.ensures.faults.1 (write-at_5 c.run_command-ending.result.0 (sym c.status.ensures ∙ is))
+
+pub returns-clause-disk_fault : goal.returns-clause-disk_fault
+returns-clause-disk_fault g c = λ is.
+    c.run_command-ending.ensures.faults.2 (disk-at_6 c.run_command-ending.result.0 (sym c.status.ensures ∙ is))
+
+pub returns-clause-opens : goal.returns-clause-opens
+returns-clause-opens g c = λ least most.
+    c.run_command-ending.ensures.opens
+    (unopened-at c.run_command-ending.result.0 (omega (arith, least, c.status.ensures))
+    (omega (arith, most, c.status.ensures)))
+
+pub returns-clause-others : goal.returns-clause-others
+returns-clause-others g c = λ not_0 not_2 far.
+    c.status.ensures
+    ∙ other-at c.run_command-ending.result.0 (λ is. not_0 (c.status.ensures ∙ is)) (λ is. not_2 (c.status.ensures ∙ is))
+    (subst (λ (n : ℕ). (n < 3) ⊎ (8 < n)) c.status.ensures far)
+
+pub returns-clause-unread : goal.returns-clause-unread
+returns-clause-unread g c = λ least most.
+    c.run_command-ending.ensures.unread
+    (unopened-at c.run_command-ending.result.0 (omega (arith, least, c.status.ensures))
+    (omega (arith, most, c.status.ensures)))
 
 pub returns-clause-done : goal.returns-clause-done
 returns-clause-done g c = λ is full award.
-    award-at_0 full c.run_command-ending.result _ _ _ _ (c.run_command-ending.ensures.award full award)
+    award-at_0 full c.run_command-ending.result.0 _ _ _ _ (c.run_command-ending.ensures.award full award)
     (sym c.status.ensures ∙ is)
 
 pub returns-clause-reads : goal.returns-clause-reads
 returns-clause-reads g c = λ is.
-    c.run_command-ending.ensures.reads (done-at_0 c.run_command-ending.result (sym c.status.ensures ∙ is))
+    c.run_command-ending.ensures.reads (done-at_0 c.run_command-ending.result.0 (sym c.status.ensures ∙ is))
 
 pub returns-clause-bad_input : goal.returns-clause-bad_input
 returns-clause-bad_input g c = λ is full award.
-    award-at_3 full c.run_command-ending.result _ _ _ _ (c.run_command-ending.ensures.award full award) _ _
+    award-at_3 full c.run_command-ending.result.0 _ _ _ _ (c.run_command-ending.ensures.award full award) _ _
     (sym c.status.ensures ∙ is) c.report.ensures
 
 pub returns-clause-prefix : goal.returns-clause-prefix
 returns-clause-prefix g c = λ is full award.
-    award-at_5 full c.run_command-ending.result _ _ _ _ (c.run_command-ending.ensures.award full award)
+    award-at_5 full c.run_command-ending.result.0 _ _ _ _ (c.run_command-ending.ensures.award full award)
     (sym c.status.ensures ∙ is)
 
 pub returns-clause-silent : goal.returns-clause-silent
 returns-clause-silent g c = λ not_0 not_5 full award.
-    award-silent full c.run_command-ending.result _ _ _ _ (c.run_command-ending.ensures.award full award)
+    award-silent full c.run_command-ending.result.0 _ _ _ _ (c.run_command-ending.ensures.award full award)
     (λ is. not_0 (c.status.ensures ∙ is)) (λ is. not_5 (c.status.ensures ∙ is))
 
 pub returns-clause-complete : goal.returns-clause-complete
 returns-clause-complete g c = λ full award text told book no_read no_write.
-    rw c.status.ensures (award_complete full c.run_command-ending.result _ _ _ _ text
+    rw c.status.ensures (award_complete full c.run_command-ending.result.0 _ _ _ _ text
     (c.run_command-ending.ensures.award full award) told book no_read no_write)
 
 pub returns-clause-refused : goal.returns-clause-refused
 returns-clause-refused g c = λ full award text told bad no_read.
-    rw c.status.ensures (award_refused full c.run_command-ending.result _ _ _ _ text
+    rw c.status.ensures (award_refused full c.run_command-ending.result.0 _ _ _ _ text
     (c.run_command-ending.ensures.award full award) told bad no_read)
 
 pub returns-clause-run_done : goal.returns-clause-run_done
 returns-clause-run_done g c = λ is operator run.
-    run-at_0 operator c.run_command-ending.result _ _ _ _ (c.run_command-ending.ensures.run operator run)
+    run-at_0 operator c.run_command-ending.result.0 _ _ _ _ (c.run_command-ending.ensures.run operator run)
     (sym c.status.ensures ∙ is)
 
 pub returns-clause-run_reads : goal.returns-clause-run_reads
 returns-clause-run_reads g c = λ is.
-    c.run_command-ending.ensures.run_reads (done-at_0 c.run_command-ending.result (sym c.status.ensures ∙ is))
+    c.run_command-ending.ensures.run_reads (done-at_0 c.run_command-ending.result.0 (sym c.status.ensures ∙ is))
 
 pub returns-clause-run_bad_input : goal.returns-clause-run_bad_input
 returns-clause-run_bad_input g c = λ is operator run.
-    run-at_3 operator c.run_command-ending.result _ _ _ _ (c.run_command-ending.ensures.run operator run) _ _
+    run-at_3 operator c.run_command-ending.result.0 _ _ _ _ (c.run_command-ending.ensures.run operator run) _ _
     (sym c.status.ensures ∙ is) c.report.ensures
 
 pub returns-clause-run_cut_off : goal.returns-clause-run_cut_off
 returns-clause-run_cut_off g c = λ is operator run.
-    run-at_4 operator c.run_command-ending.result _ _ _ _ (c.run_command-ending.ensures.run operator run)
+    run-at_4 operator c.run_command-ending.result.0 _ _ _ _ (c.run_command-ending.ensures.run operator run)
     (sym c.status.ensures ∙ is)
 
 pub returns-clause-run_broken_off : goal.returns-clause-run_broken_off
 returns-clause-run_broken_off g c = λ is operator run.
-    run-at_5 operator c.run_command-ending.result _ _ _ _ (c.run_command-ending.ensures.run operator run)
+    run-at_5 operator c.run_command-ending.result.0 _ _ _ _ (c.run_command-ending.ensures.run operator run)
     (sym c.status.ensures ∙ is)
 
 pub returns-clause-run_left_off : goal.returns-clause-run_left_off
 returns-clause-run_left_off g c = λ is operator run.
-    run-at_9 operator c.run_command-ending.result _ _ _ _ (c.run_command-ending.ensures.run operator run)
+    run-at_9 operator c.run_command-ending.result.0 _ _ _ _ (c.run_command-ending.ensures.run operator run)
     (sym c.status.ensures ∙ is)
 
+pub returns-clause-run_unopened : goal.returns-clause-run_unopened
+returns-clause-run_unopened g c = λ least most.
+    let low : 6 ≤ status_of c.run_command-ending.result.0 = omega (arith, least, c.status.ensures) in
+    let high : status_of c.run_command-ending.result.0 ≤ 8 = omega (arith, most, c.status.ensures) in
+    let opens = c.run_command-ending.ensures.opens (unopened-at c.run_command-ending.result.0 low high) in
+    rw c.status.ensures (run-at_unopened opens.0 c.run_command-ending.result.0 _ _ _ _
+    (c.run_command-ending.ensures.run opens.0 opens.1)
+    _ _ low high c.report.ensures)
+
 pub returns-clause-run_complete : goal.returns-clause-run_complete
-returns-clause-run_complete g c = λ operator run text told script no_read no_write.
-    rw c.status.ensures (run-complete operator c.run_command-ending.result _ _ _ _ text
-    (c.run_command-ending.ensures.run operator run) told script no_read no_write)
+returns-clause-run_complete g c = λ operator run stands text told script no_read no_write no_fault.
+    rw c.status.ensures (run-complete operator c.run_command-ending.result.0 _ _ _ _ text
+    (c.run_command-ending.ensures.run operator run) stands told script no_read no_write no_fault)
 
 pub returns-clause-run_refused : goal.returns-clause-run_refused
-returns-clause-run_refused g c = λ operator run text told number leaves no_read no_write.
-    rw c.status.ensures (run-refused operator c.run_command-ending.result _ _ _ _ text number
-    (c.run_command-ending.ensures.run operator run) told leaves no_read no_write)
+returns-clause-run_refused g c = λ operator run stands text told number leaves no_read no_write no_fault.
+    rw c.status.ensures (run-refused operator c.run_command-ending.result.0 _ _ _ _ text number
+    (c.run_command-ending.ensures.run operator run) stands told leaves no_read no_write no_fault)
+
+pub returns-clause-run_refused_file : goal.returns-clause-run_refused_file
+returns-clause-run_refused_file g c = λ operator run.
+    told_past _ (g.D.Disk.disk c.args.disk).past (λ past told why is_true speaks no_fault.
+    rw c.status.ensures (run-refused_file operator c.run_command-ending.result.0 _ _ _ _ past why
+    (c.run_command-ending.ensures.run operator run) told is_true speaks no_fault))

@@ -1,7 +1,19 @@
 use Rattle.std.proofs.Common.{◌≡◌, ◌∙◌, ap, refl, inl, inr}
+use Rattle.tb_desk.specs.declared.fault.OpenFault.TheVariants as fault
 use Rattle.tb_host.proofs.CommandLemmas.{AreCommand-words}
-use Rattle.tb_host.proofs.HostCommandLemmas.{award-ends, award-reads, not-usage, read-rose, run-ends, run-reads, write-rose}
-use Rattle.tb_host.proofs.ScriptLemmas.{LeftOff-nothing}
+use Rattle.tb_host.proofs.DiskLemmas.{Unopened-untouched}
+use Rattle.tb_host.proofs.HostCommandLemmas.{
+  award-ends,
+  award-reads,
+  award-words,
+  disk-rose,
+  not-usage,
+  opens-run,
+  read-rose,
+  run-ends,
+  run-reads,
+  write-rose,
+}
 use Rattle.tb_host.proofs.host.run_command.Goals as goal
 
 pub returns-in-Ok : goal.returns-in-Ok
@@ -14,10 +26,13 @@ returns-in-Ok g c =
         λ none. absurd (none (AreCommand-words c.in-Ok.command _ are)),
       );
       award = λ full asked. award-ends c.in-Ok.command _ full _ _ _ _ _ are ends asked;
+      award_disk = λ full asked. c.do_command.ensures.award_disk full (award-words c.in-Ok.command _ full are asked);
       run = λ operator asked. run-ends c.in-Ok.command _ operator _ _ _ _ _ are ends asked;
+      opens = λ unopened. opens-run c.in-Ok.command _ _ _ _ _ _ are ends unopened;
       faults = (
         λ is. read-rose c.in-Ok.command _ _ _ _ _ ends is,
         λ is. write-rose c.in-Ok.command _ _ _ _ _ ends is,
+        λ is. disk-rose c.in-Ok.command _ _ _ _ _ ends is,
       );
       no_fault = c.do_command.ensures.no_fault;
       reads = λ is full asked.
@@ -25,8 +40,15 @@ returns-in-Ok g c =
       run_reads = λ is operator asked.
           run-reads c.in-Ok.command _ operator _ _ _ are (c.do_command.ensures.reads is) asked;
       untouched = λ is. absurd (not-usage c.in-Ok.command _ _ _ _ _ ends is);
+      unread = c.do_command.ensures.unread;
     }
 
 pub returns-in-Err-OutOfMemory-clause-run : goal.returns-in-Err-OutOfMemory-clause-run
-returns-in-Err-OutOfMemory-clause-run g c = λ operator asked text told.
-    LeftOff-nothing operator (g.O.Sink.sink c.args.out.now) text
+returns-in-Err-OutOfMemory-clause-run g c = λ operator asked.
+    inr (record {
+      why = fault.OutOfMemory;
+      ended_is = refl;
+      unopened = Unopened-untouched (g.D.Disk.disk c.args.disk);
+      unread = refl;
+      silent = refl;
+    })

@@ -1,0 +1,177 @@
+-- What `run` does to its disk.
+use Rattle.std.proofs.Common.{
+  ◌≡◌,
+  ℕ,
+  ◌+◌,
+  ◌≤◌,
+  List,
+  [],
+  ◌∷◌,
+  ◌++◌,
+  length,
+  take,
+  Option,
+  Some,
+  None,
+  ◌⊎◌,
+  inl,
+  inr,
+  sym,
+  subst,
+  ap,
+  ◌∙◌,
+  refl,
+  arith,
+  append-nil,
+}
+use Rattle.std.specs.Prelude.{Ok, Err, IfSome}
+use Rattle.std.proofs.Math.Seq.{take-append_seam}
+use Rattle.std.proofs.lemmas.List.{length-append}
+use Rattle.tb_link.specs.Counts.{NeverFalls, Rose}
+use Rattle.tb_disk.specs.Disks.{DiskState}
+use Rattle.tb_disk.specs.Past.{Past, contents_of, MayLeave, Leaves}
+use Rattle.tb_disk.proofs.Moments.{Leaves-both, Leaves-start, Leaves-weaker}
+use Rattle.tb_journal.specs.Journal.{Told}
+use Rattle.tb_journal.specs.Opening.{IsHarmless, StandsAsWell}
+use Rattle.tb_journal.proofs.ToldLemmas.{Told-both, Told-weaker, told_given}
+use Rattle.tb_message.specs.declared.message.Entry.{Entry}
+use Rattle.tb_history.specs.Legal.{IsLegal}
+use Rattle.tb_history.proofs.HistoryLemmas.{IsLegal-front}
+use Rattle.tb_desk.specs.Desks.{IsBeginning}
+use Rattle.tb_desk.specs.Replay.{Answer, IsExact, LeavesRefused}
+use Rattle.tb_desk.specs.Stands.{CrashesLeave, StandsForEither, StandsForHistory, payloads_of}
+use Rattle.tb_desk.specs.declared.fault.OpenFault.{OpenFault}
+use Rattle.tb_desk.specs.declared.fault.OpenFault.TheVariants as fault
+use Rattle.tb_host.specs.DiskRun.{CrashesKeep, HasGrown, StandsStill, Unopened}
+use Rattle.tb_host.specs.Standings.{Standing}
+
+-- a file that stands for the payloads of another stands for its history
+StandsForHistory-well : (history : List Entry) (old new : List ℕ)
+    → StandsForHistory history old
+    → StandsAsWell old new
+    → StandsForHistory history new
+StandsForHistory-well history old new stands well = record {
+  groups = stands.groups;
+  whole = stands.whole;
+  stands = well (payloads_of stands.groups) stands.stands;
+}
+
+-- so what is harmless leaves what the file stands for
+pub StandsStill-harmless : (before now : Past) → IsHarmless before now → StandsStill before now
+StandsStill-harmless before now harmless history stands =
+    StandsForHistory-well history (contents_of before) (contents_of now) stands harmless.contents
+
+-- the first history is legal where the last is
+pub IsLegal-first : (first last : Standing) → HasGrown first last → IsLegal last.history → IsLegal first.history
+IsLegal-first first last grown legal = IsLegal-front grown.0 first.history (subst IsLegal grown.1 legal)
+
+-- the front of a list that begins with another
+front-is : (first last more : List Entry) → last ≡ first ++ more → take (length first) last ≡ first
+front-is first last more is = ap (take (length first)) is ∙ take-append_seam first more
+
+-- a file that stands for the first history stands for a beginning of the last
+IsBeginning-first : (first last : List Entry) (more : List Entry) (file : List ℕ)
+    → last ≡ first ++ more
+    → IsLegal first
+    → StandsForHistory first file
+    → IsBeginning last (length first) file
+IsBeginning-first first last more file is legal stands =
+    let front : take (length first) last ≡ first = front-is first last more is in
+    record {
+      kept = length first;
+      enough = omega arith;
+      within = omega (arith, ap length is, length-append first more);
+      group = [];
+      accepted = subst IsLegal (sym (append-nil (take (length first) last) ∙ front)) legal;
+      stands = inl (subst (λ (h : List Entry). StandsForHistory h file) (sym front) stands);
+    }
+
+-- a crash during the command
+keeps-past : (first last : List Entry) (more : List Entry) (before mid now : Past)
+    → last ≡ first ++ more
+    → IsLegal first
+    → StandsForHistory first (contents_of before)
+    → IsHarmless before mid
+    → Leaves (IsBeginning last (length first)) mid now
+    → Leaves (λ file. MayLeave before file ⊎ IsBeginning last (length first) file) before now
+keeps-past first last more before mid now is legal stands harmless since =
+    let Left : List ℕ → Type 0 = λ file. MayLeave before file ⊎ IsBeginning last (length first) file in
+    let Opening : List ℕ → Type 0 = λ file. MayLeave before file ⊎ StandsAsWell (contents_of before) file in
+    Leaves-both Left before mid now (Leaves-weaker Opening Left before mid kept harmless.images)
+    (Leaves-weaker (IsBeginning last (length first)) Left mid now (λ file begins. inr begins) since)
+  where
+    kept : (file : List ℕ)
+        → MayLeave before file ⊎ StandsAsWell (contents_of before) file
+        → MayLeave before file ⊎ IsBeginning last (length first) file
+    kept file (inl left) = inl left
+    kept file (inr well) =
+        inr (IsBeginning-first first last more file is legal
+        (StandsForHistory-well first (contents_of before) file stands well))
+
+-- what an exact answer says of the file
+pub exact-stands : (past : Option Past) (history : List Entry)
+    → IfSome past (λ past. IsExact (contents_of past) (Ok history))
+    → IfSome past (λ past. StandsForHistory history (contents_of past))
+exact-stands None history exact = tt
+exact-stands (Some past) history exact = exact.is_true.0
+
+-- each crash during the command, where the desk was opened
+pub CrashesKeep-here : (old mid new : DiskState) (first last : Standing) (recovered : ℕ)
+    → IfSome old.past (λ past. IsExact (contents_of past) (Ok first.history))
+    → IsLegal first.history
+    → HasGrown first last
+    → recovered ≡ length first.history
+    → Told old mid IsHarmless
+    → CrashesLeave (IsBeginning last.history recovered) mid new
+    → CrashesKeep old new first last
+CrashesKeep-here old mid new first last recovered exact legal grown is harmless since =
+    let Begins : List ℕ → Type 0 = IsBeginning last.history (length first.history) in
+    let Both : Past → Past → Type 0 =
+    λ before mid. IsHarmless before mid × StandsForHistory first.history (contents_of before) in
+    let opening : Told old mid Both =
+    told_given IsHarmless (λ past. StandsForHistory first.history (contents_of past)) Both old mid
+    (λ before now one two. (one, two)) harmless (exact-stands old.past first.history exact) in
+    let later : CrashesLeave Begins mid new =
+    subst (λ (n : ℕ). CrashesLeave (IsBeginning last.history n) mid new) is since in
+    Told-both Both (λ before now. Leaves Begins before now)
+    (λ before now. Leaves (λ file. MayLeave before file ⊎ Begins file) before now) old mid new
+    (λ before between now one two. keeps-past first.history last.history grown.0 before between now grown.1 legal one.1
+    one.0 two) opening later
+
+-- the desk wasn't opened
+pub Unopened-here : (why : OpenFault) (old new : DiskState)
+    → IfSome old.past (λ past. IsExact (contents_of past) (Err why))
+    → Told old new IsHarmless
+    → Told old new (LeavesRefused why)
+    → (why ≡ fault.DiskFault → Rose old.faults new.faults)
+    → NeverFalls old.faults new.faults
+    → Unopened why old new
+Unopened-here why old new exact harmless refused rose count = record {
+  is_true = exact;
+  still = Told-weaker IsHarmless StandsStill old new StandsStill-harmless harmless;
+  harmless = harmless;
+  refused = refused;
+  rose = rose;
+  count = count;
+}
+
+-- nothing happened to the disk
+pub Unopened-untouched : (disk : DiskState) → Unopened fault.OutOfMemory disk disk
+Unopened-untouched disk =
+    Unopened-here fault.OutOfMemory disk disk (exact disk.past)
+    (record { silent = λ none. none; told = λ before is. (before, is, harmless before) })
+    (record { silent = λ none. none; told = λ before is. (before, is, tt) }) (λ is. absurd (cc))
+    (record { never_falls = omega arith; bounded = λ few. few })
+  where
+    harmless : (past : Past) → IsHarmless past past
+    harmless past = record {
+      contents = λ payloads stands. stands;
+      images = Leaves-start (λ c. MayLeave past c ⊎ StandsAsWell (contents_of past) c) past (λ c left. inl left);
+    }
+
+    exact_file : (file : List ℕ) → IsExact file (Err fault.OutOfMemory)
+    exact_file file = record { is_true = tt; only = λ other is_true speaks speaks'. absurd (speaks'.1 refl) }
+
+    exact : (past : Option Past) → IfSome past (λ past. IsExact (contents_of past) (Err fault.OutOfMemory))
+    exact None = tt
+    exact (Some past) = exact_file (contents_of past)

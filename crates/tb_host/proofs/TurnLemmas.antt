@@ -1,0 +1,171 @@
+-- What one turn of the desk makes of the history.
+use Rattle.std.proofs.Common.{
+  ◌≡◌,
+  ◌≢◌,
+  ℕ,
+  ◌<◌,
+  ◌≤◌,
+  List,
+  [],
+  ◌∷◌,
+  ◌++◌,
+  Option,
+  Some,
+  None,
+  ◌⊎◌,
+  inl,
+  inr,
+  sym,
+  subst,
+  ap,
+  ◌∙◌,
+  refl,
+  arith,
+  append_assoc,
+  append-nil,
+}
+use Rattle.tb_link.specs.Counts.{last_count, NeverFalls, Rose}
+use Rattle.tb_disk.specs.Disks.{DiskState}
+use Rattle.tb_units.specs.declared.moment.Moment.{Moment}
+use Rattle.tb_message.specs.declared.message.Entry.{Entry}
+use Rattle.tb_message.specs.declared.message.Message.{Message}
+use Rattle.tb_message.specs.declared.verdict.Verdict.{Verdict}
+use Rattle.tb_history.specs.Legal.{running}
+use Rattle.tb_history.specs.Verdict.{verdict_on}
+use Rattle.tb_desk.specs.Desks.{replies_of}
+use Rattle.tb_desk.specs.Turn.{Asked, Held, IsAnswered, IsDoubted, IsStuck, IsTurn, Replies, Turns, group, verdicts}
+use Rattle.tb_desk.specs.declared.reply.Reply.{Reply}
+use Rattle.tb_desk.specs.declared.reply.Reply.TheVariants as turned
+use Rattle.tb_host.specs.DiskRun.{HasGrown}
+use Rattle.tb_host.specs.Replies.{asked_by}
+use Rattle.tb_host.specs.Standings.{Standing, held_at}
+use Rattle.tb_host.specs.Turns.{Counts, GoesOneWay, MakesTurn}
+
+-- where a script stands, by its parts
+abbrev pub stands_at : List Entry → List Entry → ℕ → Standing
+stands_at history doubt faults = record { history = history; doubt = doubt; faults = faults }
+
+-- it is told by them
+pub stands-is : (one : Standing) (history doubt : List Entry) (faults : ℕ)
+    → one.history ≡ history
+    → one.doubt ≡ doubt
+    → one.faults ≡ faults
+    → one ≡ stands_at history doubt faults
+stands-is one history doubt faults histories doubts counts =
+    ap (λ (h : List Entry). stands_at h one.doubt one.faults) histories
+    ∙ (ap (λ (d : List Entry). stands_at history d one.faults) doubts
+    ∙ ap (λ (f : ℕ). stands_at history doubt f) counts)
+
+-- the count after an answer, by its clauses
+counts-of : (answer : Reply) (old new : ℕ)
+    → NeverFalls old new
+    → (answer ≡ turned.DiskFault → Rose old new)
+    → (answer ≢ turned.DiskFault → new ≡ old)
+    → Counts answer old new
+counts-of (turned.Verdict said) old new never fault no_fault = no_fault (λ is. absurd (cc))
+counts-of turned.DiskFault old new never fault no_fault = (never.never_falls, fault refl)
+
+-- the history on which a verdict stands has what was in doubt, or not
+resolved-of : (gate : ℕ) (disk : DiskState) (asked : Asked) (old new : Held) (replies : Replies) (at : List Entry)
+    → IsTurn gate disk asked old new replies at
+    → (at ≡ old.history) ⊎ (at ≡ old.history ++ old.doubt)
+resolved-of gate disk asked old new replies at (inl stuck) = inl stuck.1
+resolved-of gate disk asked old new replies at (inr resolved) = resolved.0.0
+
+-- a turn goes in one of its ways
+way-of : (gate : ℕ) (disk : DiskState) (asked : Asked) (old new : Held) (replies : Replies) (at : List Entry)
+    → IsTurn gate disk asked old new replies at
+    → GoesOneWay at asked old new replies
+way-of gate disk asked old new replies at (inl stuck) = inl stuck.0
+way-of gate disk asked old new replies at (inr resolved) = inr resolved.1
+
+-- a turn of the desk, in the words of scripts
+pub MakesTurn-of : (gate : ℕ) (disk : DiskState) (asked : Asked) (old new : Standing) (answer : Reply)
+    → Turns gate disk asked (held_at old) (held_at new) (replies_of answer)
+    → NeverFalls old.faults new.faults
+    → (answer ≡ turned.DiskFault → Rose old.faults new.faults)
+    → (answer ≢ turned.DiskFault → new.faults ≡ old.faults)
+    → MakesTurn asked old new answer
+MakesTurn-of gate disk asked old new answer turns never fault no_fault = record {
+  at = turns.at;
+  resolved = resolved-of gate disk asked (held_at old) (held_at new) (replies_of answer) turns.at turns.turn;
+  legal = turns.legal;
+  way = way-of gate disk asked (held_at old) (held_at new) (replies_of answer) turns.at turns.turn;
+  counts = counts-of answer old.faults new.faults never fault no_fault;
+}
+
+-- the history on which a verdict stands begins with the one before
+at-grown : (old at doubt : List Entry)
+    → (at ≡ old) ⊎ (at ≡ old ++ doubt)
+    → (more : List Entry) × (at ≡ old ++ more)
+at-grown old at doubt (inl same) = ([], same ∙ sym (append-nil old))
+at-grown old at doubt (inr with) = (doubt, with)
+
+-- and so does the one after the turn
+way-grown : (old at : List Entry) (asked : Asked) (before after : Held) (replies : Replies)
+    → before.history ≡ old
+    → (more : List Entry) × (at ≡ old ++ more)
+    → GoesOneWay at asked before after replies
+    → (more : List Entry) × (after.history ≡ old ++ more)
+way-grown old at asked before after replies is begins (inl stuck) =
+    ([], ap (λ (h : Held). h.history) stuck.same ∙ (is ∙ sym (append-nil old)))
+way-grown old at asked before after replies is begins (inr (inl answered)) = (
+  begins.0 ++ group at asked,
+  answered.grown
+      ∙ (ap (λ (h : List Entry). h ++ group at asked) begins.1 ∙ append_assoc old begins.0 (group at asked)),
+)
+way-grown old at asked before after replies is begins (inr (inr doubted)) = (begins.0, doubted.same ∙ begins.1)
+
+-- a turn keeps the history
+pub HasGrown-turn : (asked : Asked) (old new : Standing) (answer : Reply)
+    → MakesTurn asked old new answer
+    → HasGrown old new
+HasGrown-turn asked old new answer turn =
+    way-grown old.history turn.at asked (held_at old) (held_at new) (replies_of answer) refl
+    (at-grown old.history turn.at old.doubt turn.resolved) turn.way
+
+-- the count after it isn't below the one before
+pub counts-grown : (answer : Reply) (old new : ℕ) → Counts answer old new → old ≤ new
+counts-grown (turned.Verdict said) old new counts = omega (arith, counts)
+counts-grown turned.DiskFault old new counts = counts.0
+
+-- where nothing is in doubt, the verdict stands on the history
+at-sure : (old at doubt : List Entry) → doubt ≡ [] → (at ≡ old) ⊎ (at ≡ old ++ doubt) → at ≡ old
+at-sure old at doubt sure (inl same) = same
+at-sure old at doubt sure (inr with) = with ∙ (ap (λ (d : List Entry). old ++ d) sure ∙ append-nil old)
+
+-- a verdict that was given
+pub record Gave (at : List Entry) (asked : Asked) (said : Verdict) (new : Standing) : Type 0 where
+  pub given : Some (said ∷ []) ≡ Some (verdicts at asked)
+  pub grown : new.history ≡ at ++ group at asked
+  pub sure : new.doubt ≡ []
+
+-- a turn that was answered by a verdict gave it
+gave-of : (at : List Entry) (asked : Asked) (old new : Standing) (said : Verdict)
+    → GoesOneWay at asked (held_at old) (held_at new) (Some (said ∷ []))
+    → Gave at asked said new
+gave-of at asked old new said (inl stuck) = let wrong = stuck.failed in absurd (cc)
+gave-of at asked old new said (inr (inl answered)) =
+    record { given = answered.given; grown = answered.grown; sure = answered.sure }
+gave-of at asked old new said (inr (inr doubted)) = let wrong = doubted.failed in absurd (cc)
+
+-- so where nothing was in doubt it is that on the history
+pub Gave-sure : (asked : Asked) (old new : Standing) (said : Verdict)
+    → old.doubt ≡ []
+    → MakesTurn asked old new (turned.Verdict said)
+    → Gave old.history asked said new
+Gave-sure asked old new said sure turn =
+    subst (λ (at : List Entry). Gave at asked said new) (at-sure old.history turn.at old.doubt sure turn.resolved)
+    (gave-of turn.at asked old new said turn.way)
+
+-- the verdict on one message
+pub said-is : (at : List Entry) (caller : List ℕ) (moment : Moment) (number : ℕ) (message : Message) (said : Verdict)
+    (new : Standing)
+    → Gave at (asked_by caller moment number message) said new
+    → said ≡ verdict_on at caller number (running at moment) message
+said-is at caller moment number message said new gave = let given = gave.given in cc
+
+-- a count that stayed, and isn't at its last value, counts no fault
+pub no-fault : (old new : ℕ) → new ≡ old → old ≢ last_count → ¬ (Rose old new)
+no-fault old new same counting (inl higher) = absurd (omega (arith, same, higher))
+no-fault old new same counting (inr last) = counting (sym same ∙ last)

@@ -1,0 +1,253 @@
+//! `run` on a disk: what a journal holds, second runs, disks that fail, and files that are refused. The bytes and
+//! replies are worked out by hand from the formats and the rules.
+use crate::run_tests::{ORDINARY, WORDS};
+use crate::tests::{Outcome, disk_of, run, run_on};
+use std::alloc::Global;
+use std::process::Abort;
+use std::str;
+use std::test::Fail;
+use tb_disk::MemoryDisk;
+
+/// The journal after the first message of the ordinary auction: the header, an open gate, the length of the record, the
+/// record, and a closed gate.
+const ONE_ENTRY: &[u8] = b"TBHOSTJOURNAL001\
+    \x01\0\0\0\x21\x08operator\0\0\0\0\0\0\0\x01\x67\x28\x62\xe0\x01\x07dealer1\x02k1\
+    \0";
+
+const EMPTY: &[u8] = b"TBHOSTJOURNAL001\0";
+
+/// The first message alone.
+const FIRST: &str =
+    r#"1730700000 op:root {"number":1,"kind":"register","submitter":"dealer1","key":"k1"}
+end
+"#;
+
+/// What the second run is told: everything was accepted before, and the results are published.
+const SECOND_REPLIES: &str = "accepted 1 1730700000
+accepted 2 1730700000
+accepted 3 1730700000
+accepted 1 1730737799
+refused 17 Late 1730737800 1730737800
+accepted 1 1730737799
+refused 3 NumberReused
+lines 16
+auction bill13
+cusip 912797AA5
+issue 2024-11-07
+maturity 2025-02-06
+days 91
+offering 76000000000
+noncompetitive 0
+competitive 20000000000
+total 20000000000
+high 4.270
+allotted 100.00
+median 4.270
+low 4.270
+price 98.920639
+investment 4.377
+bids at lower rates were accepted in full
+accepted 4 1730737800
+lines 1
+fund1 20000000000 19784127800.00
+lines 16
+auction bill13
+cusip 912797AA5
+issue 2024-11-07
+maturity 2025-02-06
+days 91
+offering 76000000000
+noncompetitive 0
+competitive 20000000000
+total 20000000000
+high 4.270
+allotted 100.00
+median 4.270
+low 4.270
+price 98.920639
+investment 4.377
+bids at lower rates were accepted in full
+";
+
+/// The messages of the ordinary auction that are accepted, and the replies to them.
+const MESSAGES: &str =
+    r#"1730700000 op:root {"number":1,"kind":"register","submitter":"dealer1","key":"k1"}
+1730700000 op:root {"number":2,"kind":"enrol","bidder":"fund1","submitter":"dealer1"}
+1730700000 op:root {"number":3,"kind":"announce","auction":"bill13","cusip":"912797AA5","offering":76000000000,"minimum":100,"ceiling":10000000,"floor":1000000000,"threshold":26600000000,"date":"2024-11-04","nc_close":"11:00","c_close":"11:30","issue":"2024-11-07","maturity":"2025-02-06"}
+1730737799 k1 {"number":1,"kind":"bid","auction":"bill13","bidder":"fund1","rate":"4.27","amount":20000000000}
+1730737800 op:root {"number":4,"kind":"publish","auction":"bill13"}
+end
+"#;
+
+const MESSAGE_REPLIES: [&str; 5] = [
+    "accepted 1 1730700000",
+    "accepted 2 1730700000",
+    "accepted 3 1730700000",
+    "accepted 1 1730737799",
+    "accepted 4 1730737800",
+];
+
+fn run_script(alloc: Global, text: &str, disk: MemoryDisk) -> Result<Outcome, Fail> {
+    run_on(alloc, &WORDS, text, 4096, &[], &[], disk)
+}
+
+#[test]
+fn a_journal_has_the_bytes_of_its_format(rt: HostRuntime) -> Result<(), Fail> {
+    let alloc = rt.alloc();
+    let first = run(alloc, &WORDS, FIRST, 64, &[], &[])?;
+    assert_eq!(rt; first.out.bytes(), b"accepted 1 1730700000\n".as_slice());
+    assert_eq!(rt; first.disk.contents(), ONE_ENTRY);
+    for contents in [b"".as_slice(), b"seventeen bytes.."] {
+        let disk = disk_of(&rt, alloc, contents, &[], 0)?;
+        let empty = run_script(alloc, "end\n", disk)?;
+        assert_eq!(rt; empty.status, 0);
+        assert_eq!(rt; empty.out.bytes(), b"".as_slice());
+        assert_eq!(rt; empty.disk.contents(), EMPTY);
+    }
+    Ok(())
+}
+
+#[test]
+fn a_second_run_goes_on_with_the_history_of_the_first(rt: HostRuntime) -> Result<(), Fail> {
+    let alloc = rt.alloc();
+    let first = run(alloc, &WORDS, ORDINARY, 4096, &[], &[])?;
+    let disk = disk_of(&rt, alloc, first.disk.contents(), &[], 0)?;
+    let second = run_script(alloc, ORDINARY, disk)?;
+    assert_eq!(rt; second.status, 0);
+    assert_eq!(rt; second.out.bytes(), SECOND_REPLIES.as_bytes());
+    assert_eq!(rt; second.disk.contents(), first.disk.contents());
+    Ok(())
+}
+
+#[test]
+fn a_file_that_is_no_journal_is_refused_and_stays(rt: HostRuntime) -> Result<(), Fail> {
+    let alloc = rt.alloc();
+    for (contents, status, told) in [
+        (
+            b"aaaaaaaaaaaaaaaa\n.".as_slice(),
+            7,
+            "not a journal 61616161616161616161616161616161\n",
+        ),
+        (
+            b"\0\x01\x7f\x80\xff\xfeTBHOSTJOURNAL",
+            7,
+            "not a journal 00017f80fffe5442484f53544a4f5552\n",
+        ),
+        (&ONE_ENTRY[..40], 8, "damaged at 16\n"),
+        (&ONE_ENTRY[..54], 8, "damaged at 54\n"),
+    ] {
+        // The first read would fail: nothing is read.
+        let disk = disk_of(&rt, alloc, contents, &[], 0)?;
+        let refused = run_on(alloc, &WORDS, FIRST, 64, &[0], &[], disk)?;
+        assert_eq!(rt; refused.status, status);
+        assert_eq!(rt; refused.out.bytes(), b"".as_slice());
+        assert_eq!(rt; refused.err.bytes(), told.as_bytes());
+        assert_eq!(rt; refused.disk.contents(), contents);
+    }
+    Ok(())
+}
+
+#[test]
+fn a_message_that_meets_a_fault_is_told_so_and_the_run_goes_on(
+    rt: HostRuntime,
+) -> Result<(), Fail> {
+    let alloc = rt.alloc();
+    // The header and the gate fit, the first entry doesn't.
+    let disk = MemoryDisk::new(alloc, b"", 40, 10_000, Vec::new(alloc), 0)?;
+    let full = run_script(alloc, FIRST, disk)?;
+    assert_eq!(rt; full.status, 0);
+    assert_eq!(rt; full.out.bytes(), b"unavailable DiskFault\n".as_slice());
+    assert_eq!(rt; full.err.bytes(), b"".as_slice());
+    let disk = disk_of(&rt, alloc, full.disk.contents(), &[], 0)?;
+    let again = run_script(alloc, "1730700000 k1 {}\nend\n", disk)?;
+    assert_eq!(rt; again.out.bytes(), b"refused 1 UnknownKey\n".as_slice());
+    Ok(())
+}
+
+// The script where these device calls fail, and once more on what it left: what was accepted stands, with its moment,
+// and everything is accepted in the end.
+fn keeps_what_it_accepted(rt: &impl Abort, alloc: Global, fails: &[u64]) -> Result<(), Fail> {
+    let disk = disk_of(rt, alloc, b"", fails, 7)?;
+    let first = run_script(alloc, MESSAGES, disk)?;
+    if first.status == 6 {
+        assert_eq!(rt; first.out.bytes(), b"".as_slice());
+        assert_eq!(rt; first.err.bytes(), b"disk fault\n".as_slice());
+    } else {
+        assert_eq!(rt; first.status, 0);
+    }
+    let disk = disk_of(rt, alloc, first.disk.contents(), &[], 0)?;
+    let second = run_script(alloc, MESSAGES, disk)?;
+    assert_eq!(rt; second.status, 0);
+    let told = text_of(rt, alloc, first.out.bytes())?;
+    let told_again = text_of(rt, alloc, second.out.bytes())?;
+    let mut again = told_again.lines();
+    for reply in told.lines() {
+        let later = again.next().unwrap_or("");
+        assert!(rt;
+            !reply.starts_with("accepted") || reply == later,
+            "{reply}, {later}"
+        );
+    }
+    Ok(())
+}
+
+fn text_of(rt: &impl Abort, alloc: Global, bytes: &[u8]) -> Result<String, Fail> {
+    match str::from_utf8(bytes) {
+        Ok(text) => Ok(text.to_string(alloc)?),
+        Err(_) => {
+            assert!(rt; false, "no text");
+            Err("no text")?
+        }
+    }
+}
+
+// Four calls open an empty disk, and four keep each of the five entries.
+#[test]
+fn what_was_accepted_stays_where_one_call_fails(rt: HostRuntime) -> Result<(), Fail> {
+    for call in 0..24 {
+        keeps_what_it_accepted(&rt, rt.alloc(), &[call])?;
+    }
+    Ok(())
+}
+
+#[test]
+fn what_was_accepted_stays_where_all_calls_fail_from_one_on(rt: HostRuntime) -> Result<(), Fail> {
+    let alloc = rt.alloc();
+    for call in 0..24 {
+        let mut fails = Vec::new(alloc);
+        for later in call..80 {
+            fails.push(later)?;
+        }
+        keeps_what_it_accepted(&rt, alloc, &fails)?;
+    }
+    Ok(())
+}
+
+// With the fourth call of an entry failing the entry stands, and the next message finds it.
+#[test]
+fn the_next_message_resolves_what_is_in_doubt(rt: HostRuntime) -> Result<(), Fail> {
+    let alloc = rt.alloc();
+    let once = disk_of(&rt, alloc, b"", &[7], 0)?;
+    let doubted = run_script(alloc, MESSAGES, once)?;
+    let mut want = "unavailable DiskFault\n".to_string(alloc)?;
+    for reply in &MESSAGE_REPLIES[1..] {
+        want.push_str(reply)?;
+        want.push('\n')?;
+    }
+    assert_eq!(rt; doubted.status, 0);
+    assert_eq!(rt; doubted.out.bytes(), want.as_str().as_bytes());
+    Ok(())
+}
+
+#[test]
+fn award_leaves_the_disk(rt: HostRuntime) -> Result<(), Fail> {
+    let alloc = rt.alloc();
+    for (words, status) in [(["award"].as_slice(), 3), (["award", "all"].as_slice(), 2)] {
+        let disk = disk_of(&rt, alloc, b"kept", &[0], 0)?;
+        let run = run_on(alloc, words, "end\n", 64, &[], &[], disk)?;
+        assert_eq!(rt; run.status, status);
+        assert_eq!(rt; run.disk.calls(), 0);
+        assert_eq!(rt; run.disk.contents(), b"kept".as_slice());
+    }
+    Ok(())
+}
