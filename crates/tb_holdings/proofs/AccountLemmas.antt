@@ -1,9 +1,9 @@
 -- Accounts in order: where an account stands, and the list after it was written, taken out or put in.
-use Rattle.std.proofs.Common.{◌≡◌, ℕ, ◌<◌, ◌≤◌, Bool, true, false, not, cond, ◌==◌, List, [], ◌∷◌, ◌++◌, get_or, drop, set, filter, insert, remove, All, AllPairs, sym, ◌∙◌, inl, inr, arith}
+use Rattle.std.proofs.Common.{◌≡◌, ℕ, ◌<◌, ◌≤◌, Bool, true, false, not, cond, ◌==◌, List, [], ◌∷◌, ◌++◌, get_or, drop, set, filter, insert, remove, All, AllPairs, ap, ap₂, sym, ◌∙◌, inl, inr, eqb-true, arith}
 use Rattle.std.specs.List.Sorted.{IsPartitionedBy}
-use Rattle.std.proofs.lemmas.Bool.{cases_eq}
+use Rattle.std.proofs.lemmas.Bool.{and_parts, cases_eq}
 use Rattle.std.proofs.lemmas.Bool.Decides.{nat_tests}
-use Rattle.std.proofs.lemmas.List.{set_split, take-append-drop}
+use Rattle.std.proofs.lemmas.List.{set-get_or, set_split, take-append-drop}
 use Rattle.std.proofs.lemmas.List.Elements.{All-nil, All-cons, All-append, All-filter}
 use Rattle.std.proofs.lemmas.List.Kept.{AllPairs-filter}
 use Rattle.tb_units.proofs.ListLemmas.{AllPairs-put, AllPairs-nil, AllPairs-one}
@@ -115,6 +115,27 @@ with_held-write holder security held accounts place in_order stands some =
     (take-place _ _ accounts place ranked at)
     (account_of-some holder security held some)
     (drop-place_present _ _ accounts place ranked at d stands.within own))
+
+-- the holder's account of the security is that with what it holds
+account-own : (holder security : ℕ) (account : Account)
+    → is_account holder security account ≡ true
+    → account ≡ account_with holder security account.held
+account-own holder security account own =
+    let parts = and_parts (account.holder == holder) (account.security == security) own in
+    ap₂ (λ (h s : ℕ). account_with h s account.held) (eqb-true account.holder holder parts.0)
+    (eqb-true account.security security parts.1)
+
+-- written over by itself it leaves the accounts as they are
+pub with_held-own : (holder security : ℕ) (accounts : List Account) (place : ℕ) (d : Account)
+    → AreInOrder accounts
+    → HoldSomething accounts
+    → StandsAt holder security accounts place
+    → accounts ≡ with_held holder security (get_or accounts place d).held accounts
+with_held-own holder security accounts place d in_order used stands =
+    let own : Account = get_or accounts place d in
+    sym (set-get_or accounts place d)
+    ∙ (ap (set accounts place) (account-own holder security own (stands.same d))
+    ∙ with_held-write holder security own.held accounts place in_order stands (used place d stands.within))
 
 -- or taken out where nothing is held any more
 pub with_held-take_out : (holder security held : ℕ) (accounts : List Account) (place : ℕ)

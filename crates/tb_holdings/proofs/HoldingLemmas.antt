@@ -1,13 +1,13 @@
 -- What each holder holds and what all together hold, after each change of the accounts.
-use Rattle.std.proofs.Common.{◌≡◌, ◌≢◌, ℕ, ◌+◌, ◌-◌, ◌≤◌, Bool, true, false, not, cond, ◌&&◌, ◌==◌, if◌then◌else◌, List, ◌++◌, filter, sum_by, refl, ap, ap₂, sym, ◌∙◌, inl, inr, eqb-true, eq-eqb, ne_eqb, arith}
+use Rattle.std.proofs.Common.{◌≡◌, ◌≢◌, ℕ, ◌+◌, ◌-◌, ◌≤◌, Bool, true, false, not, cond, ◌&&◌, ◌==◌, if◌then◌else◌, List, ◌++◌, get_or, filter, sum_by, refl, ap, ap₂, sym, ◌∙◌, inl, inr, eqb-true, eq-eqb, ne_eqb, arith}
 use Rattle.std.proofs.lemmas.Bool.{cases_Bool, cond-true, cond-false, and_parts, and_left, and_from}
 use Rattle.std.proofs.lemmas.Bool.Decides.{nat_tests}
 use Rattle.std.proofs.lemmas.List.Filters.{sum_by-filter_both}
 use Rattle.std.proofs.lemmas.List.Sums.{sum_by-le-sum_by, sum_by-append}
 use Rattle.tb_units.proofs.SumLemmas.{sum_by-put, sum_by-filter, sum_by_agree, sum_by_none}
 use Rattle.tb_holdings.specs.declared.account.Account.{Account}
-use Rattle.tb_holdings.specs.Holdings.{is_account, is_of, comes_before, comes_behind, AreInOrder, IsMissingAt, held_in, total_in, account_of, with_held, credited, moved, without}
-use Rattle.tb_holdings.proofs.AccountLemmas.{StandsOnce-account, with_held-keep}
+use Rattle.tb_holdings.specs.Holdings.{is_account, is_of, comes_before, comes_behind, AreInOrder, HoldSomething, IsMissingAt, StandsAt, held_in, total_in, account_of, with_held, credited, moved, without}
+use Rattle.tb_holdings.proofs.AccountLemmas.{StandsOnce-account, with_held-keep, with_held-own}
 
 -- what the account adds to what this holder holds of the security
 abbrev pub held_share : ℕ → ℕ → Account → ℕ
@@ -292,6 +292,17 @@ held_in-with_held_same holder security held accounts =
     held_in-with_held holder security held holder security accounts
     ∙ cond-true (holder == holder && security == security) held (held_in holder security accounts)
     (and_from _ _ (eq-eqb holder holder refl) (eq-eqb security security refl))
+
+-- who has an account holds what it has
+pub held_in-stands : (holder security : ℕ) (accounts : List Account) (place : ℕ) (d : Account)
+    → AreInOrder accounts
+    → HoldSomething accounts
+    → StandsAt holder security accounts place
+    → held_in holder security accounts ≡ (get_or accounts place d).held
+held_in-stands holder security accounts place d in_order used stands =
+    let held : ℕ = (get_or accounts place d).held in
+    ap (held_in holder security) (with_held-own holder security accounts place d in_order used stands)
+    ∙ held_in-with_held_same holder security held accounts
 
 -- every other has what it had
 pub held_in-with_held_other : (holder security held other other_security : ℕ) (accounts : List Account)

@@ -1,19 +1,20 @@
 -- Marks in order: which mark is found, what is pledged and how many are open after each change.
-use Rattle.std.proofs.Common.{◌≡◌, ◌≢◌, ℕ, ◌+◌, ◌-◌, ◌<◌, ◌≤◌, true, false, not, cond, ◌&&◌, ◌==◌, nat_lt, if◌then◌else◌, List, [], ◌∷◌, ◌++◌, map, length, get_or, set, take, drop, filter, find, insert, All, sum_by, Option, Some, None, Bool, refl, ap, ap₂, sym, ◌∙◌, inl, inr, append-nil, eqb-true, eq-eqb, ne_eqb, arith}
+use Rattle.std.proofs.Common.{◌≡◌, ◌≢◌, ℕ, ◌+◌, ◌-◌, ◌<◌, ◌≤◌, true, false, not, cond, ◌&&◌, ◌==◌, nat_lt, if◌then◌else◌, List, [], ◌∷◌, ◌++◌, map, length, suc, get_or, set, take, drop, filter, find, insert, All, sum_by, Option, Some, None, Bool, refl, ap, ap₂, sym, subst, ◌∙◌, inl, inr, append-nil, drop-cons, eqb-true, eq-eqb, ne_eqb, arith}
 use Rattle.std.specs.Option.{option_map}
-use Rattle.std.specs.List.Sorted.{IsPartitionedBy}
-use Rattle.std.proofs.lemmas.Bool.{cases_Bool, cases_eq, and_parts, and_from, cond-false, cond-true}
+use Rattle.std.specs.List.Sorted.{IsPartitionPoint, IsPartitionedBy}
+use Rattle.std.proofs.lemmas.Bool.{cases_Bool, cases_eq, cases_lt, and_parts, and_from, cond-false, cond-true}
 use Rattle.std.proofs.lemmas.Bool.Decides.{nat_tests}
-use Rattle.std.proofs.lemmas.List.{take_all, drop_all, get_or_default}
+use Rattle.std.proofs.lemmas.Grind.{get_or-set_at}
+use Rattle.std.proofs.lemmas.List.{take_all, drop_all, ext_get_or, get_or-drop, get_or-map, get_or-set_other, get_or-take, get_or_default, length-drop, length-map, length-set, length-take, take-append-drop}
 use Rattle.std.proofs.lemmas.List.Edits.{map_over_more}
-use Rattle.std.proofs.lemmas.List.Elements.{All-nil, All-cons, All-head, All-tail}
+use Rattle.std.proofs.lemmas.List.Elements.{All-nil, All-cons, All-head, All-tail, All-weaker, filter-append}
 use Rattle.std.proofs.lemmas.List.Sums.{sum_by-le-sum_by, sum_by-cons}
 use Rattle.tb_units.specs.Places.{IsPlace}
 use Rattle.tb_units.proofs.ListLemmas.{AllPairs-put, AllPairs-one, AllPairs-head, AllPairs-tail, AllPairs-map}
-use Rattle.tb_units.proofs.PlaceLemmas.{IsRanked, take-place, drop-place_missing, filter_none, find_none, find_passes, find-le-sum_by, find-append_none, find-append_some, find-filter_all, find-filter_none}
+use Rattle.tb_units.proofs.PlaceLemmas.{IsRanked, take-place, drop-place_missing, filter_all, filter_none, find_none, find_passes, find-le-sum_by, find-append_none, find-append_some, find-filter_all, find-filter_none}
 use Rattle.tb_units.proofs.SumLemmas.{StandsOnce, sum_by-put, sum_by-filter, sum_by-map, sum_by_agree, sum_by_none}
 use Rattle.tb_holdings.specs.declared.mark.KeptMark.{KeptMark}
-use Rattle.tb_holdings.specs.Marks.{is_mark, precedes, follows, IsEarlierMark, MarksAreInOrder, mark_in, pledges_par, pledged_in, is_open_of, open_marks_in, open_marks_beside, with_mark, left_at, with_left, after_release, released, after_redemption, cleared}
+use Rattle.tb_holdings.specs.Marks.{MarkIsMissingAt, MarkStandsAt, is_mark, is_own, precedes, follows, IsEarlierMark, MarksAreInOrder, mark_in, pledges_par, pledged_in, is_open_of, open_marks_in, open_marks_beside, with_mark, left_at, with_left, after_release, released, after_redemption, cleared}
 
 -- the order of holder and then number goes on over a third
 precedes_on : (holder number : ℕ) (one later : KeptMark)
@@ -75,6 +76,244 @@ IsRanked-marks holder number marks in_order = record {
       follows_next holder number (get_or marks i d) (get_or marks j d) (in_order i j d earlier short) from;
 }
 
+-- a mark that stands before a place isn't the one of that name
+precedes_other : (holder number : ℕ) (mark : KeptMark)
+    → precedes holder number mark ≡ true
+    → is_mark holder number mark ≡ false
+precedes_other holder number mark before = grind (arith, nat_tests)
+
+-- nor is one that stands behind it
+follows_other : (holder number : ℕ) (mark : KeptMark)
+    → follows holder number mark ≡ true
+    → is_mark holder number mark ≡ false
+follows_other holder number mark behind = grind (arith, nat_tests)
+
+-- a mark in front of the place isn't the one of that name
+front_other : (holder number : ℕ) (marks : List KeptMark) (place : ℕ)
+    → IsPlace (precedes holder number) marks place
+    → All (λ mark. is_mark holder number mark ≡ false) (take place marks)
+front_other holder number marks place first =
+    All-weaker _ (λ mark. is_mark holder number mark ≡ false) (precedes_other holder number) (take place marks)
+    first.passed
+
+-- a mark behind the place isn't the one of that name
+behind_other : (holder number : ℕ) (marks : List KeptMark) (place k : ℕ) (d : KeptMark)
+    → MarksAreInOrder marks
+    → IsPlace (precedes holder number) marks place
+    → place < k
+    → k < length marks
+    → is_mark holder number (get_or marks k d) ≡ false
+behind_other holder number marks place k d in_order first later short =
+    follows_other holder number (get_or marks k d)
+    (follows_next holder number (get_or marks place d) (get_or marks k d) (in_order place k d later short)
+    (first.stops d (omega (arith, later, short))))
+
+-- none but that at the place is the one of that name
+others_apart : (holder number : ℕ) (marks : List KeptMark) (place k : ℕ) (d : KeptMark)
+    → MarksAreInOrder marks
+    → IsPlace (precedes holder number) marks place
+    → k ≢ place
+    → k < length marks
+    → is_mark holder number (get_or marks k d) ≡ false
+others_apart holder number marks place k d in_order first apart short =
+    elim (cases_lt k place) [
+      | inl inside ↦
+          let read = get_or-take place marks k d inside in
+          subst (λ (mark : KeptMark). is_mark holder number mark ≡ false) read
+          (front_other holder number marks place first k d (omega (arith, length-take place marks, inside, short)))
+      | inr past ↦ behind_other holder number marks place k d in_order first (omega (arith, past, apart)) short
+    ]
+
+-- nothing is found where no mark passes
+find_nothing : (test : KeptMark → Bool) (marks : List KeptMark)
+    → All (λ mark. test mark ≡ false) marks
+    → find test marks ≡ None
+find_nothing test [] fails = refl
+find_nothing test (mark ∷ marks) fails =
+    cond-false (test mark) (Some mark) (find test marks) (All-head (λ m. test m ≡ false) mark marks fails)
+    ∙ find_nothing test marks (All-tail (λ m. test m ≡ false) mark marks fails)
+
+-- the mark that stands at its place is found
+pub mark_in-stands : (holder number : ℕ) (marks : List KeptMark) (place : ℕ) (d : KeptMark)
+    → MarkStandsAt holder number marks place
+    → mark_in holder number marks ≡ Some (get_or marks place d)
+mark_in-stands holder number marks place d stands =
+    let test : KeptMark → Bool = is_mark holder number in
+    let own : KeptMark = get_or marks place d in
+    ap (find test) (sym (take-append-drop place marks))
+    ∙ (find-append_none test (take place marks) (drop place marks)
+    (find_nothing test (take place marks) (front_other holder number marks place stands.first))
+    ∙ (ap (find test) (drop-cons marks place d stands.within)
+    ∙ cond-true (test own) (Some own) (find test (drop (suc place) marks)) (stands.same d)))
+
+-- where it is missing no mark is the one of that name
+others_all : (holder number : ℕ) (marks : List KeptMark) (place : ℕ)
+    → MarksAreInOrder marks
+    → MarkIsMissingAt holder number marks place
+    → All (λ mark. is_mark holder number mark ≡ false) marks
+others_all holder number marks place in_order missing k d short =
+    elim (cases_eq k place) [
+      | inl at ↦
+          let here : place < length marks = omega (arith, at, short) in
+          rw at (missing.other d here)
+      | inr apart ↦ others_apart holder number marks place k d in_order missing.first apart short
+    ]
+
+-- so none is found
+pub mark_in-missing : (holder number : ℕ) (marks : List KeptMark) (place : ℕ)
+    → MarksAreInOrder marks
+    → MarkIsMissingAt holder number marks place
+    → mark_in holder number marks ≡ None
+mark_in-missing holder number marks place in_order missing =
+    find_nothing (is_mark holder number) marks (others_all holder number marks place in_order missing)
+
+-- a mark of another name stays through a release
+left-other : (holder number par : ℕ) (mark : KeptMark)
+    → is_mark holder number mark ≡ false
+    → left_at (after_release holder number par) mark ≡ mark
+left-other holder number par mark other =
+    ap (λ (n : ℕ). record mark { left = n })
+    (cond-false (is_mark holder number mark) (mark.left - par) mark.left other)
+
+-- a release writes over the mark at its place
+pub released-stands : (holder number par : ℕ) (marks : List KeptMark) (place left : ℕ) (d : KeptMark)
+    → MarksAreInOrder marks
+    → MarkStandsAt holder number marks place
+    → left ≡ (get_or marks place d).left - par
+    → set marks place (record (get_or marks place d) { left = left }) ≡ released holder number par marks
+unfolding released
+released-stands holder number par marks place left d in_order stands less =
+    let own : KeptMark = get_or marks place d in
+    let written : KeptMark = record own { left = left } in
+    let after : KeptMark → KeptMark = left_at (after_release holder number par) in
+    let here : written ≡ after own =
+    ap (λ (n : ℕ). record own { left = n })
+    (less ∙ sym (cond-true (is_mark holder number own) (own.left - par) own.left (stands.same d))) in
+    ext_get_or d (set marks place written) (map after marks)
+    (length-set marks place written ∙ sym (length-map marks after))
+    (λ k short.
+    let within : k < length marks = omega (arith, short, length-set marks place written) in
+    let read = get_or-map after marks k d d within in
+    elim (cases_eq k place) [
+      | inl at ↦
+          get_or-set_at marks place k written d at stands.within
+          ∙ (here ∙ (ap (λ (i : ℕ). after (get_or marks i d)) (sym at) ∙ sym read))
+      | inr apart ↦
+          get_or-set_other marks place k written d apart
+          ∙ (sym (left-other holder number par (get_or marks k d)
+          (others_apart holder number marks place k d in_order stands.first apart within)) ∙ sym read)
+    ])
+
+-- where there is no such mark it changes nothing
+pub released-missing : (holder number par : ℕ) (marks : List KeptMark) (place : ℕ)
+    → MarksAreInOrder marks
+    → MarkIsMissingAt holder number marks place
+    → marks ≡ released holder number par marks
+unfolding released
+released-missing holder number par marks place in_order missing =
+    same_marks marks (others_all holder number marks place in_order missing)
+  where
+    same_marks : (marks : List KeptMark)
+        → All (λ mark. is_mark holder number mark ≡ false) marks
+        → marks ≡ map (left_at (after_release holder number par)) marks
+    same_marks [] others = refl
+    same_marks (mark ∷ marks) others =
+        ap₂ (λ (m : KeptMark) (ms : List KeptMark). m ∷ ms)
+        (sym (left-other holder number par mark (All-head (λ m. is_mark holder number m ≡ false) mark marks others)))
+        (same_marks marks (All-tail (λ m. is_mark holder number m ≡ false) mark marks others))
+
+-- a mark before the first of a holder is another's
+precedes_own : (holder : ℕ) (mark : KeptMark) → precedes holder 0 mark ≡ true → is_own holder mark ≡ false
+precedes_own holder mark before = grind (arith, nat_tests)
+
+-- a mark between the first of a holder and another one of it is the holder's
+own_between : (holder : ℕ) (one later : KeptMark)
+    → precedes holder 0 one ≡ false
+    → IsEarlierMark one later
+    → is_own holder later ≡ true
+    → is_own holder one ≡ true
+own_between holder one later from earlier own = grind (arith, nat_tests)
+
+-- from its place on no mark stands before the first of a holder
+own_from : (holder : ℕ) (marks : List KeptMark) (first k : ℕ) (d : KeptMark)
+    → MarksAreInOrder marks
+    → IsPlace (precedes holder 0) marks first
+    → first ≤ k
+    → k < length marks
+    → precedes holder 0 (get_or marks k d) ≡ false
+own_from holder marks first k d in_order place from short =
+    elim (cases_eq k first) [
+      | inl at ↦
+          let here : first < length marks = omega (arith, at, short) in
+          rw at (place.stops d here)
+      | inr apart ↦
+          let later : first < k = omega (arith, from, apart) in
+          follows_apart holder 0 (get_or marks k d)
+          (follows_next holder 0 (get_or marks first d) (get_or marks k d) (in_order first k d later short)
+          (place.stops d (omega (arith, later, short))))
+    ]
+
+-- so from there on the holder's marks stand first
+pub IsPartitionedBy-own : (holder : ℕ) (marks : List KeptMark) (first : ℕ)
+    → MarksAreInOrder marks
+    → IsPlace (precedes holder 0) marks first
+    → IsPartitionedBy (is_own holder) (drop first marks)
+IsPartitionedBy-own holder marks first in_order place i j d within short own =
+    let long = length-drop first marks in
+    let read_one : get_or (drop first marks) i d ≡ get_or marks (first + i) d = get_or-drop first marks i d in
+    let read_later : get_or (drop first marks) j d ≡ get_or marks (first + j) d = get_or-drop first marks j d in
+    let inside : first + i < length marks = omega (arith, long, within, short) in
+    let later : is_own holder (get_or marks (first + j) d) ≡ true = rw read_later at own in
+    rw read_one (elim (cases_eq i j) [
+      | inl same ↦ rw same later
+      | inr apart ↦
+          own_between holder (get_or marks (first + i) d) (get_or marks (first + j) d)
+          (own_from holder marks first (first + i) d in_order place (omega arith) inside)
+          (in_order (first + i) (first + j) d (omega (arith, within, apart)) (omega (arith, long, short))) later
+    ])
+
+-- and are all of its marks
+pub own-together : (holder : ℕ) (marks rest : List KeptMark) (first count : ℕ)
+    → IsPlace (precedes holder 0) marks first
+    → rest ≡ drop first marks
+    → IsPartitionPoint (λ mark. is_own holder mark ≡ true) (λ mark. is_own holder mark ≡ false) rest count
+    → take count rest ≡ filter (is_own holder) marks
+own-together holder marks rest first count place whole point =
+    let own : KeptMark → Bool = is_own holder in
+    let before : filter own (take first marks) ≡ [] =
+    filter_none own (take first marks)
+    (All-weaker _ (λ mark. own mark ≡ false) (precedes_own holder) (take first marks) place.passed) in
+    let inside : filter own (take count rest) ≡ take count rest =
+    filter_all own (take count rest) (λ k d short.
+    let within : k < count = omega (arith, length-take count rest, short) in
+    let read = get_or-take count rest k d within in
+    rw read (point.0 k d (omega arith) within)) in
+    let behind : filter own (drop count rest) ≡ [] =
+    filter_none own (drop count rest) (λ k d short.
+    let read = get_or-drop count rest k d in
+    rw read (point.1 (count + k) d (omega arith) (omega (arith, length-drop count rest, short)))) in
+    let split : marks ≡ take first marks ++ rest =
+    sym (take-append-drop first marks) ∙ ap (λ (ms : List KeptMark). take first marks ++ ms) (sym whole) in
+    sym (ap (filter own) split
+    ∙ (filter-append own (take first marks) rest
+    ∙ (ap (λ (ms : List KeptMark). ms ++ filter own rest) before
+    ∙ (ap (filter own) (sym (take-append-drop count rest))
+    ∙ (filter-append own (take count rest) (drop count rest)
+    ∙ (ap₂ (λ (one other : List KeptMark). one ++ other) inside behind
+    ∙ append-nil (take count rest)))))))
+
+-- a sum over the holder's marks is that over all, where other marks count for nothing
+sum_by-own : (holder : ℕ) (f : KeptMark → ℕ) (marks : List KeptMark)
+    → ((mark : KeptMark) → is_own holder mark ≡ false → f mark ≡ 0)
+    → sum_by f (filter (is_own holder) marks) ≡ sum_by f marks
+sum_by-own holder f marks none =
+    sum_by-filter f (is_own holder) marks
+    ∙ sum_by_agree (λ mark. cond (is_own holder mark) (f mark) 0) f marks (λ mark.
+    elim (cases_Bool (is_own holder mark)) [
+      | inl own ↦ cond-true (is_own holder mark) (f mark) 0 own
+      | inr other ↦ cond-false (is_own holder mark) (f mark) 0 other ∙ sym (none mark other)
+    ])
+
 -- a new mark is put in at its place
 pub with_mark-insert : (mark : KeptMark) (marks : List KeptMark) (place : ℕ)
     → MarksAreInOrder marks
@@ -124,6 +363,21 @@ pledged_in-shares holder security marks = sum_by-filter (λ mark. mark.left) (pl
 -- 1 for a mark that is open, so that open marks are a sum
 abbrev pub open_share : ℕ → KeptMark → ℕ
 open_share holder mark = cond (is_open_of holder mark) 1 0
+
+-- what is pledged stands among the holder's marks
+pub pledged_in-own : (holder security : ℕ) (marks : List KeptMark)
+    → pledged_in holder security (filter (is_own holder) marks) ≡ pledged_in holder security marks
+pledged_in-own holder security marks =
+    pledged_in-shares holder security (filter (is_own holder) marks)
+    ∙ (sum_by-own holder (left_share holder security) marks
+    (λ mark other. ap (λ b. cond (b && mark.security == security) mark.left 0) other)
+    ∙ sym (pledged_in-shares holder security marks))
+
+-- and so does what is open
+pub open_marks_in-own : (holder : ℕ) (marks : List KeptMark)
+    → open_marks_in holder (filter (is_own holder) marks) ≡ open_marks_in holder marks
+open_marks_in-own holder marks =
+    sum_by-own holder (open_share holder) marks (λ mark other. ap (λ b. cond (b && nat_lt 0 mark.left) 1 0) other)
 
 -- a sum over the marks gains the new mark's term
 sum_by-with_mark : (f : KeptMark → ℕ) (mark : KeptMark) (marks : List KeptMark)

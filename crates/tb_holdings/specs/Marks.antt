@@ -1,6 +1,7 @@
 -- Marks: the pledges of each holder, in order of holder and then number.
-use Rattle.std.specs.Prelude.{◌≡◌, ℕ, ◌-◌, Bool, true, not, ◌&&◌, ◌||◌, ◌==◌, nat_lt, List, ◌∷◌, ◌++◌, filter, map, find, sum_by, count_by, AllPairs, Option, if◌then◌else◌}
+use Rattle.std.specs.Prelude.{◌≡◌, ℕ, ◌-◌, ◌<◌, Bool, true, false, not, ◌&&◌, ◌||◌, ◌==◌, nat_lt, List, ◌∷◌, ◌++◌, filter, map, find, sum_by, count_by, AllPairs, Option, length, slice_index_or, if◌then◌else◌}
 use Rattle.tb_holdings.specs.declared.mark.KeptMark.{KeptMark}
+use Rattle.tb_units.specs.Places.{IsPlace}
 
 -- the mark is this holder's, under this number
 abbrev pub is_mark : ℕ → ℕ → KeptMark → Bool
@@ -25,6 +26,21 @@ MarksAreInOrder marks = AllPairs IsEarlierMark marks
 -- the mark of this holder and number, where there is one
 abbrev pub mark_in : ℕ → ℕ → List KeptMark → Option KeptMark
 mark_in holder number marks = find (is_mark holder number) marks
+
+-- the mark of this holder and number stands at this place
+pub record MarkStandsAt (holder number : ℕ) (marks : List KeptMark) (place : ℕ) : Type 0 where
+  pub first : IsPlace (precedes holder number) marks place
+  pub within : place < length marks
+  pub same : (d : KeptMark) → is_mark holder number (slice_index_or marks place d) ≡ true
+
+-- there is no such mark, and one would stand at this place
+pub record MarkIsMissingAt (holder number : ℕ) (marks : List KeptMark) (place : ℕ) : Type 0 where
+  pub first : IsPlace (precedes holder number) marks place
+  pub other : (d : KeptMark) → place < length marks → is_mark holder number (slice_index_or marks place d) ≡ false
+
+-- the mark is this holder's
+abbrev pub is_own : ℕ → KeptMark → Bool
+is_own holder mark = mark.holder == holder
 
 -- the mark pledges the holder's par of the security
 abbrev pub pledges_par : ℕ → ℕ → KeptMark → Bool

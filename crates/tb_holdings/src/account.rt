@@ -1,6 +1,6 @@
 //! Accounts: what each holder holds of each security, in order of holder and then security.
 ghost use Rattle.std.specs.Prelude.{◌≡◌, ◌≢◌, ◌+◌, ◌^◌, ◌<◌, ◌≤◌, ◌++◌, length, filter, vec_len, vec_capacity, IfOk, IfErr};
-ghost use Rattle.tb_holdings.specs.Holdings.{is_of, AreInOrder, held_in, total_in, with_held, moved, without, comes_before, StandsAt, IsMissingAt};
+ghost use Rattle.tb_holdings.specs.Holdings.{is_of, AreInOrder, HoldSomething, held_in, total_in, with_held, moved, without, comes_before, StandsAt, IsMissingAt};
 ghost use Rattle.tb_units.specs.Places.{IsPlace};
 
 /// What one holder holds of one security. An account with nothing held isn't kept.
@@ -32,18 +32,6 @@ impl Account {
     {
         self.holder < holder || (self.holder == holder && self.security < security)
     }
-}
-
-/// What the holder holds of the security.
-pub fn held_by(accounts: &[Account], holder: u32, security: u32) -> u128
-    requires { held_in holder security accounts.now < 2 ^ 128 }
-    ensures { result ≡ held_in holder security accounts.now }
-{
-    accounts
-        .iter()
-        .filter(|account| account.is_account(holder, security))
-        .map(|account| account.held)
-        .sum()
 }
 
 /// What all holders together hold of the security.
@@ -80,6 +68,18 @@ fn find_account(accounts: &[Account], holder: u32, security: u32) -> Result<usiz
     }
 }
 
+/// What the holder holds of the security.
+pub fn held_by(accounts: &[Account], holder: u32, security: u32) -> u128
+    requires in_order { AreInOrder accounts.now }
+    requires none_empty { HoldSomething accounts.now }
+    ensures { result ≡ held_in holder security accounts.now }
+{
+    match find_account(accounts, holder, security) {
+        Ok(place) => accounts[place].held,
+        Err(_) => 0,
+    }
+}
+
 /// Lets the holder hold so much of the security.
 pub fn set_held(accounts: &mut Vec<Account>, holder: u32, security: u32, held: u128)
     requires in_order { AreInOrder accounts.old.items }
@@ -108,6 +108,7 @@ pub fn set_held(accounts: &mut Vec<Account>, holder: u32, security: u32, held: u
 /// Moves par from one holder to another.
 pub fn move_held(accounts: &mut Vec<Account>, from: u32, to: u32, security: u32, par: u128)
     requires in_order { AreInOrder accounts.old.items }
+    requires none_empty { HoldSomething accounts.old.items }
     requires room { vec_len accounts.old < vec_capacity accounts.old }
     requires held { par ≤ held_in from security accounts.old.items }
     requires sent { held_in from security accounts.old.items < 2 ^ 128 }
@@ -120,6 +121,18 @@ pub fn move_held(accounts: &mut Vec<Account>, from: u32, to: u32, security: u32,
     let receiver = held_by(accounts, to, security);
     set_held(accounts, from, security, sender - par);
     set_held(accounts, to, security, receiver + par);
+}
+
+/// What the holder was paid of the security. The accounts stand in the order in which they were paid.
+pub fn paid_to(accounts: &[Account], holder: u32, security: u32) -> u128
+    requires { held_in holder security accounts.now < 2 ^ 128 }
+    ensures { result ≡ held_in holder security accounts.now }
+{
+    accounts
+        .iter()
+        .filter(|account| account.is_account(holder, security))
+        .map(|account| account.held)
+        .sum()
 }
 
 /// Puts the accounts of the security behind those that were paid.

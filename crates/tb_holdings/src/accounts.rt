@@ -7,7 +7,7 @@ ghost use Rattle.tb_holdings.specs.Book.{Book, held_of, pledged_of, free_of, pai
 ghost use Rattle.tb_holdings.specs.Refusals.{IsPledgeCause, IsReleaseCause, MayRelease};
 
 use crate::account::{
-    Account, close_accounts, held_by, held_by_all, move_held, pay_accounts, set_held,
+    Account, close_accounts, held_by, held_by_all, move_held, paid_to, pay_accounts, set_held,
 };
 use crate::mark::{
     KeptMark, Mark, add_mark, clear_marks, find_mark, open_marks_by, pledged_by, release_mark,
@@ -295,7 +295,7 @@ impl Accounts {
         ensures laws { IsKept self.now }
     {
         Dollars {
-            value: held_by(&self.paid, holder, security),
+            value: paid_to(&self.paid, holder, security),
         }
     }
 

@@ -1,6 +1,6 @@
 //! Marks: the pledges of each holder, in order of holder and then number.
-ghost use Rattle.std.specs.Prelude.{◌≡◌, ◌+◌, ◌^◌, ◌<◌, ◌≤◌, None, vec_len, vec_capacity};
-ghost use Rattle.tb_holdings.specs.Marks.{MarksAreInOrder, mark_in, pledged_in, open_marks_in, with_mark, released, cleared, precedes};
+ghost use Rattle.std.specs.Prelude.{◌≡◌, ◌+◌, ◌^◌, ◌<◌, ◌≤◌, None, filter, vec_len, vec_capacity, IfErr, IfOk};
+ghost use Rattle.tb_holdings.specs.Marks.{MarkIsMissingAt, MarkStandsAt, MarksAreInOrder, is_own, mark_in, pledged_in, open_marks_in, with_mark, released, cleared, precedes};
 ghost use Rattle.tb_units.specs.Places.{IsPlace};
 
 use tb_units::Dollars;
@@ -27,7 +27,7 @@ pub struct KeptMark {
 }
 
 impl KeptMark {
-    ghost use Rattle.tb_holdings.specs.Marks.{is_mark, precedes, pledges_par, is_open_of};
+    ghost use Rattle.tb_holdings.specs.Marks.{is_mark, is_own, precedes, pledges_par, is_open_of};
 
     fn is_mark(&self, holder: u32, number: u64) -> bool
         ensures { result ≡ is_mark holder number self.now }
@@ -39,6 +39,12 @@ impl KeptMark {
         ensures { result ≡ precedes holder number self.now }
     {
         self.holder < holder || (self.holder == holder && self.number < number)
+    }
+
+    fn is_own(&self, holder: u32) -> bool
+        ensures { result ≡ is_own holder self.now }
+    {
+        self.holder == holder
     }
 
     fn pledges_par(&self, holder: u32, security: u32) -> bool
@@ -54,18 +60,52 @@ impl KeptMark {
     }
 }
 
-/// The mark of this holder and number, where there is one.
-pub fn find_mark(marks: &[KeptMark], holder: u32, number: u64) -> Option<KeptMark>
-    ensures { result ≡ mark_in holder number marks.now }
+// The place of the first mark that doesn't stand before that of this holder and number.
+fn mark_place_of(marks: &[KeptMark], holder: u32, number: u64) -> usize
+    requires { MarksAreInOrder marks.now }
+    ensures { IsPlace (precedes holder number) marks.now result }
 {
-    marks
-        .iter()
-        .find(|mark| mark.is_mark(holder, number))
-        .copied()
+    marks.partition_point(|mark| mark.precedes(holder, number))
 }
 
-/// What is left of the holder's marks of the security.
-pub fn pledged_by(marks: &[KeptMark], holder: u32, security: u32) -> u128
+// Where the mark stands, or where it would stand.
+fn seek_mark(marks: &[KeptMark], holder: u32, number: u64) -> Result<usize, usize>
+    requires { MarksAreInOrder marks.now }
+    ensures stands { IfOk result (MarkStandsAt holder number marks.now) }
+    ensures missing { IfErr result (MarkIsMissingAt holder number marks.now) }
+{
+    let place = mark_place_of(marks, holder, number);
+    if place < marks.len() && marks[place].is_mark(holder, number) {
+        Ok(place)
+    } else {
+        Err(place)
+    }
+}
+
+/// The mark of this holder and number, where there is one.
+pub fn find_mark(marks: &[KeptMark], holder: u32, number: u64) -> Option<KeptMark>
+    requires { MarksAreInOrder marks.now }
+    ensures { result ≡ mark_in holder number marks.now }
+{
+    match seek_mark(marks, holder, number) {
+        Ok(place) => Some(marks[place]),
+        Err(_) => None,
+    }
+}
+
+// The holder's marks, which stand together.
+fn marks_of(marks: &[KeptMark], holder: u32) -> &[KeptMark]
+    requires { MarksAreInOrder marks.now }
+    ensures { result.now ≡ filter (is_own holder) marks.now }
+{
+    let first = mark_place_of(marks, holder, 0);
+    let rest = &marks[first..];
+    let count = rest.partition_point(|mark| mark.is_own(holder));
+    &rest[..count]
+}
+
+// What is left of those marks that are the holder's, and of the security.
+fn pledged_among(marks: &[KeptMark], holder: u32, security: u32) -> u128
     requires { pledged_in holder security marks.now < 2 ^ 128 }
     ensures { result ≡ pledged_in holder security marks.now }
 {
@@ -76,19 +116,28 @@ pub fn pledged_by(marks: &[KeptMark], holder: u32, security: u32) -> u128
         .sum()
 }
 
-/// How many of the holder's marks have something left.
-pub fn open_marks_by(marks: &[KeptMark], holder: u32) -> u64
+/// What is left of the holder's marks of the security.
+pub fn pledged_by(marks: &[KeptMark], holder: u32, security: u32) -> u128
+    requires in_order { MarksAreInOrder marks.now }
+    requires fits { pledged_in holder security marks.now < 2 ^ 128 }
+    ensures { result ≡ pledged_in holder security marks.now }
+{
+    pledged_among(marks_of(marks, holder), holder, security)
+}
+
+// How many of those marks are the holder's, and have something left.
+fn open_among(marks: &[KeptMark], holder: u32) -> u64
     ensures { result ≡ open_marks_in holder marks.now }
 {
     marks.iter().filter(|mark| mark.is_open_of(holder)).count() as u64
 }
 
-// The place of the first mark that doesn't stand before that of this holder and number.
-fn mark_place_of(marks: &[KeptMark], holder: u32, number: u64) -> usize
+/// How many of the holder's marks have something left.
+pub fn open_marks_by(marks: &[KeptMark], holder: u32) -> u64
     requires { MarksAreInOrder marks.now }
-    ensures { IsPlace (precedes holder number) marks.now result }
+    ensures { result ≡ open_marks_in holder marks.now }
 {
-    marks.partition_point(|mark| mark.precedes(holder, number))
+    open_among(marks_of(marks, holder), holder)
 }
 
 /// Adds a mark at its place.
@@ -106,12 +155,11 @@ pub fn add_mark(marks: &mut Vec<KeptMark>, mark: KeptMark)
 
 /// Takes so much from what is left of the mark of this holder and number, or all where less is left.
 pub fn release_mark(marks: &mut [KeptMark], holder: u32, number: u64, par: u128)
+    requires { MarksAreInOrder marks.old }
     ensures { marks.new ≡ released holder number par marks.old }
 {
-    for mark in marks.iter_mut() {
-        if mark.is_mark(holder, number) {
-            mark.left = mark.left.saturating_sub(par);
-        }
+    if let Ok(place) = seek_mark(marks, holder, number) {
+        marks[place].left = marks[place].left.saturating_sub(par);
     }
 }
 

@@ -1,12 +1,18 @@
--- The chain finds the first mark that the test passes.
-use Rattle.std.proofs.Common.{◌∙◌, rules, tests}
-use Rattle.std.proofs.lemmas.Iterator.{YieldsList-from_slice}
-use Rattle.std.proofs.lemmas.Iterator.Search.{find_from_yields_List}
-use Rattle.tb_holdings.specs.Marks.{is_mark}
+-- The mark at its place is the one that is found.
+use Rattle.std.proofs.Common.{sym}
+use Rattle.tb_holdings.specs.declared.mark.KeptMark.{KeptMark}
+use Rattle.tb_holdings.proofs.MarkLemmas.{mark_in-missing, mark_in-stands}
 use Rattle.tb_holdings.proofs.mark.find_mark.Goals as goal
 
-pub returns : goal.returns
-returns c =
-    c.copied.ensures
-    ∙ find_from_yields_List (is_mark c.args.holder c.args.number) _ _ c.find.result c.find.ensures.ran
-    (YieldsList-from_slice c.args.marks.now (cc)) (λ x b q k. search (rules, tests))
+-- no mark
+abbrev none : KeptMark
+none = record { holder = 0; number = 0; pledgee = 0; security = 0; left = 0 }
+
+pub returns-in-Ok : goal.returns-in-Ok
+returns-in-Ok c =
+    sym (mark_in-stands c.args.holder c.args.number c.args.marks.now c.in-Ok.place none c.in-Ok.ensures.stands)
+
+pub returns-in-Err : goal.returns-in-Err
+returns-in-Err c =
+    sym (mark_in-missing c.args.holder c.args.number c.args.marks.now c.in-Err.field-0 c.requires
+    c.in-Err.ensures.missing)

@@ -1,9 +1,12 @@
 -- What is left of a mark is pledged, and the mark found is the holder's of that number.
-use Rattle.std.proofs.Common.{◌≡◌, ap, sym, ◌∙◌, Some, arith}
-use Rattle.tb_holdings.specs.Marks.{mark_in}
+use Rattle.std.proofs.Common.{◌≡◌, ap, sym, subst, ◌∙◌, Some, arith}
+use Rattle.tb_holdings.specs.Marks.{MarksAreInOrder, mark_in}
 use Rattle.tb_holdings.proofs.MarkLemmas.{left-le-pledged_in, mark_in-Some}
 use Rattle.tb_holdings.proofs.KeptLemmas.{pledged_in-limit}
 use Rattle.tb_holdings.proofs.accounts.Accounts.mark.Goals as goal
+
+pub find_mark-requires : goal.find_mark-requires
+find_mark-requires c = subst MarksAreInOrder (sym c.deref.ensures.value) c.self.invariant.0.marks_in_order
 
 pub invariant_of-result : goal.invariant_of-result
 invariant_of-result c =

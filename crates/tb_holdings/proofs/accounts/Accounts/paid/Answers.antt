@@ -4,8 +4,8 @@ use Rattle.tb_holdings.specs.Holdings.{held_in}
 use Rattle.tb_holdings.proofs.KeptLemmas.{paid-limit, paid-none}
 use Rattle.tb_holdings.proofs.accounts.Accounts.paid.Goals as goal
 
-pub held_by-requires : goal.held_by-requires
-held_by-requires c =
+pub paid_to-requires : goal.paid_to-requires
+paid_to-requires c =
     omega (
       arith,
       ap (held_in c.args.holder c.args.security) c.deref.ensures.value,
@@ -16,7 +16,7 @@ pub invariant_of-result : goal.invariant_of-result
 invariant_of-result c = record {
   in_range = omega (
     arith,
-    c.held_by.ensures,
+    c.paid_to.ensures,
     ap (held_in c.args.holder c.args.security) c.deref.ensures.value,
     paid-limit c.self.invariant.0 c.args.holder c.args.security,
   );

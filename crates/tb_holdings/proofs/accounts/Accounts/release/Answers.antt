@@ -1,11 +1,14 @@
 -- A release leaves less of one mark.
-use Rattle.std.proofs.Common.{◌≡◌, ◌++◌, List, ap, ◌∙◌, take, drop, length, arith}
+use Rattle.std.proofs.Common.{◌≡◌, ◌++◌, List, ap, sym, subst, ◌∙◌, take, drop, length, arith}
 use Rattle.std.proofs.lemmas.List.{take_at}
 use Rattle.tb_holdings.specs.declared.mark.KeptMark.{KeptMark}
-use Rattle.tb_holdings.specs.Marks.{mark_in, released}
+use Rattle.tb_holdings.specs.Marks.{MarksAreInOrder, mark_in, released}
 use Rattle.tb_holdings.proofs.MarkLemmas.{mark_in-released}
 use Rattle.tb_holdings.proofs.KeptLemmas.{AreKept-released}
 use Rattle.tb_holdings.proofs.accounts.Accounts.release.Goals as goal
+
+pub release_mark-requires : goal.release_mark-requires
+release_mark-requires c = subst MarksAreInOrder (sym c.deref_mut.ensures.value) c.self.invariant.0.marks_in_order
 
 -- the marks that are written back
 released_items : (c : goal.After-self-1)
