@@ -1,4 +1,5 @@
 pub mod FindLemmas
+pub mod NameLemmas
 pub mod ChangeLemmas
 pub mod ReadyLemmas
 pub mod SumsLemmas

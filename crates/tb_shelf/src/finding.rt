@@ -1,27 +1,27 @@
 //! Books of auctions, found by name, and changed in place.
-ghost use Rattle.std.specs.Prelude.{◌≡◌, ◌<◌, ◌≤◌, length, slice_index_or, Some, None, IfNone, IfSome, OnOk};
+ghost use Rattle.std.specs.Prelude.{◌≡◌, ◌<◌, ◌≤◌, List, length, slice_index_or, Some, None, IfNone, IfSome, OnOk};
 ghost use Rattle.std.specs.List.{position};
-ghost use Rattle.tb_shelf.specs.Shelves.{IsAdded, IsChangedAt, IsKeptBook, IsLowered, TakesLine, book_in, is_of};
+ghost use Rattle.tb_shelf.specs.declared.named.NamedBook.{NamedBook};
+ghost use Rattle.tb_shelf.specs.Shelves.{IsAdded, IsChangedAt, IsKeptBook, IsLowered, TakesLine, book_in, is_of, names_in};
 
-use crate::named::NamedBook;
+use crate::named::{NamedBook, Names};
 use tb_book::{Book, BookLine};
 use tb_units::{Ident, OutOfMemory};
 
-/// Where the book of the auction stands.
-pub fn place_of(books: &[NamedBook], auction: &Ident) -> Option<usize>
-    ensures { result ≡ position (is_of auction.now) books.now }
+/// Where the book of the auction stands among books of these names.
+pub fn place_of(names: &Names, auction: &Ident) -> Option<usize>
+    ensures { (books : List NamedBook) → names.now.list ≡ names_in books → result ≡ position (is_of auction.now) books }
 {
-    books
-        .iter()
-        .position(|named| named.auction.bytes() == auction.bytes())
+    names.find(auction)
 }
 
-/// The auction's book.
-pub fn find<'a>(books: &'a [NamedBook], auction: &Ident) -> Option<&'a Book>
+/// The auction's book, of books of these names.
+pub fn find<'a>(names: &Names, books: &'a [NamedBook], auction: &Ident) -> Option<&'a Book>
+    requires { names.now.list ≡ names_in books.now }
     ensures some { IfSome result (λ book. book_in books.now auction.now ≡ Some book.now) }
     ensures none { IfNone result (book_in books.now auction.now ≡ None) }
 {
-    match place_of(books, auction) {
+    match place_of(names, auction) {
         Some(place) => Some(&books[place].book),
         None => None,
     }

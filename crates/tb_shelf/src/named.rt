@@ -1,10 +1,7 @@
-//! The book of one auction under its name.
-ghost use Rattle.std.specs.Prelude.{◌≡◌, ◌<◌, ◌≤◌, length, slice_index_or, IfSome, OnOk};
-ghost use Rattle.std.specs.List.{position};
-ghost use Rattle.tb_shelf.specs.Shelves.{IsAdded, IsChangedAt, IsKeptBook, IsLowered, TakesLine, is_of};
-
-use tb_book::{Book, BookLine};
-use tb_units::{Ident, OutOfMemory};
+//! The book of one auction under its name, and the names by which books are found.
+use tb_book::Book;
+use tb_index::{KeyOf, Keyed};
+use tb_units::Ident;
 
 /// The book of an auction.
 #[derive(Drop)]
@@ -12,3 +9,19 @@ pub struct NamedBook {
     pub auction: Ident,
     pub book: Book,
 }
+
+/// By a name itself.
+pub struct ByName;
+
+impl KeyOf<Ident> for ByName {
+    type Key = Ident;
+
+    ghost key_of = { λ name. name };
+
+    fn key_of(name: &Ident) -> Ident {
+        *name
+    }
+}
+
+/// The names of auctions, in the order in which their books were opened.
+pub type Names = Keyed<Ident, ByName>;

@@ -3,11 +3,12 @@ ghost use Rattle.std.specs.Prelude.{◌≡◌, ◌+◌, ◌<◌, ◌≤◌, true
 ghost use Rattle.tb_shelf.specs.Shelves.{IsAdded, IsChanged, IsKeptBook, IsLowered, IsOpened, TakesLine, book_in, has_places};
 
 use crate::finding::{add_at, find, place_of, reserve_at, take_at};
-use crate::named::NamedBook;
+use crate::named::{NamedBook, Names};
 use crate::preparing::{fill, raise_all};
 use std::alloc::Global;
 use std::marker::Model;
 use tb_book::{Book, BookLine};
+use tb_index::Keyed;
 use tb_units::{Ident, OutOfMemory};
 
 /// The books of auctions. Contracts see them under their names, how many empty books stand ready, and for how many lines
@@ -15,22 +16,26 @@ use tb_units::{Ident, OutOfMemory};
 #[derive(Drop)]
 pub struct Shelf {
     alloc: Global,
+    // The names of the books, by which these are found.
+    names: Names,
     books: Vec<NamedBook>,
     ready: Vec<Book>,
     places: u64,
 }
 
 impl Model for Shelf {
-    ghost use Rattle.std.specs.Prelude.{◌+◌, ◌≤◌, vec_len, vec_capacity};
-    ghost use Rattle.tb_shelf.specs.Shelves.{AreReady, Shelved};
+    ghost use Rattle.std.specs.Prelude.{◌≡◌, ◌+◌, ◌≤◌, vec_len, vec_capacity};
+    ghost use Rattle.tb_shelf.specs.Shelves.{AreReady, Shelved, names_in};
 
     ghost Value = { Shelved };
 
     ghost view = { λ shelf. record { books = shelf.books.items; ready = vec_len shelf.ready; places = shelf.places } };
 
-    // There is room for each ready book among the others.
-    ghost invariant = { λ shelf.
-        AreReady shelf.places shelf.ready.items × (vec_len shelf.books + vec_len shelf.ready ≤ vec_capacity shelf.books) };
+    // There is room for each ready book among the others, and for its name.
+    ghost invariant = { λ shelf. AreReady shelf.places shelf.ready.items
+        × (vec_len shelf.books + vec_len shelf.ready ≤ vec_capacity shelf.books)
+        × (shelf.names.list ≡ names_in shelf.books.items)
+        × (vec_len shelf.ready ≤ shelf.names.spare) };
 }
 
 impl Shelf {
@@ -41,6 +46,7 @@ impl Shelf {
     {
         Shelf {
             alloc,
+            names: Keyed::new(alloc),
             books: Vec::new(alloc),
             ready: Vec::new(alloc),
             places: 0,
@@ -57,6 +63,7 @@ impl Shelf {
     {
         let missing = ready.saturating_sub(self.ready.len());
         self.books.reserve(self.ready.len() + missing)?;
+        self.names.reserve(self.ready.len() + missing)?;
         if places > self.places {
             raise_all(&mut self.ready, places)?;
             self.places = places;
@@ -71,7 +78,7 @@ impl Shelf {
         ensures books { IsChanged auction.now IsKeptBook self.old.books self.new.books }
         ensures ready { (self.new.ready ≡ self.old.ready) × (self.new.places ≡ self.old.places) }
     {
-        match place_of(&self.books, auction) {
+        match place_of(&self.names, auction) {
             Some(place) => reserve_at(&mut self.books, place, more),
             None => Ok(()),
         }
@@ -100,6 +107,7 @@ impl Shelf {
         ensures { IsOpened auction self.old self.new }
     {
         if let Some(book) = self.ready.pop() {
+            self.names.push(auction);
             self.books.push_reserved(NamedBook { auction, book });
         }
     }
@@ -110,7 +118,7 @@ impl Shelf {
         ensures books { IsChanged auction.now (IsAdded line) self.old.books self.new.books }
         ensures ready { (self.new.ready ≡ self.old.ready) × (self.new.places ≡ self.old.places) }
     {
-        if let Some(place) = place_of(&self.books, auction) {
+        if let Some(place) = place_of(&self.names, auction) {
             add_at(&mut self.books, place, line);
         }
     }
@@ -120,7 +128,7 @@ impl Shelf {
         ensures books { IsChanged auction.now (IsLowered bidder number) self.old.books self.new.books }
         ensures ready { (self.new.ready ≡ self.old.ready) × (self.new.places ≡ self.old.places) }
     {
-        if let Some(place) = place_of(&self.books, auction) {
+        if let Some(place) = place_of(&self.names, auction) {
             take_at(&mut self.books, place, bidder, number);
         }
     }
@@ -130,6 +138,6 @@ impl Shelf {
         ensures some { IfSome result (λ book. book_in self.now.books auction.now ≡ Some book.now) }
         ensures none { IfNone result (book_in self.now.books auction.now ≡ None) }
     {
-        find(&self.books, auction)
+        find(&self.names, &self.books, auction)
     }
 }

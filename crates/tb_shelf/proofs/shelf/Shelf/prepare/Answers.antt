@@ -1,6 +1,12 @@
 -- No book that stands ready loses places.
-use Rattle.std.proofs.Common.{arith}
+use Rattle.std.proofs.Common.{sym, ap, ◌∙◌, arith}
+use Rattle.tb_shelf.specs.Shelves.{names_in}
 use Rattle.tb_shelf.proofs.shelf.Shelf.prepare.Goals as goal
 
 pub invariant_of-self-in_err-raise_all : goal.invariant_of-self-in_err-raise_all
-invariant_of-self-in_err-raise_all c = (c.raise_all.ensures.kept c.self.inside.places c.self.invariant.0, omega arith)
+invariant_of-self-in_err-raise_all c = (
+  c.raise_all.ensures.kept c.self.inside.places c.self.invariant.0,
+  omega arith,
+  c.reserve-2.ensures.list ∙ (c.self.invariant.2 ∙ ap names_in (sym c.reserve.ensures.items)),
+  omega arith,
+)
