@@ -1,0 +1,135 @@
+-- What the closed lock says of all calls.
+use Rattle.std.proofs.Common.{◌≡◌, ℕ, zero, suc, ◌+◌, ◌-◌, ◌≤◌, ◌<◌, ◌⊎◌, List, [], ◌∷◌, ◌++◌, length, map, get_or, refl, sym, ap, ◌∙◌, subst, inl, inr, arith, length-append}
+use Rattle.std.specs.Prelude.{Bool, All, Any}
+use Rattle.std.proofs.lemmas.List.{length-map}
+use Rattle.tb_link.specs.Sources.{SourceState}
+use Rattle.tb_link.specs.Sinks.{SinkState}
+use Rattle.tb_disk.specs.Disks.{DiskState}
+use Rattle.tb_gates.specs.Clocks.{ClockState}
+use Rattle.tb_gates.specs.Gates.{GateState}
+use Rattle.tb_message.specs.declared.message.Entry.{Entry}
+use Rattle.tb_message.specs.Spelling.{spelling}
+use Rattle.tb_lock.specs.declared.view.Call.{Call}
+use Rattle.tb_lock.specs.declared.view.View.{View}
+use Rattle.tb_lock.specs.Meanings.{History, IsPrefix}
+use Rattle.tb_lock.specs.Calls.{Stands, IsBetween, MayAdd, Makes}
+use Rattle.tb_lock.specs.Turns.{Closes, HasOnlyOwn}
+use Rattle.tb_lock.specs.Views.{newcomer}
+use Rattle.tb_lock.proofs.PrefixLemmas.{any-later, any-weaker}
+use Rattle.tb_session.specs.declared.called.Outcome.{Outcome}
+use Rattle.tb_session.specs.declared.called.Outcome.TheVariants as outcome
+use Rattle.tb_session.specs.declared.room.Room.{Room}
+use Rattle.tb_session.specs.Codes.{Made, call_of, kind_at, outcome_code, entry_of, spelled_all}
+use Rattle.tb_session.specs.CodeLaws.{entry-code, get_or-map}
+use Rattle.tb_session.specs.Rooms.{room_means}
+use Rattle.tb_session.specs.Serve.{calls_of_gates, MayHaveMade, ServesAll, Turns}
+
+-- what holds of all elements of a mapped list
+all-unmapped : {A B : Type 0} (P : B → Type 0) (f : A → B) (xs : List A) → All P (map f xs) → All (λ x. P (f x)) xs
+all-unmapped P f xs all = λ k d within.
+    subst P (get_or-map f xs k d within) (all k (f d) (omega (arith, length-map xs f)))
+
+any-at : {A B : Type 0} (P : B → Type 0) (f : A → B) (xs : List A) (k : ℕ) (y : B) → k < length (map f xs)
+    → get_or (map f xs) k y ≡ y → P y → Any (λ x. P (f x)) xs
+any-at P f [] k y within is holds = absurd (let bad : ⊥ = omega arith in bad)
+any-at P f (x ∷ xs) zero y within is holds = (0, x, omega arith, refl, subst P (sym is) holds)
+any-at P f (x ∷ xs) (suc k) y within is holds =
+    any-later (λ a. P (f a)) x xs (any-at P f xs k y (omega arith) is holds)
+
+-- and of some
+any-unmapped : {A B : Type 0} (P : B → Type 0) (f : A → B) (xs : List A) → Any P (map f xs) → Any (λ x. P (f x)) xs
+any-unmapped P f xs some = any-at P f xs some.0 some.1 some.2 some.3 some.4
+
+-- a call that may add an entry was accepted, or met a fault
+made-by : (o : Outcome) (entry : List ℕ) → MayAdd (kind_at (outcome_code o)) → entry_of o ≡ entry
+    → (e : Entry) × ((o ≡ outcome.Added e) ⊎ (o ≡ outcome.Doubted e)) × (spelling e ≡ entry)
+made-by (outcome.Added e) entry may is = (e, inl refl, is)
+made-by (outcome.Stood e) entry may is = absurd may
+made-by (outcome.Doubted e) entry may is = (e, inr refl, is)
+made-by outcome.Told entry may is = absurd may
+made-by outcome.Lacked entry may is = absurd may
+
+module _ {D C G K : Type 0} (disk : D → DiskState) (clock : C → ClockState) (gate : G → GateState K)
+    (source : K → SourceState) (sink : K → SinkState) (room after : Room D C) (v v' : View) (olds news : List G)
+    (served : ℕ) (failed : Bool) (first : v ≡ newcomer (room_means disk clock) room)
+    (done : Turns gate source sink v v' olds news served failed) (closes : Closes (room_means disk clock) v' after) where
+  abbrev turns : Turns gate source sink (newcomer (room_means disk clock) room) v' olds news served failed
+  turns = subst (λ (x : View). Turns gate source sink x v' olds news served failed) first done
+
+  abbrev calls : List Made
+  calls = calls_of_gates turns.runs
+
+  makes_it : (entry : List ℕ) (m : Made) → Makes (room_means disk clock) v'.fixed entry (call_of m)
+      → MayHaveMade entry m
+  makes_it entry m makes = made-by m.called.outcome entry makes.0 (sym (entry-code m.called) ∙ makes.1)
+
+  any_made : (entry : List ℕ) → Any (Makes (room_means disk clock) v'.fixed entry) v'.mine
+      → Any (MayHaveMade entry) calls
+  any_made entry some =
+      any-weaker (λ m. Makes (room_means disk clock) v'.fixed entry (call_of m)) (MayHaveMade entry) (makes_it entry) calls
+      (any-unmapped (Makes (room_means disk clock) v'.fixed entry) call_of calls
+      (subst (λ (l : List Call). Any (Makes (room_means disk clock) v'.fixed entry) l) turns.mine some))
+
+  stand : All (λ m. Stands (room_means disk clock) v'.fixed (spelled_all after.desk.host.history) (call_of m)) calls
+  stand =
+      all-unmapped (Stands (room_means disk clock) v'.fixed (spelled_all after.desk.host.history)) call_of calls
+      (subst (λ (l : List Call). All (Stands (room_means disk clock) v'.fixed (spelled_all after.desk.host.history)) l)
+      turns.mine closes.stand)
+
+  counts : All (λ m. IsBetween v'.opening_faults after.desk.faults (call_of m)) calls
+  counts =
+      all-unmapped (IsBetween v'.opening_faults after.desk.faults) call_of calls
+      (subst (λ (l : List Call). All (IsBetween v'.opening_faults after.desk.faults) l) turns.mine closes.counts)
+
+  only : HasOnlyOwn (room_means disk clock) v' after
+  only = closes.whole turns.share
+
+  one_accepted : (m : Made) (e : Entry) → m.called.outcome ≡ outcome.Added e
+      → Stands (room_means disk clock) v'.fixed (spelled_all after.desk.host.history) (call_of m)
+      → IsPrefix (spelled_all m.history ++ spelling e ∷ [])
+      (spelled_all after.desk.host.history)
+  one_accepted m e is stands =
+      subst (λ (x : List ℕ). IsPrefix (spelled_all m.history ++ x ∷ []) (spelled_all after.desk.host.history))
+      (entry-code m.called ∙ ap (λ (o : Outcome). entry_of o) is)
+      (stands.entry (ap (λ (o : Outcome). kind_at (outcome_code o)) is))
+
+  grown : spelled_all after.desk.host.history ≡ spelled_all room.desk.host.history ++ only.later
+  grown = only.history ∙ ap (λ (h : History). h ++ only.later) turns.same.opening
+
+  longer : length after.desk.host.history ≡ length room.desk.host.history + length only.later
+  longer =
+      omega (
+        arith,
+        ap (λ (h : History). length h) grown,
+        length-append (spelled_all room.desk.host.history) only.later,
+        length-map room.desk.host.history spelling,
+        length-map after.desk.host.history spelling,
+      )
+
+  -- the history isn't shorter
+  pub not_shorter : length room.desk.host.history ≤ length after.desk.host.history
+  not_shorter = omega (arith, longer)
+
+  -- the gates were served over the room
+  pub serves_all : (accepted : ℕ) → accepted ≡ length after.desk.host.history - length room.desk.host.history
+      → ServesAll disk clock gate source sink room olds after news served accepted failed
+  serves_all accepted is = record {
+    runs = turns.runs;
+    are_runs = turns.are_runs;
+    history = record {
+      later = only.later;
+      grown = grown;
+      entries = λ k d within. any_made _ (only.entries k d within);
+      doubted = λ k d within. any_made _ (only.doubt k d within);
+      answered = turns.answered;
+      begins = turns.begin;
+      prefixes = λ k d within. (stand k d within).prefix;
+      accepted = λ k d within e is. one_accepted (get_or calls k d) e is (stand k d within);
+      counts = λ k d within. let one = counts k d within in
+          (omega (arith, one.least, turns.same.opening_faults), one.rising, one.most);
+    };
+    served_is = turns.counted;
+    accepted_is = omega (arith, is, longer);
+    failed_is = turns.failed_is;
+    fixed = closes.fixed ∙ turns.same.fixed;
+  }

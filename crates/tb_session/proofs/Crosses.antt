@@ -1,0 +1,37 @@
+-- Which types may cross threads: a room may where its disk and its clock may.
+use denote.RattleType.{RattleType}
+use denote.Param.Send.{AllSend, IsSend, recorded_send, struct_send, sendable}
+use denote.Struct.Declared as declared
+use denote.Struct.Struct.{Struct}
+use Rattle.std.proofs.Crossing.{crosses}
+use Rattle.tb_units.proofs.ident.Ident.TheSendSync as ident
+use Rattle.tb_disk.specs.declared.disk.Disk.{Ghosts}
+use Rattle.tb_message.proofs.message.Entry.TheSendSync as entry
+use Rattle.tb_core.proofs.host.Host.TheSendSync as host
+use Rattle.tb_journal.specs.contracts.journal.Journal as Journal
+use Rattle.tb_desk.specs.contracts.desk.Desk as Desk
+use Rattle.tb_lock.proofs.pass.Pass.TheSendSync as pass
+use Rattle.tb_session.specs.contracts.room.Room as Room
+use Rattle.tb_session.specs.contracts.worker.Worker as Worker
+
+module _ (D : RattleType) (g : Ghosts D.Denot) where
+  journal_send : IsSend D → IsSend (Journal.the_row D g)
+  journal_send d = search (sendable, crosses) depth 60 fits 20000
+
+  desk_send : IsSend D → IsSend (Desk.the_row D g)
+  desk_send d =
+      let journal = journal_send d in
+      search (sendable, crosses, host.the_send, entry.the_send) depth 60 fits 20000
+
+  pub room_send : (C : RattleType) → IsSend D → IsSend C → IsSend (Room.the_row D C g)
+  room_send C d c =
+      let desk = desk_send d in
+      search (sendable, ident.the_send) depth 60 fits 20000
+
+  -- so may a worker, where its gate may too
+  pub worker_send : (C G : RattleType) → IsSend D → IsSend C → IsSend G → IsSend (Worker.the_row D C G g)
+  worker_send C G d c gate =
+      let made = Worker.the_type D C G g in
+      let part = pass.the_field_send (Room.the_row D C g) (room_send C d c) in
+      let parts : AllSend (declared.fields made) = (gate, (part, (search sendable, (search sendable, tt)))) in
+      recorded_send (Struct (declared.shape made)) made.D made.to made.to_one (struct_send (declared.shape made) parts)

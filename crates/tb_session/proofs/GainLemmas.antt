@@ -1,0 +1,47 @@
+-- What a pass gains in several steps.
+use Rattle.std.proofs.Common.{List, [], ◌++◌, map, ℕ, refl, sym, ap, ◌∙◌, subst, append_assoc}
+use Rattle.std.specs.Prelude.{All}
+use Rattle.std.proofs.lemmas.List.{append-nil, map-append}
+use Rattle.std.proofs.lemmas.List.Elements.{All-nil, All-append, All-weaker}
+use Rattle.tb_lock.specs.declared.view.Call.{Call}
+use Rattle.tb_lock.specs.declared.view.View.{View}
+use Rattle.tb_lock.specs.Meanings.{IsPrefix}
+use Rattle.tb_lock.proofs.PrefixLemmas.{prefix-self, prefix-trans}
+use Rattle.tb_session.specs.Codes.{Made, call_of, spelled_all, IsAnswered}
+use Rattle.tb_session.specs.Gains.{Gains}
+
+-- no call, and nothing is gained
+pub gains-nothing : (v : View) → Gains v v []
+gains-nothing v = record {
+  mine = sym (append-nil v.mine);
+  answered = All-nil (λ (m : Made). IsAnswered v.fixed m.history m.called m.before m.after);
+  begin = All-nil (λ (m : Made). IsPrefix v.seen (spelled_all m.history));
+  seen = prefix-self v.seen;
+  order = λ ordered. ordered;
+  share = refl;
+  fixed = refl;
+  opening = refl;
+  opening_faults = refl;
+}
+
+-- the calls of two steps are gained, one step's behind the other's
+pub gains-then : (a b c : View) (first later : List Made) → Gains a b first → Gains b c later → Gains a c (first ++ later)
+gains-then a b c first later one two = record {
+  mine = two.mine
+      ∙ (ap (λ (l : List Call). l ++ map call_of later) one.mine
+      ∙ (append_assoc a.mine (map call_of first) (map call_of later)
+      ∙ ap (λ (l : List Call). a.mine ++ l) (sym (map-append call_of first later))));
+  answered = All-append (λ (m : Made). IsAnswered a.fixed m.history m.called m.before m.after) first later one.answered
+      (subst (λ (f : List ℕ). All (λ (m : Made). IsAnswered f m.history m.called m.before m.after) later) one.fixed
+      two.answered);
+  begin = All-append (λ (m : Made). IsPrefix a.seen (spelled_all m.history)) first later one.begin
+      (All-weaker (λ (m : Made). IsPrefix b.seen (spelled_all m.history))
+      (λ (m : Made). IsPrefix a.seen (spelled_all m.history))
+      (λ m begins. prefix-trans a.seen b.seen (spelled_all m.history) one.seen begins) later two.begin);
+  seen = prefix-trans a.seen b.seen c.seen one.seen two.seen;
+  order = λ ordered. two.order (one.order ordered);
+  share = two.share ∙ one.share;
+  fixed = two.fixed ∙ one.fixed;
+  opening = two.opening ∙ one.opening;
+  opening_faults = two.opening_faults ∙ one.opening_faults;
+}

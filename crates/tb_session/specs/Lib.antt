@@ -1,0 +1,12 @@
+pub mod Calls
+pub mod Codes
+pub mod CodeLaws
+pub mod Rooms
+pub mod Gains
+pub mod Turned
+pub mod Replies
+pub mod Inbox
+pub mod Session
+pub mod Serving
+pub mod Work
+pub mod Serve

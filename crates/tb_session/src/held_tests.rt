@@ -1,0 +1,196 @@
+//! Two links of which each waits, in the middle of its request, until the other has come as far. They are answered only by
+//! workers that run side by side, and only where no turn is held while a link is read.
+ghost use Rattle.std.specs.Prelude.{◌≤◌, ◌+◌, None, length, option_to_list};
+ghost use Rattle.tb_gates.specs.Gates.{most_links};
+
+use super::*;
+use crate::tests::{Memory, opened, post, reply};
+use std::alloc::Global;
+use std::process::Abort;
+use std::sync::atomic::{AtomicBool, Ordering};
+use std::test::Fail;
+use std::thread;
+use tb_gates::{Gate, Link, PairLink};
+use tb_link::{Failed, Faults, Sink, Source, TextSink, TextSource};
+
+/// How often a link looks for the other one's flag, at most.
+const LOOKS: u64 = 20_000_000;
+
+/// A link that gives its bytes in two halves. Before the second it sets its flag and looks for the other link's flag; where
+/// that isn't found, this read and every later one fail. It tells no bytes.
+#[derive(Drop)]
+struct HeldLink<'a> {
+    pair: PairLink,
+    reads: u64,
+    here: &'a AtomicBool,
+    there: &'a AtomicBool,
+    lost: bool,
+    faults: Faults,
+}
+
+impl HeldLink<'_> {
+    // Whether the other link has come as far.
+    fn meets(&self) -> bool {
+        self.here.store(true, Ordering::SeqCst);
+        for _ in 0..LOOKS {
+            if self.there.load(Ordering::SeqCst) {
+                return true;
+            }
+            thread::yield_now();
+        }
+        false
+    }
+}
+
+impl Source for HeldLink<'_> {
+    ghost use Rattle.std.specs.Prelude.{None};
+    ghost use Rattle.tb_link.specs.Memory.{text_sink};
+
+    ghost source = { λ link. record { left = None; faults = link.faults.count; reads = link.reads } };
+
+    ghost sink_beside = { λ link. text_sink link.pair.sink };
+
+    fn read(&mut self, into: &mut [u8]) -> Result<usize, Failed> {
+        let first = self.reads == 0;
+        self.reads = self.reads.saturating_add(1);
+        if !first && !self.lost {
+            self.lost = !self.meets();
+        }
+        if self.lost {
+            return Err(self.faults.rise());
+        }
+        match self.pair.read(into) {
+            Ok(count) => Ok(count),
+            Err(_) => Err(self.faults.rise()),
+        }
+    }
+
+    ghost bounded = { λ self. self.faults.bounded };
+}
+
+impl Sink for HeldLink<'_> {
+    ghost use Rattle.std.specs.Prelude.{None};
+    ghost use Rattle.tb_link.specs.Memory.{text_sink};
+
+    ghost sink = { λ link. text_sink link.pair.sink };
+
+    ghost source_beside = { λ link. record { left = None; faults = link.faults.count; reads = link.reads } };
+
+    fn write(&mut self, bytes: &[u8]) -> Result<(), Failed> {
+        self.pair.write(bytes)
+    }
+
+    ghost bounded = { λ self. self.pair.sink.faults.bounded };
+}
+
+impl Link for HeldLink<'_> {
+    ghost use Rattle.std.specs.Prelude.{refl};
+
+    ghost sink_is = { λ link. refl };
+
+    ghost source_is = { λ link. refl };
+}
+
+/// A gate that gives one link.
+#[derive(Drop)]
+struct HeldGate<'a> {
+    link: Option<HeldLink<'a>>,
+    back: Option<HeldLink<'a>>,
+    given: u64,
+    ghost few: { given + length (option_to_list link) ≤ most_links },
+}
+
+impl<'a> Gate for HeldGate<'a> {
+    ghost use Rattle.std.specs.Prelude.{None, length, option_to_list};
+    ghost use Rattle.tb_gates.specs.Gates.{fewer_given};
+
+    type Conn = HeldLink<'a>;
+
+    ghost gate = { λ gate. record { left = None; back = None; given = gate.given; faults = 0 } };
+
+    fn next(&mut self) -> Result<Option<HeldLink<'a>>, Failed> {
+        match self.link.take() {
+            Some(link) => {
+                self.given += 1;
+                Ok(Some(link))
+            }
+            None => Ok(None),
+        }
+    }
+
+    fn done(&mut self, conn: HeldLink<'a>) {
+        self.back = Some(conn);
+    }
+
+    ghost bounded = { λ self. refl };
+
+    ghost few = { λ self. fewer_given self.given (length (option_to_list self.link)) self.few };
+
+    ghost fewer = { λ self. tt };
+}
+
+fn gate_of<'a>(
+    alloc: Global,
+    text: &str,
+    here: &'a AtomicBool,
+    there: &'a AtomicBool,
+) -> Result<HeldGate<'a>, Fail> {
+    let bytes = text.as_bytes().to_vec(alloc)?;
+    let half = bytes.len() / 2 + 1;
+    let pair = PairLink {
+        source: TextSource::new(bytes, half, Vec::new(alloc)),
+        sink: TextSink::new(alloc, 1_000, Vec::new(alloc))?,
+    };
+    Ok(HeldGate {
+        link: Some(HeldLink {
+            pair,
+            reads: 0,
+            here,
+            there,
+            lost: false,
+            faults: Faults::none(),
+        }),
+        back: None,
+        given: 0,
+    })
+}
+
+/// The gate's link was answered so.
+fn expect(rt: &impl Abort, gate: &HeldGate<'_>, reply: &str) {
+    let Some(link) = &gate.back else {
+        panic!(rt; "the link didn't come back")
+    };
+    assert!(rt; !link.lost);
+    assert_eq!(rt; link.pair.sink.bytes(), reply.as_bytes());
+}
+
+#[test]
+fn links_that_wait_for_each_other_are_answered(rt: HostRuntime) -> Result<(), Fail> {
+    let first = post(
+        rt.alloc(),
+        "k1",
+        "{\"number\":1,\"kind\":\"bid\",\"auction\":\"bill13\",\"bidder\":\"fund1\",\"rate\":\"4.300\",\"amount\":100}",
+    )?;
+    let second = post(
+        rt.alloc(),
+        "k2",
+        "{\"number\":2,\"kind\":\"bid\",\"auction\":\"bill13\",\"bidder\":\"fund2\",\"rate\":\"4.310\",\"amount\":100}",
+    )?;
+    let first_reply = reply(rt.alloc(), "200 OK", "accepted 1 1730700000\n")?;
+    let second_reply = reply(rt.alloc(), "200 OK", "accepted 2 1730700000\n")?;
+    let here = AtomicBool::new(false);
+    let there = AtomicBool::new(false);
+    let mut gates = Vec::new(rt.alloc());
+    gates.push(gate_of(rt.alloc(), &first, &here, &there)?)?;
+    gates.push(gate_of(rt.alloc(), &second, &there, &here)?)?;
+    let room: Memory = opened(&rt, rt.alloc(), Vec::new(rt.alloc()))?;
+    assert!(rt; !room.desk.unsure());
+    let served = match serve_gates(&rt, rt.alloc(), room, &mut gates) {
+        Ok(ended) => (ended.served, ended.accepted),
+        Err(_) => (0, 0),
+    };
+    assert_eq!(rt; served, (2, 2));
+    expect(&rt, &gates[0], &first_reply);
+    expect(&rt, &gates[1], &second_reply);
+    Ok(())
+}

@@ -1,0 +1,35 @@
+//! Sessions: links are served from a room, a desk and a clock that are taken in turns.
+#![tactic(auto)]
+
+mod answer;
+mod asking;
+mod called;
+mod calls;
+mod end;
+mod hear;
+#[cfg(test)]
+mod held_tests;
+mod inbox;
+mod laws;
+mod links;
+mod perform;
+mod receive;
+mod reply;
+mod room;
+mod serve;
+mod session;
+#[cfg(test)]
+mod tests;
+mod turn;
+mod worker;
+mod write;
+
+pub use answer::Answer;
+pub use called::{Ask, Called, Outcome};
+pub use end::End;
+pub use laws::{all_served, one_code};
+pub use links::work;
+pub use room::Room;
+pub use serve::{Ended, serve_gates};
+pub use session::{MOST_TURNS, serve_link};
+pub use worker::Worker;
