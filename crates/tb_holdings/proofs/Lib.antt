@@ -3,4 +3,5 @@ pub mod AccountLemmas
 pub mod HoldingLemmas
 pub mod HolderLemmas
 pub mod MarkLemmas
+pub mod LeftLemmas
 pub mod KeptLemmas

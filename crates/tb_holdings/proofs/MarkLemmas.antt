@@ -14,7 +14,7 @@ use Rattle.tb_units.proofs.ListLemmas.{AllPairs-put, AllPairs-one, AllPairs-head
 use Rattle.tb_units.proofs.PlaceLemmas.{IsRanked, take-place, drop-place_missing, filter_all, filter_none, find_none, find_passes, find-le-sum_by, find-append_none, find-append_some, find-filter_all, find-filter_none}
 use Rattle.tb_units.proofs.SumLemmas.{StandsOnce, sum_by-put, sum_by-filter, sum_by-map, sum_by_agree, sum_by_none}
 use Rattle.tb_holdings.specs.declared.mark.KeptMark.{KeptMark}
-use Rattle.tb_holdings.specs.Marks.{MarkIsMissingAt, MarkStandsAt, is_mark, is_own, precedes, follows, IsEarlierMark, MarksAreInOrder, mark_in, pledges_par, pledged_in, is_open_of, open_marks_in, open_marks_beside, with_mark, left_at, with_left, after_release, released, after_redemption, cleared}
+use Rattle.tb_holdings.specs.Marks.{MarkIsMissingAt, MarkStandsAt, is_mark, is_own, precedes, follows, IsEarlierMark, MarksAreInOrder, has_left, mark_in, pledges_par, pledged_in, is_open_of, open_marks_in, open_marks_beside, with_mark, left_at, with_left, after_release, released, after_redemption, cleared}
 
 -- the order of holder and then number goes on over a third
 precedes_on : (holder number : ℕ) (one later : KeptMark)
@@ -125,7 +125,7 @@ others_apart holder number marks place k d in_order first apart short =
     ]
 
 -- nothing is found where no mark passes
-find_nothing : (test : KeptMark → Bool) (marks : List KeptMark)
+pub find_nothing : (test : KeptMark → Bool) (marks : List KeptMark)
     → All (λ mark. test mark ≡ false) marks
     → find test marks ≡ None
 find_nothing test [] fails = refl
@@ -167,13 +167,24 @@ pub mark_in-missing : (holder number : ℕ) (marks : List KeptMark) (place : ℕ
 mark_in-missing holder number marks place in_order missing =
     find_nothing (is_mark holder number) marks (others_all holder number marks place in_order missing)
 
--- a mark of another name stays through a release
-left-other : (holder number par : ℕ) (mark : KeptMark)
+-- a release leaves a mark of another holder or number as it is
+released_other : (holder number par : ℕ) (mark : KeptMark)
     → is_mark holder number mark ≡ false
     → left_at (after_release holder number par) mark ≡ mark
-left-other holder number par mark other =
-    ap (λ (n : ℕ). record mark { left = n })
-    (cond-false (is_mark holder number mark) (mark.left - par) mark.left other)
+released_other holder number par mark other =
+    ap (λ n. record mark { left = n }) (cond-false (is_mark holder number mark) (mark.left - par) mark.left other)
+
+-- where all are others' the marks stay
+released_none : (holder number par : ℕ) (marks : List KeptMark)
+    → All (λ mark. is_mark holder number mark ≡ false) marks
+    → released holder number par marks ≡ marks
+unfolding released
+released_none holder number par [] others = refl
+released_none holder number par (mark ∷ marks) others =
+    let P : KeptMark → Type 0 = λ one. is_mark holder number one ≡ false in
+    ap₂ (λ (one : KeptMark) (rest : List KeptMark). one ∷ rest)
+    (released_other holder number par mark (All-head P mark marks others))
+    (released_none holder number par marks (All-tail P mark marks others))
 
 -- a release writes over the mark at its place
 pub released-stands : (holder number par : ℕ) (marks : List KeptMark) (place left : ℕ) (d : KeptMark)
@@ -200,7 +211,7 @@ released-stands holder number par marks place left d in_order stands less =
           ∙ (here ∙ (ap (λ (i : ℕ). after (get_or marks i d)) (sym at) ∙ sym read))
       | inr apart ↦
           get_or-set_other marks place k written d apart
-          ∙ (sym (left-other holder number par (get_or marks k d)
+          ∙ (sym (released_other holder number par (get_or marks k d)
           (others_apart holder number marks place k d in_order stands.first apart within)) ∙ sym read)
     ])
 
@@ -209,18 +220,8 @@ pub released-missing : (holder number par : ℕ) (marks : List KeptMark) (place 
     → MarksAreInOrder marks
     → MarkIsMissingAt holder number marks place
     → marks ≡ released holder number par marks
-unfolding released
 released-missing holder number par marks place in_order missing =
-    same_marks marks (others_all holder number marks place in_order missing)
-  where
-    same_marks : (marks : List KeptMark)
-        → All (λ mark. is_mark holder number mark ≡ false) marks
-        → marks ≡ map (left_at (after_release holder number par)) marks
-    same_marks [] others = refl
-    same_marks (mark ∷ marks) others =
-        ap₂ (λ (m : KeptMark) (ms : List KeptMark). m ∷ ms)
-        (sym (left-other holder number par mark (All-head (λ m. is_mark holder number m ≡ false) mark marks others)))
-        (same_marks marks (All-tail (λ m. is_mark holder number m ≡ false) mark marks others))
+    sym (released_none holder number par marks (others_all holder number marks place in_order missing))
 
 -- a mark before the first of a holder is another's
 precedes_own : (holder : ℕ) (mark : KeptMark) → precedes holder 0 mark ≡ true → is_own holder mark ≡ false
@@ -302,16 +303,16 @@ own-together holder marks rest first count place whole point =
     ∙ (ap₂ (λ (one other : List KeptMark). one ++ other) inside behind
     ∙ append-nil (take count rest)))))))
 
--- a sum over the holder's marks is that over all, where other marks count for nothing
-sum_by-own : (holder : ℕ) (f : KeptMark → ℕ) (marks : List KeptMark)
-    → ((mark : KeptMark) → is_own holder mark ≡ false → f mark ≡ 0)
-    → sum_by f (filter (is_own holder) marks) ≡ sum_by f marks
-sum_by-own holder f marks none =
-    sum_by-filter f (is_own holder) marks
-    ∙ sum_by_agree (λ mark. cond (is_own holder mark) (f mark) 0) f marks (λ mark.
-    elim (cases_Bool (is_own holder mark)) [
-      | inl own ↦ cond-true (is_own holder mark) (f mark) 0 own
-      | inr other ↦ cond-false (is_own holder mark) (f mark) 0 other ∙ sym (none mark other)
+-- a sum over the marks that pass is that over all, where the others count for nothing
+sum_by-part : (test : KeptMark → Bool) (f : KeptMark → ℕ) (marks : List KeptMark)
+    → ((mark : KeptMark) → test mark ≡ false → f mark ≡ 0)
+    → sum_by f (filter test marks) ≡ sum_by f marks
+sum_by-part test f marks none =
+    sum_by-filter f test marks
+    ∙ sum_by_agree (λ mark. cond (test mark) (f mark) 0) f marks (λ mark.
+    elim (cases_Bool (test mark)) [
+      | inl passes ↦ cond-true (test mark) (f mark) 0 passes
+      | inr fails ↦ cond-false (test mark) (f mark) 0 fails ∙ sym (none mark fails)
     ])
 
 -- a new mark is put in at its place
@@ -369,7 +370,7 @@ pub pledged_in-own : (holder security : ℕ) (marks : List KeptMark)
     → pledged_in holder security (filter (is_own holder) marks) ≡ pledged_in holder security marks
 pledged_in-own holder security marks =
     pledged_in-shares holder security (filter (is_own holder) marks)
-    ∙ (sum_by-own holder (left_share holder security) marks
+    ∙ (sum_by-part (is_own holder) (left_share holder security) marks
     (λ mark other. ap (λ b. cond (b && mark.security == security) mark.left 0) other)
     ∙ sym (pledged_in-shares holder security marks))
 
@@ -377,7 +378,26 @@ pledged_in-own holder security marks =
 pub open_marks_in-own : (holder : ℕ) (marks : List KeptMark)
     → open_marks_in holder (filter (is_own holder) marks) ≡ open_marks_in holder marks
 open_marks_in-own holder marks =
-    sum_by-own holder (open_share holder) marks (λ mark other. ap (λ b. cond (b && nat_lt 0 mark.left) 1 0) other)
+    sum_by-part (is_own holder) (open_share holder) marks
+    (λ mark other. ap (λ b. cond (b && nat_lt 0 mark.left) 1 0) other)
+
+-- what is pledged stands among the marks of which something is left
+pub pledged_in-left : (holder security : ℕ) (marks live : List KeptMark)
+    → live ≡ filter has_left marks
+    → pledged_in holder security live ≡ pledged_in holder security marks
+pledged_in-left holder security marks live is =
+    ap (pledged_in holder security) is
+    ∙ (pledged_in-shares holder security (filter has_left marks)
+    ∙ (sum_by-part has_left (left_share holder security) marks (λ mark fails. grind (arith, nat_tests))
+    ∙ sym (pledged_in-shares holder security marks)))
+
+-- and so does what is open
+pub open_marks_in-left : (holder : ℕ) (marks live : List KeptMark)
+    → live ≡ filter has_left marks
+    → open_marks_in holder live ≡ open_marks_in holder marks
+open_marks_in-left holder marks live is =
+    ap (open_marks_in holder) is
+    ∙ sum_by-part has_left (open_share holder) marks (λ mark fails. grind (arith, nat_tests))
 
 -- a sum over the marks gains the new mark's term
 sum_by-with_mark : (f : KeptMark → ℕ) (mark : KeptMark) (marks : List KeptMark)
@@ -672,31 +692,12 @@ pub named_once : (holder number : ℕ) (one later : KeptMark)
     → is_mark holder number later ≡ false
 named_once holder number one later order is = grind (arith, nat_tests)
 
--- a release leaves a mark of another holder or number as it is
-released_other : (holder number par : ℕ) (mark : KeptMark)
-    → is_mark holder number mark ≡ false
-    → left_at (after_release holder number par) mark ≡ mark
-released_other holder number par mark other =
-    ap (λ n. record mark { left = n }) (cond-false (is_mark holder number mark) (mark.left - par) mark.left other)
-
 -- of the mark itself par less is left
 released_own : (holder number par : ℕ) (mark : KeptMark)
     → is_mark holder number mark ≡ true
     → left_at (after_release holder number par) mark ≡ left_at (λ kept. kept.left - par) mark
 released_own holder number par mark own =
     ap (λ n. record mark { left = n }) (cond-true (is_mark holder number mark) (mark.left - par) mark.left own)
-
--- where all are others' the marks stay
-released_none : (holder number par : ℕ) (marks : List KeptMark)
-    → All (λ mark. is_mark holder number mark ≡ false) marks
-    → released holder number par marks ≡ marks
-unfolding released
-released_none holder number par [] others = refl
-released_none holder number par (mark ∷ marks) others =
-    let P : KeptMark → Type 0 = λ one. is_mark holder number one ≡ false in
-    ap₂ (λ (one : KeptMark) (rest : List KeptMark). one ∷ rest)
-    (released_other holder number par mark (All-head P mark marks others))
-    (released_none holder number par marks (All-tail P mark marks others))
 
 -- a sum over the marks after a release: the term of that mark is that of what is left
 pub sum_by-released : (f : KeptMark → ℕ) (holder number par : ℕ) (marks : List KeptMark) (mark : KeptMark)

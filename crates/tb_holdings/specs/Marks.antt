@@ -3,6 +3,15 @@ use Rattle.std.specs.Prelude.{◌≡◌, ℕ, ◌-◌, ◌<◌, Bool, true, fals
 use Rattle.tb_holdings.specs.declared.mark.KeptMark.{KeptMark}
 use Rattle.tb_units.specs.Places.{IsPlace}
 
+-- what a contract sees of the marks: their list, and how many adds are sure
+pub record MarkList : Type 0 where
+  pub list : List KeptMark
+  pub spare : ℕ
+
+-- something is left of the mark
+abbrev pub has_left : KeptMark → Bool
+has_left mark = nat_lt 0 mark.left
+
 -- the mark is this holder's, under this number
 abbrev pub is_mark : ℕ → ℕ → KeptMark → Bool
 is_mark holder number mark = mark.holder == holder && mark.number == number

@@ -9,9 +9,8 @@ ghost use Rattle.tb_holdings.specs.Refusals.{IsPledgeCause, IsReleaseCause, MayR
 use crate::account::{
     Account, close_accounts, held_by, held_by_all, move_held, paid_to, pay_accounts, set_held,
 };
-use crate::mark::{
-    KeptMark, Mark, add_mark, clear_marks, find_mark, open_marks_by, pledged_by, release_mark,
-};
+use crate::mark::{KeptMark, Mark};
+use crate::marks::Marks;
 use crate::refusals::{InsufficientFree, PledgeRefused, ReleaseRefused};
 use std::alloc::Global;
 use std::marker::Model;
@@ -23,7 +22,7 @@ use tb_units::{Dollars, OutOfMemory};
 #[derive(Drop)]
 pub struct Accounts {
     accounts: Vec<Account>,
-    marks: Vec<KeptMark>,
+    marks: Marks,
     redeemed: Vec<u32>,
     paid: Vec<Account>,
 }
@@ -37,16 +36,16 @@ impl Model for Accounts {
     // An account has room if it also has room among those that are paid.
     ghost view = { λ a. record {
       accounts = a.accounts.items;
-      marks = a.marks.items;
+      marks = a.marks.list;
       redeemed = a.redeemed.items;
       paid = a.paid.items;
       spare_accounts = min (vec_capacity a.accounts - vec_len a.accounts)
           (vec_capacity a.paid - (vec_len a.accounts + vec_len a.paid));
-      spare_marks = vec_capacity a.marks - vec_len a.marks;
+      spare_marks = a.marks.spare;
       spare_redeems = vec_capacity a.redeemed - vec_len a.redeemed;
     } };
 
-    ghost invariant = { λ a. AreKept a.accounts.items a.marks.items a.redeemed.items a.paid.items
+    ghost invariant = { λ a. AreKept a.accounts.items a.marks.list a.redeemed.items a.paid.items
         × (vec_len a.accounts + vec_len a.paid ≤ vec_capacity a.paid) };
 }
 
@@ -62,7 +61,7 @@ impl Accounts {
     {
         Accounts {
             accounts: Vec::new(alloc),
-            marks: Vec::new(alloc),
+            marks: Marks::new(alloc),
             redeemed: Vec::new(alloc),
             paid: Vec::new(alloc),
         }
@@ -167,7 +166,7 @@ impl Accounts {
             security,
             left: par.value,
         };
-        add_mark(&mut self.marks, mark);
+        self.marks.add(mark);
         Ok(())
     }
 
@@ -198,7 +197,7 @@ impl Accounts {
         if par.value > mark.left.value {
             return Err(ReleaseRefused::MoreThanPledged { left: mark.left });
         }
-        release_mark(&mut self.marks, holder, number, par.value);
+        self.marks.release(holder, number, par.value);
         Ok(())
     }
 
@@ -224,7 +223,7 @@ impl Accounts {
         let total = self.total(security);
         pay_accounts(&self.accounts, security, &mut self.paid);
         close_accounts(&mut self.accounts, security);
-        clear_marks(&mut self.marks, security);
+        self.marks.clear(security);
         self.redeemed.push_reserved(security);
         total
     }
@@ -236,7 +235,7 @@ impl Accounts {
             ≡ Some (new_mark holder number mark.pledgee mark.security mark.left.value)) }
         ensures laws { IsKept self.now }
     {
-        match find_mark(&self.marks, holder, number) {
+        match self.marks.find(holder, number) {
             None => None,
             Some(found) => Some(Mark {
                 pledgee: found.pledgee,
@@ -252,7 +251,7 @@ impl Accounts {
         ensures few { result ≤ most_open }
         ensures laws { IsKept self.now }
     {
-        open_marks_by(&self.marks, holder)
+        self.marks.open_marks(holder)
     }
 
     /// What the holder holds of the security, its pledged par with it.
@@ -273,7 +272,7 @@ impl Accounts {
         ensures laws { IsKept self.now }
     {
         Dollars {
-            value: pledged_by(&self.marks, holder, security),
+            value: self.marks.pledged(holder, security),
         }
     }
 

@@ -5,6 +5,7 @@
 mod account;
 mod accounts;
 mod mark;
+mod marks;
 mod refusals;
 #[cfg(test)]
 mod tests;

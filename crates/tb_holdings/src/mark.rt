@@ -1,6 +1,6 @@
 //! Marks: the pledges of each holder, in order of holder and then number.
-ghost use Rattle.std.specs.Prelude.{◌≡◌, ◌+◌, ◌^◌, ◌<◌, ◌≤◌, None, filter, vec_len, vec_capacity, IfErr, IfOk};
-ghost use Rattle.tb_holdings.specs.Marks.{MarkIsMissingAt, MarkStandsAt, MarksAreInOrder, is_own, mark_in, pledged_in, open_marks_in, with_mark, released, cleared, precedes};
+ghost use Rattle.std.specs.Prelude.{◌≡◌, ◌+◌, ◌^◌, ◌<◌, ◌≤◌, ◌==◌, None, true, not, filter, vec_len, vec_capacity, All, IfErr, IfOk};
+ghost use Rattle.tb_holdings.specs.Marks.{MarkIsMissingAt, MarkStandsAt, MarksAreInOrder, has_left, is_own, mark_in, pledged_in, open_marks_in, with_mark, released, cleared, precedes};
 ghost use Rattle.tb_units.specs.Places.{IsPlace};
 
 use tb_units::Dollars;
@@ -163,6 +163,24 @@ pub fn release_mark(marks: &mut [KeptMark], holder: u32, number: u64, par: u128)
     }
 }
 
+/// Takes so much from what is left of the mark of this holder and number, and the mark out where nothing is left then.
+pub fn lower_mark(marks: &mut Vec<KeptMark>, holder: u32, number: u64, par: u128)
+    requires in_order { MarksAreInOrder marks.old.items }
+    requires left { All (λ mark. has_left mark ≡ true) marks.old.items }
+    ensures marks { marks.new.items ≡ filter has_left (released holder number par marks.old.items) }
+    ensures no_more { vec_len marks.new ≤ vec_len marks.old }
+    ensures capacity { vec_capacity marks.new ≡ vec_capacity marks.old }
+{
+    if let Ok(place) = seek_mark(marks, holder, number) {
+        let left = marks[place].left.saturating_sub(par);
+        if left > 0 {
+            marks[place].left = left;
+        } else {
+            marks.remove(place);
+        }
+    }
+}
+
 /// Leaves nothing of the marks of the security.
 pub fn clear_marks(marks: &mut [KeptMark], security: u32)
     ensures { marks.new ≡ cleared security marks.old }
@@ -172,4 +190,13 @@ pub fn clear_marks(marks: &mut [KeptMark], security: u32)
             mark.left = 0;
         }
     }
+}
+
+/// Takes the marks of the security out.
+pub fn take_marks(marks: &mut Vec<KeptMark>, security: u32)
+    ensures marks { marks.new.items ≡ filter (λ mark. not (mark.security == security)) marks.old.items }
+    ensures no_more { vec_len marks.new ≤ vec_len marks.old }
+    ensures capacity { vec_capacity marks.new ≡ vec_capacity marks.old }
+{
+    marks.retain(|mark| mark.security != security);
 }

@@ -15,7 +15,7 @@ invariant_of-self c =
     let covered = c.self.invariant.0.covered c.args.holder c.args.security in (
       rw c.set_held.ensures.accounts
           (AreKept-with_held c.args.holder c.args.security (c.held-held.result.value + c.args.par.value)
-          inside.accounts.items inside.marks.items inside.redeemed.items inside.paid.items c.self.invariant.0
+          inside.accounts.items inside.marks.list inside.redeemed.items inside.paid.items c.self.invariant.0
           (record { live = live; fits = omega (arith, limit, held); enough = omega (arith, held, covered) })),
       omega (arith, room, c.set_held.ensures.one_more),
     )

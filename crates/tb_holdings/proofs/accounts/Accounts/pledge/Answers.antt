@@ -9,9 +9,9 @@ invariant_of-self c =
     let new = rw (← c.self.view_is) at c.requires.new in
     let whole = rw (← c.self.view_is) at c.free-free.ensures.whole in
     let few = rw (← c.self.view_is) at c.open_marks.ensures.open_marks in (
-      rw c.add_mark.ensures.marks
+      rw c.add.ensures.list
           (AreKept-with_mark _
-          inside.accounts.items inside.marks.items inside.redeemed.items inside.paid.items c.self.invariant.0
+          inside.accounts.items inside.marks.list inside.redeemed.items inside.paid.items c.self.invariant.0
           (record {
             new = new;
             free = omega (arith, whole, c.if-par-free.false);

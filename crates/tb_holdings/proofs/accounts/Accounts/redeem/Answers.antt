@@ -1,10 +1,8 @@
 -- The accounts of the security are paid off, so the room that they took is free again.
-use Rattle.std.proofs.Common.{◌≡◌, ◌+◌, ◌≤◌, ◌++◌, List, not, refl, ap, ◌∙◌, take, drop, filter, length, length-append, vec_len, arith}
-use Rattle.std.proofs.lemmas.List.{take_at}
+use Rattle.std.proofs.Common.{◌≡◌, ◌+◌, ◌≤◌, ◌++◌, not, refl, ap, ◌∙◌, filter, length, length-append, vec_len, arith}
 use Rattle.std.proofs.lemmas.List.Filters.{length-filter_both}
-use Rattle.tb_holdings.specs.declared.mark.KeptMark.{KeptMark}
 use Rattle.tb_holdings.specs.Holdings.{is_of, held_in, total_in, without}
-use Rattle.tb_holdings.specs.Marks.{pledged_in, open_marks_in, cleared}
+use Rattle.tb_holdings.specs.Marks.{pledged_in, open_marks_in}
 use Rattle.tb_holdings.proofs.MarkLemmas.{pledged_in-cleared, pledged_in-cleared_other, open_marks_in-cleared}
 use Rattle.tb_holdings.proofs.KeptLemmas.{AreKept-redeemed, held_in-paid}
 use Rattle.tb_holdings.proofs.HoldingLemmas.{held_in-without_other, held_in-append_of_other, total_in-without_other, total_in-without_same}
@@ -56,23 +54,13 @@ fewer c =
       leave_or_stay c,
     )
 
--- the marks that are written back
-cleared_items : (c : goal.After-push_reserved)
-    → let written : List KeptMark = c.clear_marks.new.marks in
-    take c.self.inside.marks.len (written ++ drop (length written) c.self.inside.marks.items)
-    ≡ cleared c.args.security c.self.inside.marks.items
-cleared_items c =
-    take_at c.clear_marks.new.marks _ c.self.inside.marks.len
-    (omega (arith, c.clear_marks.auto.marks, c.deref_mut.ensures.len))
-    ∙ (c.clear_marks.ensures ∙ ap (cleared c.args.security) c.deref_mut.ensures.value)
-
 pub invariant_of-self : goal.invariant_of-self
 invariant_of-self c =
     let inside = c.self.inside in
     let live = rw (← c.self.view_is) at c.requires.live in (
-      rw (c.close_accounts.ensures.accounts, cleared_items c, c.push_reserved.ensures.items, paid_items c)
+      rw (c.close_accounts.ensures.accounts, c.clear.ensures.list, c.push_reserved.ensures.items, paid_items c)
           (AreKept-redeemed c.args.security
-          inside.accounts.items inside.marks.items inside.redeemed.items inside.paid.items c.self.invariant.0 live),
+          inside.accounts.items inside.marks.list inside.redeemed.items inside.paid.items c.self.invariant.0 live),
       omega (arith, same_count c, c.pay_accounts.ensures.capacity, c.self.invariant.1),
     )
 
@@ -86,7 +74,7 @@ returns-clause-room c =
         c.pay_accounts.ensures.capacity,
         c.close_accounts.ensures.capacity,
       );
-      spare_marks = omega arith;
+      spare_marks = omega (arith, c.clear.ensures.room);
       spare_redeems = omega (arith, c.push_reserved.ensures.len, c.push_reserved.ensures.capacity);
     })
 
@@ -104,8 +92,8 @@ returns-clause-none_held c =
 
 pub returns-clause-none_pledged : goal.returns-clause-none_pledged
 returns-clause-none_pledged c = λ holder.
-    ap (pledged_in holder c.args.security) (cleared_items c)
-    ∙ pledged_in-cleared holder c.args.security c.self.inside.marks.items
+    ap (pledged_in holder c.args.security) c.clear.ensures.list
+    ∙ pledged_in-cleared holder c.args.security c.self.inside.marks.list
 
 pub returns-clause-others : goal.returns-clause-others
 returns-clause-others c =
@@ -115,8 +103,8 @@ returns-clause-others c =
           ap (held_in holder other) c.close_accounts.ensures.accounts
           ∙ held_in-without_other holder other c.args.security inside.accounts.items differs;
       pledges = λ holder other differs.
-          ap (pledged_in holder other) (cleared_items c)
-          ∙ pledged_in-cleared_other holder c.args.security other inside.marks.items differs;
+          ap (pledged_in holder other) c.clear.ensures.list
+          ∙ pledged_in-cleared_other holder c.args.security other inside.marks.list differs;
       payments = λ holder other differs.
           ap (held_in holder other) (paid_items c)
           ∙ held_in-append_of_other holder other c.args.security inside.paid.items inside.accounts.items differs;
@@ -128,8 +116,8 @@ returns-clause-others c =
 pub returns-clause-open_marks : goal.returns-clause-open_marks
 returns-clause-open_marks c = λ holder.
     rw (← c.self.view_is)
-    (ap (open_marks_in holder) (cleared_items c)
-    ∙ open_marks_in-cleared c.args.security holder c.self.inside.marks.items)
+    (ap (open_marks_in holder) c.clear.ensures.list
+    ∙ open_marks_in-cleared c.args.security holder c.self.inside.marks.list)
 
 pub returns-clause-laws : goal.returns-clause-laws
 returns-clause-laws c = (invariant_of-self c).0

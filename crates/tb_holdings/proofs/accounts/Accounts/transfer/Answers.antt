@@ -27,7 +27,7 @@ invariant_of-self c =
     let whole = rw (← c.self.view_is) at c.free-free.ensures.whole in (
       rw c.move_held.ensures.accounts
           (AreKept-moved c.args.from c.args.to c.args.security c.args.par.value
-          inside.accounts.items inside.marks.items inside.redeemed.items inside.paid.items c.self.invariant.0
+          inside.accounts.items inside.marks.list inside.redeemed.items inside.paid.items c.self.invariant.0
           (record { live = live; apart = c.requires.apart; free = omega (arith, whole, c.if-par-free.false) })),
       omega (arith, room, c.move_held.ensures.one_more),
     )
