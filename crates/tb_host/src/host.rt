@@ -1,5 +1,5 @@
 //! The top call: it does all that the program does.
-ghost use Rattle.std.specs.Prelude.{◌≡◌, ◌≢◌, ◌⊎◌, ◌↔◌, ◌<◌, ◌≤◌, Bool, ℕ, List, map, string_bytes, Err, IfSome};
+ghost use Rattle.std.specs.Prelude.{◌≡◌, ◌≢◌, ◌⊎◌, ◌↔◌, ◌<◌, ◌≤◌, Bool, ℕ, List, [], map, string_bytes, Err, IfSome};
 ghost use Rattle.std.specs.Str.Lines.{lines};
 ghost use Rattle.tb_link.specs.Counts.{Rose};
 ghost use Rattle.tb_disk.specs.Past.{contents_of};
@@ -23,6 +23,7 @@ use crate::ending::Ending;
 use crate::run_command::run;
 use std::alloc::Global;
 use tb_disk::Disk;
+use tb_gates::{Clock, Gate};
 use tb_link::{Sink, Source};
 use tb_words::WordsFault;
 
@@ -39,8 +40,16 @@ pub struct Ended<D: Disk> {
 /// 4: the input failed. 5: the output failed. 6: the disk failed while it was opened. 7: the disk holds no journal; what
 /// it begins with is told. 8: the journal is damaged; the place is told. 9: out of memory.
 ///
-/// `run` works on the journal that `disk` holds. No command touches `spare`.
-pub fn host_main<D: Disk, I: Source, O: Sink, E: Sink>(
+/// `run` works on the journal that `disk` holds. No command touches `spare`, or reads the clock. There is no command so
+/// far that serves links, so there have to be no gates.
+pub fn host_main<
+    D: Disk + Send + Drop,
+    G: Gate + Send + Drop,
+    C: Clock + Send + Drop,
+    I: Source,
+    O: Sink,
+    E: Sink,
+>(
     alloc: Global,
     words: &[String],
     input: &mut I,
@@ -48,7 +57,10 @@ pub fn host_main<D: Disk, I: Source, O: Sink, E: Sink>(
     err: &mut E,
     disk: D,
     spare: &mut D,
+    gates: &mut Vec<G>,
+    clock: C,
 ) -> Ended<D>
+    requires no_gates { gates.old.items ≡ [] }
     // The statuses of every command, each with its cause. "Where told": where the input tells its bytes.
     ensures usage { (result.status ≡ 2) ↔ (¬ (AreCommand (map string_bytes words.now))) }
     ensures read_fault { result.status ≡ 4 → Rose (I.source input.old).faults (I.source input.new).faults }
@@ -65,6 +77,7 @@ pub fn host_main<D: Disk, I: Source, O: Sink, E: Sink>(
     ensures untouched { result.status ≡ 2 → (input.new ≡ input.old) × (out.new ≡ out.old) × (result.disk ≡ disk) }
     ensures unread { (6 ≤ result.status) → (result.status ≤ 8) → (input.new ≡ input.old) × (out.new ≡ out.old) }
     ensures spare { spare.new ≡ spare.old }
+    ensures gates { gates.new ≡ gates.old }
     // What is told of every status but 3, 7 and 8.
     ensures told { (ending : Ending) → status_of ending ≡ result.status → (result.status ≢ 3) → (result.status ≢ 7)
         → (result.status ≢ 8) → Reports ending (E.sink err.old) (E.sink err.new) }
@@ -155,7 +168,8 @@ pub fn host_main<D: Disk, I: Source, O: Sink, E: Sink>(
         → (result.status ≡ status_of (ending_of why)) ⊎ (result.status ≡ 9)) }
 {
     let _ = spare;
-    let (ending, disk) = run_command(alloc, words, input, out, disk);
+    let _ = gates;
+    let (ending, disk, _clock) = run_command(alloc, words, input, out, disk, clock);
     report(ending, err);
     Ended {
         status: ending.status(),
@@ -163,13 +177,15 @@ pub fn host_main<D: Disk, I: Source, O: Sink, E: Sink>(
     }
 }
 
-fn run_command<D: Disk, I: Source, O: Sink>(
+// The clock is handed back with the disk.
+fn run_command<D: Disk, C: Clock, I: Source, O: Sink>(
     alloc: Global,
     words: &[String],
     input: &mut I,
     out: &mut O,
     disk: D,
-) -> (Ending, D)
+    clock: C,
+) -> (Ending, D, C)
     ensures usage { (result.0 ≡ Ending.Usage) ↔ (¬ (AreCommand (map string_bytes words.now))) }
     ensures award { (full : Bool) → AreAward full (map string_bytes words.now)
         → AwardEnds full result.0 (I.source input.old) (I.source input.new) (O.sink out.old) (O.sink out.new) }
@@ -192,21 +208,24 @@ fn run_command<D: Disk, I: Source, O: Sink>(
         (ReadsScriptAlone (I.source input.old).reads (I.source input.new).reads) }
     ensures untouched { result.0 ≡ Ending.Usage → (input.new ≡ input.old) × (out.new ≡ out.old) × (result.1 ≡ disk) }
     ensures unread { IsUnopened result.0 → (input.new ≡ input.old) × (out.new ≡ out.old) }
+    // No command reads the clock.
+    ensures clock { result.2 ≡ clock }
 {
     match read_command(alloc, words) {
-        Ok(command) => do_command(alloc, &command, input, out, disk),
-        Err(WordsFault::Usage) => (Ending::Usage, disk),
-        Err(WordsFault::OutOfMemory) => (Ending::OutOfMemory, disk),
+        Ok(command) => do_command(alloc, &command, input, out, disk, clock),
+        Err(WordsFault::Usage) => (Ending::Usage, disk, clock),
+        Err(WordsFault::OutOfMemory) => (Ending::OutOfMemory, disk, clock),
     }
 }
 
-fn do_command<D: Disk, I: Source, O: Sink>(
+fn do_command<D: Disk, C: Clock, I: Source, O: Sink>(
     alloc: Global,
     command: &Command,
     input: &mut I,
     out: &mut O,
     disk: D,
-) -> (Ending, D)
+    clock: C,
+) -> (Ending, D, C)
     ensures ends { EndsAs command.now result.0 (I.source input.old) (I.source input.new)
         (record { out = O.sink out.old; disk = D.disk disk })
         (record { out = O.sink out.new; disk = D.disk result.1 }) }
@@ -216,10 +235,14 @@ fn do_command<D: Disk, I: Source, O: Sink>(
     ensures reads { result.0 ≡ Ending.Done → WhereTold (I.source input.old).left
         (ReadsAlone command.now (I.source input.old).reads (I.source input.new).reads) }
     ensures unread { IsUnopened result.0 → (input.new ≡ input.old) × (out.new ≡ out.old) }
+    ensures clock { result.2 ≡ clock }
 {
     match command {
-        Command::Award { full } => (award(alloc, *full, input, out), disk),
-        Command::Run { operator } => run(alloc, operator, input, out, disk),
+        Command::Award { full } => (award(alloc, *full, input, out), disk, clock),
+        Command::Run { operator } => {
+            let (ending, disk) = run(alloc, operator, input, out, disk);
+            (ending, disk, clock)
+        }
     }
 }
 

@@ -4,7 +4,9 @@ use std::alloc::Global;
 use std::process::Abort;
 use std::test::Fail;
 use tb_disk::MemoryDisk;
+use tb_gates::{ListClock, ListGate};
 use tb_link::{TextSink, TextSource};
+use tb_units::Moment;
 
 const BOOK: &str = "offering 1000000000 1000000 91\n\
     n n1 100000000\n\
@@ -115,6 +117,11 @@ const WORKED: [(&str, &str); 5] = [
     ),
 ];
 
+/// What the clock gives.
+const NOON: Moment = Moment {
+    seconds: 1_730_700_000,
+};
+
 /// Bytes that a sink has room for.
 const ROOM: usize = 120_000;
 
@@ -183,8 +190,18 @@ pub fn run_on(
     let mut out = TextSink::new(alloc, ROOM, failing_writes.to_vec(alloc)?)?;
     let mut err = TextSink::new(alloc, ROOM, Vec::new(alloc))?;
     let mut spare = MemoryDisk::new(alloc, b"spare", 5, 0, Vec::new(alloc), 0)?;
+    let mut gates: Vec<ListGate> = Vec::new(alloc);
+    let clock = ListClock::new(Vec::from_array(alloc, [NOON])?);
     let ended = host_main(
-        alloc, &owned, &mut input, &mut out, &mut err, disk, &mut spare,
+        alloc,
+        &owned,
+        &mut input,
+        &mut out,
+        &mut err,
+        disk,
+        &mut spare,
+        &mut gates,
+        clock,
     );
     Ok(Outcome {
         status: ended.status,

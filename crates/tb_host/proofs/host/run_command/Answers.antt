@@ -41,6 +41,7 @@ returns-in-Ok g c =
           run-reads c.in-Ok.command _ operator _ _ _ are (c.do_command.ensures.reads is) asked;
       untouched = λ is. absurd (not-usage c.in-Ok.command _ _ _ _ _ ends is);
       unread = c.do_command.ensures.unread;
+      clock = c.do_command.ensures.clock;
     }
 
 pub returns-in-Err-OutOfMemory-clause-run : goal.returns-in-Err-OutOfMemory-clause-run
