@@ -42,7 +42,7 @@ use Rattle.tb_desk.specs.Replay.{Answer, IsExact, LeavesRefused}
 use Rattle.tb_desk.specs.Stands.{CrashesLeave, StandsForEither, StandsForHistory, payloads_of}
 use Rattle.tb_desk.specs.declared.fault.OpenFault.{OpenFault}
 use Rattle.tb_desk.specs.declared.fault.OpenFault.TheVariants as fault
-use Rattle.tb_host.specs.DiskRun.{CrashesKeep, HasGrown, StandsStill, Unopened}
+use Rattle.tb_host.specs.DiskRun.{CrashesKeep, HasGrown, Keeps, StandsStill, Stays, Unopened}
 use Rattle.tb_host.specs.Standings.{Standing}
 
 -- a file that stands for the payloads of another stands for its history
@@ -137,6 +137,26 @@ CrashesKeep-here old mid new first last recovered exact legal grown is harmless 
     (λ before now. Leaves (λ file. MayLeave before file ⊎ Begins file) before now) old mid new
     (λ before between now one two. keeps-past first.history last.history grown.0 before between now grown.1 legal one.1
     one.0 two) opening later
+
+-- a desk that was opened and closed keeps the last history
+pub Keeps-desk : (old mid new : DiskState) (first last : Standing) (recovered : ℕ)
+    → IfSome old.past (λ past. IsExact (contents_of past) (Ok first.history))
+    → first.doubt ≡ []
+    → first.faults ≡ old.faults
+    → recovered ≡ length first.history
+    → Told old mid IsHarmless
+    → HasGrown first last
+    → Stays last new
+    → CrashesLeave (IsBeginning last.history recovered) mid new
+    → Keeps old new first last
+Keeps-desk old mid new first last recovered exact sure count is harmless grown stays since =
+    let legal = IsLegal-first first last grown stays.legal in
+    record {
+      opened = record { stood = exact; legal = legal; sure = sure; count = count };
+      grown = grown;
+      stays = stays;
+      since = CrashesKeep-here old mid new first last recovered exact legal grown is harmless since;
+    }
 
 -- the desk wasn't opened
 pub Unopened-here : (why : OpenFault) (old new : DiskState)

@@ -130,3 +130,17 @@ status-unopened fault.DiskFault = omega arith
 status-unopened (fault.NotAJournal found) = omega arith
 status-unopened (fault.Damaged place) = omega arith
 status-unopened fault.OutOfMemory = omega arith
+
+-- a disk that wasn't opened isn't told of as words outside the command set are
+pub usage-unopened : (why : OpenFault) → ending_of why ≢ ending.Usage
+usage-unopened fault.DiskFault is = absurd (cc)
+usage-unopened (fault.NotAJournal found) is = absurd (cc)
+usage-unopened (fault.Damaged place) is = absurd (cc)
+usage-unopened fault.OutOfMemory is = absurd (cc)
+
+-- it is told of as a fault of the disk only where the disk failed
+pub disk-unopened : (why : OpenFault) → ending_of why ≡ ending.DiskFault → why ≡ fault.DiskFault
+disk-unopened fault.DiskFault is = refl
+disk-unopened (fault.NotAJournal found) is = absurd (cc)
+disk-unopened (fault.Damaged place) is = absurd (cc)
+disk-unopened fault.OutOfMemory is = absurd (cc)

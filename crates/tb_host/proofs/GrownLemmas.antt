@@ -28,6 +28,7 @@ use Rattle.tb_history.specs.Answer.{caller_of}
 use Rattle.tb_history.specs.Roster.{registrations}
 use Rattle.tb_host.specs.DiskRun.{HasGrown}
 use Rattle.tb_host.specs.Replies.{IsAnswered, IsReply, asked_by}
+use Rattle.tb_desk.specs.Desks.{replies_of}
 use Rattle.tb_host.specs.ScriptRun.{IsActedOn, IsRun}
 use Rattle.tb_host.specs.Standings.{Standing}
 use Rattle.tb_host.proofs.TurnLemmas.{HasGrown-turn, counts-grown}
@@ -61,8 +62,8 @@ reply-goes : (old new : Standing) (caller : List ℕ) (moment : Moment) (asked :
     → IsReply old caller moment asked reply new
     → Goes old new
 reply-goes old new caller moment (Ok (request.Message number message)) reply is = record {
-  grown = HasGrown-turn (asked_by caller moment number message) old new is.0 is.1;
-  counted = counts-grown is.0 old.faults new.faults is.1.counts;
+  grown = HasGrown-turn (asked_by caller moment number message) old new (replies_of is.0) is.1;
+  counted = counts-grown (replies_of is.0) old.faults new.faults is.1.counts;
 }
 reply-goes old new caller moment (Ok (request.Query query)) reply is = Goes-same old new is.1
 reply-goes old new caller moment (Err why) reply is = Goes-same old new is.1

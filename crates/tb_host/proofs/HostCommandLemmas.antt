@@ -1,171 +1,91 @@
 -- What a command did is what the words ask.
-use Rattle.std.proofs.Common.{◌≡◌, ◌≢◌, ℕ, List, Bool, inl, inr, subst, sym, ap, ◌∙◌, refl}
+use Rattle.std.proofs.Common.{◌≡◌, ◌≢◌, ◌⊎◌, ◌<◌, ℕ, List, Bool, inl, inr, subst, sym, ap, ◌∙◌, refl, arith}
 use Rattle.std.specs.Prelude.{Option}
 use Rattle.tb_link.specs.Counts.{Rose}
 use Rattle.tb_link.specs.Sources.{SourceState}
 use Rattle.tb_link.specs.Sinks.{SinkState}
-use Rattle.tb_desk.specs.declared.fault.OpenFault.{OpenFault}
-use Rattle.tb_desk.specs.declared.fault.OpenFault.TheVariants as fault
+use Rattle.tb_words.specs.Commands as all
+use Rattle.tb_words.specs.declared.command.Command.{Command}
+use Rattle.tb_words.specs.declared.command.Command.TheVariants as command
+use Rattle.tb_words.proofs.OneCommandLemmas.{one_command}
 use Rattle.tb_host.specs.AwardRun.{AwardEnds}
-use Rattle.tb_host.specs.Commands.{AreAward, AreRun, AreWordsOf}
-use Rattle.tb_host.specs.Endings.{IsUnopened, ending_of}
-use Rattle.tb_host.specs.HostRun.{EndsAs, ReadsAlone}
-use Rattle.tb_host.specs.Reads.{ReadsBookAlone, ReadsScriptAlone}
-use Rattle.tb_host.specs.RunEnds.{Devices, RunEnds, ScriptEnds}
+use Rattle.tb_host.specs.Commands.{OpenDisk}
+use Rattle.tb_host.specs.Endings.{IsUnopened, status_of}
+use Rattle.tb_host.specs.HostRun.{EndsAs, HasHistory, ReadsAlone}
+use Rattle.tb_host.specs.ReportRun.{Reads, ReadsDesk, ReportEnds, inquiry}
+use Rattle.tb_host.specs.RunEnds.{Devices, EndsOnDisk, NotBegun, RunEnds, ScriptEnds}
+use Rattle.tb_host.specs.Standings.{Standing}
 use Rattle.tb_host.specs.Told.{WhereTold}
-use Rattle.tb_host.specs.declared.command.Command.{Command}
-use Rattle.tb_host.specs.declared.command.Command.TheVariants as command
 use Rattle.tb_host.specs.declared.ending.Ending.{Ending}
 use Rattle.tb_host.specs.declared.ending.Ending.TheVariants as ending
-use Rattle.tb_host.proofs.CommandLemmas.{award-not_run, award-one, run-one}
+use Rattle.tb_host.specs.declared.report_command.Inquiry.{Inquiry}
+use Rattle.tb_host.proofs.EndingLemmas.{disk-unopened, usage-unopened}
+use Rattle.tb_host.proofs.ExactLemmas.{memory-not_begun}
+use Rattle.tb_host.proofs.HostLemmas.{on_desk_of}
 
--- words of `award` are that command
-pub award-words : (said : Command) (texts : List (List ℕ)) (full : Bool)
-    → AreWordsOf said texts
-    → AreAward full texts
-    → said ≡ command.Award full
-award-words (command.Award other) texts full are asked = ap command.Award (award-one other full texts are asked)
-award-words (command.Run operator) texts full are asked = absurd (award-not_run full operator texts asked are)
-
--- words of `award` are done as `award`
-pub award-ends : (said : Command) (texts : List (List ℕ)) (full : Bool) (ended : Ending) (input input' : SourceState)
+-- words that are of one command are done as that
+pub ends-asked : (said asked : Command) (texts : List (List ℕ)) (ended : Ending) (input input' : SourceState)
     (old new : Devices)
-    → AreWordsOf said texts
+    → all.AreWordsOf said texts
     → EndsAs said ended input input' old new
-    → AreAward full texts
-    → AwardEnds full ended input input' old.out new.out
-award-ends (command.Award other) texts full ended input input' old new are ends asked =
-    subst (λ (f : Bool). AwardEnds f ended input input' old.out new.out) (award-one other full texts are asked) ends
-award-ends (command.Run operator) texts full ended input input' old new are ends asked =
-    absurd (award-not_run full operator texts asked are)
+    → all.AreWordsOf asked texts
+    → EndsAs asked ended input input' old new
+ends-asked said asked texts ended input input' old new are ends are' =
+    subst (λ (c : Command). EndsAs c ended input input' old new) (one_command texts said asked are are') ends
 
--- and those of `run` as `run`
-pub run-ends : (said : Command) (texts : List (List ℕ)) (operator : List ℕ) (ended : Ending)
-    (input input' : SourceState) (old new : Devices)
-    → AreWordsOf said texts
-    → EndsAs said ended input input' old new
-    → AreRun operator texts
-    → RunEnds operator ended input input' old new
-run-ends (command.Award full) texts operator ended input input' old new are ends asked =
-    absurd (award-not_run full operator texts are asked)
-run-ends (command.Run other) texts operator ended input input' old new are ends asked =
-    subst (λ (o : List ℕ). RunEnds o ended input input' old new) (run-one other operator texts are asked) ends
-
--- where it is `award` nothing behind the book was read
-pub award-reads : (said : Command) (texts : List (List ℕ)) (full : Bool) (before after : ℕ) (told : Option (List ℕ))
-    → AreWordsOf said texts
+-- and read as much as that
+pub reads-asked : (said asked : Command) (texts : List (List ℕ)) (before after : ℕ) (told : Option (List ℕ))
+    → all.AreWordsOf said texts
     → WhereTold told (ReadsAlone said before after)
-    → AreAward full texts
-    → WhereTold told (ReadsBookAlone before after)
-award-reads (command.Award other) texts full before after told are reads asked = reads
-award-reads (command.Run operator) texts full before after told are reads asked =
-    absurd (award-not_run full operator texts asked are)
+    → all.AreWordsOf asked texts
+    → WhereTold told (ReadsAlone asked before after)
+reads-asked said asked texts before after told are reads are' =
+    subst (λ (c : Command). WhereTold told (ReadsAlone c before after)) (one_command texts said asked are are') reads
 
--- and where it is `run` nothing behind the script
-pub run-reads : (said : Command) (texts : List (List ℕ)) (operator : List ℕ) (before after : ℕ)
-    (told : Option (List ℕ))
-    → AreWordsOf said texts
-    → WhereTold told (ReadsAlone said before after)
-    → AreRun operator texts
-    → WhereTold told (ReadsScriptAlone before after)
-run-reads (command.Award full) texts operator before after told are reads asked =
-    absurd (award-not_run full operator texts are asked)
-run-reads (command.Run other) texts operator before after told are reads asked = reads
+-- a command on the disk that ended as none does on a desk wasn't begun
+not_begun_of : (Holds : Standing → Standing → Type 0) (ended : Ending) (input input' : SourceState) (old new : Devices)
+    → ((first last : Standing) → ¬ (Holds first last))
+    → EndsOnDisk Holds ended input input' old new
+    → NotBegun ended input input' old new
+not_begun_of Holds ended input input' old new none (inl ends) = absurd (none ends.0 ends.1 ends.3)
+not_begun_of Holds ended input input' old new none (inr not_begun) = not_begun
 
--- a script doesn't end as words outside the command set do, and no disk that wasn't opened does
-script-usage : (operator : List ℕ) (ended : Ending) (input input' : SourceState) (old new : Devices)
-    → RunEnds operator ended input input' old new
-    → ended ≢ ending.Usage
-script-usage operator ended input input' old new (inl ends) is =
-    subst (λ (e : Ending). ScriptEnds operator e input input' old.out new.out ends.0 ends.1) is ends.3
-script-usage operator ended input input' old new (inr not_begun) is =
-    not-usage_of not_begun.why (sym not_begun.ended_is ∙ is)
-  where
-    not-usage_of : (why : OpenFault) → ending_of why ≢ ending.Usage
-    not-usage_of fault.DiskFault other = cc
-    not-usage_of (fault.NotAJournal found) other = cc
-    not-usage_of (fault.Damaged place) other = cc
-    not-usage_of fault.OutOfMemory other = cc
+-- no script ends as words outside the command set do, or as a disk that wasn't opened
+script-not : (operator : List ℕ) (ended : Ending) (input input' : SourceState) (out out' : SinkState)
+    (first last : Standing)
+    → (ended ≡ ending.Usage) ⊎ IsUnopened ended
+    → ¬ (ScriptEnds operator ended input input' out out' first last)
+script-not operator ending.Done input input' out out' first last (inl is) ends = absurd (cc)
+script-not operator ending.Done input input' out out' first last (inr none) ends = none
+script-not operator ending.Usage input input' out out' first last is ends = ends
+script-not operator (ending.BadInput number) input input' out out' first last (inl is) ends = absurd (cc)
+script-not operator (ending.BadInput number) input input' out out' first last (inr none) ends = none
+script-not operator ending.ReadFault input input' out out' first last (inl is) ends = absurd (cc)
+script-not operator ending.ReadFault input input' out out' first last (inr none) ends = none
+script-not operator ending.WriteFault input input' out out' first last (inl is) ends = absurd (cc)
+script-not operator ending.WriteFault input input' out out' first last (inr none) ends = none
+script-not operator ending.DiskFault input input' out out' first last is ends = ends
+script-not operator (ending.NotAJournal found) input input' out out' first last is ends = ends
+script-not operator (ending.Damaged place) input input' out out' first last is ends = ends
+script-not operator ending.OutOfMemory input input' out out' first last (inl is) ends = absurd (cc)
+script-not operator ending.OutOfMemory input input' out out' first last (inr none) ends = none
 
--- no command ends as words outside the command set do
-pub not-usage : (said : Command) (ended : Ending) (input input' : SourceState) (old new : Devices)
-    → EndsAs said ended input input' old new
-    → ended ≢ ending.Usage
-not-usage (command.Award full) ended input input' old new ends is =
-    subst (λ (e : Ending). AwardEnds full e input input' old.out new.out) is ends
-not-usage (command.Run operator) ended input input' old new ends is =
-    script-usage operator ended input input' old new ends is
-
--- where a script tells of a read that failed the count of the input has risen
-pub run_read-rose : (operator : List ℕ) (input input' : SourceState) (old new : Devices)
-    → RunEnds operator ending.ReadFault input input' old new
-    → Rose input.faults input'.faults
-run_read-rose operator input input' old new (inl ends) = ends.3.0
-run_read-rose operator input input' old new (inr not_begun) = absurd (not_read not_begun.why not_begun.ended_is)
-  where
-    not_read : (why : OpenFault) → ending.ReadFault ≢ ending_of why
-    not_read fault.DiskFault is = cc
-    not_read (fault.NotAJournal found) is = cc
-    not_read (fault.Damaged place) is = cc
-    not_read fault.OutOfMemory is = cc
-
--- and of a write, the count of the output
-pub run_write-rose : (operator : List ℕ) (input input' : SourceState) (old new : Devices)
-    → RunEnds operator ending.WriteFault input input' old new
-    → Rose old.out.faults new.out.faults
-run_write-rose operator input input' old new (inl ends) = ends.3.0
-run_write-rose operator input input' old new (inr not_begun) = absurd (not_write not_begun.why not_begun.ended_is)
-  where
-    not_write : (why : OpenFault) → ending.WriteFault ≢ ending_of why
-    not_write fault.DiskFault is = cc
-    not_write (fault.NotAJournal found) is = cc
-    not_write (fault.Damaged place) is = cc
-    not_write fault.OutOfMemory is = cc
-
--- and where it tells of a disk that failed, the count of the disk
-pub run_disk-rose : (operator : List ℕ) (input input' : SourceState) (old new : Devices)
-    → RunEnds operator ending.DiskFault input input' old new
-    → Rose old.disk.faults new.disk.faults
-run_disk-rose operator input input' old new (inl ends) = absurd ends.3
-run_disk-rose operator input input' old new (inr not_begun) =
-    not_begun.unopened.rose (the_disk not_begun.why not_begun.ended_is)
-  where
-    the_disk : (why : OpenFault) → ending.DiskFault ≡ ending_of why → why ≡ fault.DiskFault
-    the_disk fault.DiskFault is = refl
-    the_disk (fault.NotAJournal found) is = absurd (cc)
-    the_disk (fault.Damaged place) is = absurd (cc)
-    the_disk fault.OutOfMemory is = absurd (cc)
-
--- the same of any command
-pub read-rose : (said : Command) (ended : Ending) (input input' : SourceState) (old new : Devices)
-    → EndsAs said ended input input' old new
-    → ended ≡ ending.ReadFault
-    → Rose input.faults input'.faults
-read-rose (command.Award full) ended input input' old new ends is =
-    (subst (λ (e : Ending). AwardEnds full e input input' old.out new.out) is ends).1
-read-rose (command.Run operator) ended input input' old new ends is =
-    run_read-rose operator input input' old new
-    (subst (λ (e : Ending). RunEnds operator e input input' old new) is ends)
-
-pub write-rose : (said : Command) (ended : Ending) (input input' : SourceState) (old new : Devices)
-    → EndsAs said ended input input' old new
-    → ended ≡ ending.WriteFault
-    → Rose old.out.faults new.out.faults
-write-rose (command.Award full) ended input input' old new ends is =
-    (subst (λ (e : Ending). AwardEnds full e input input' old.out new.out) is ends).0
-write-rose (command.Run operator) ended input input' old new ends is =
-    run_write-rose operator input input' old new
-    (subst (λ (e : Ending). RunEnds operator e input input' old new) is ends)
-
-pub disk-rose : (said : Command) (ended : Ending) (input input' : SourceState) (old new : Devices)
-    → EndsAs said ended input input' old new
-    → ended ≡ ending.DiskFault
-    → Rose old.disk.faults new.disk.faults
-disk-rose (command.Award full) ended input input' old new ends is =
-    absurd (subst (λ (e : Ending). AwardEnds full e input input' old.out new.out) is ends)
-disk-rose (command.Run operator) ended input input' old new ends is =
-    run_disk-rose operator input input' old new
-    (subst (λ (e : Ending). RunEnds operator e input input' old new) is ends)
+-- and no report
+report-not : (asked : Inquiry) (ended : Ending) (out out' : SinkState) (first last : Standing)
+    → (ended ≡ ending.Usage) ⊎ IsUnopened ended
+    → ¬ (ReadsDesk asked ended out out' first last)
+report-not asked ending.Done out out' first last (inl is) ends = absurd (cc)
+report-not asked ending.Done out out' first last (inr none) ends = none
+report-not asked ending.Usage out out' first last is ends = ends.1
+report-not asked (ending.BadInput number) out out' first last is ends = ends.1
+report-not asked ending.ReadFault out out' first last is ends = ends.1
+report-not asked ending.WriteFault out out' first last (inl is) ends = absurd (cc)
+report-not asked ending.WriteFault out out' first last (inr none) ends = none
+report-not asked ending.DiskFault out out' first last is ends = ends.1
+report-not asked (ending.NotAJournal found) out out' first last is ends = ends.1
+report-not asked (ending.Damaged place) out out' first last is ends = ends.1
+report-not asked ending.OutOfMemory out out' first last (inl is) ends = absurd (cc)
+report-not asked ending.OutOfMemory out out' first last (inr none) ends = none
 
 -- `award` opens no disk
 award-opens_none : (full : Bool) (ended : Ending) (input input' : SourceState) (out out' : SinkState)
@@ -181,13 +101,136 @@ award-opens_none full (ending.NotAJournal found) input input' out out' award non
 award-opens_none full (ending.Damaged place) input input' out out' award none = award
 award-opens_none full ending.OutOfMemory input input' out out' award none = none
 
--- `run` alone opens a disk
-pub opens-run : (said : Command) (texts : List (List ℕ)) (ended : Ending) (input input' : SourceState)
-    (old new : Devices)
-    → AreWordsOf said texts
+-- a command that ended as a disk that wasn't opened wasn't begun
+pub unopened-not_begun : (said : Command) (ended : Ending) (input input' : SourceState) (old new : Devices)
     → EndsAs said ended input input' old new
     → IsUnopened ended
-    → (operator : List ℕ) × AreRun operator texts
-opens-run (command.Award full) texts ended input input' old new are ends unopened =
-    absurd (award-opens_none full ended input input' old.out new.out ends unopened)
-opens-run (command.Run operator) texts ended input input' old new are ends unopened = (operator, are)
+    → NotBegun ended input input' old new
+unopened-not_begun (command.Award full) ended input input' old new ends is =
+    absurd (award-opens_none full ended input input' old.out new.out ends is)
+unopened-not_begun (command.Run operator) ended input input' old new ends is =
+    not_begun_of (ScriptEnds operator ended input input' old.out new.out) ended input input' old new
+    (λ first last. script-not operator ended input input' old.out new.out first last (inr is)) ends
+unopened-not_begun (command.Serve operator port workers links) ended input input' old new ends is = absurd ends
+unopened-not_begun (command.Import operator caller) ended input input' old new ends is = absurd ends
+unopened-not_begun (command.Report operator caller asked csv) ended input input' old new ends is =
+    not_begun_of (ReadsDesk (inquiry operator caller asked csv) ended old.out new.out) ended input input' old new
+    (λ first last. report-not (inquiry operator caller asked csv) ended old.out new.out first last (inr is)) ends.ends
+unopened-not_begun (command.Trial seed count) ended input input' old new ends is = absurd ends
+
+-- it is one of those that open the disk
+pub unopened-opens : (said : Command) (texts : List (List ℕ)) (ended : Ending) (input input' : SourceState)
+    (old new : Devices)
+    → all.AreWordsOf said texts
+    → EndsAs said ended input input' old new
+    → IsUnopened ended
+    → OpenDisk texts
+unopened-opens (command.Award full) texts ended input input' old new are ends is =
+    absurd (award-opens_none full ended input input' old.out new.out ends is)
+unopened-opens (command.Run operator) texts ended input input' old new are ends is = inl (operator, are)
+unopened-opens (command.Serve operator port workers links) texts ended input input' old new are ends is = absurd ends
+unopened-opens (command.Import operator caller) texts ended input input' old new are ends is = absurd ends
+unopened-opens (command.Report operator caller asked csv) texts ended input input' old new are ends is =
+    inr (inquiry operator caller asked csv, are)
+unopened-opens (command.Trial seed count) texts ended input input' old new are ends is = absurd ends
+
+-- no command ends as words outside the command set do
+not-usage_at : (said : Command) (input input' : SourceState) (old new : Devices)
+    → ¬ (EndsAs said ending.Usage input input' old new)
+not-usage_at (command.Award full) input input' old new ends = ends
+not-usage_at (command.Run operator) input input' old new ends =
+    let Holds = ScriptEnds operator ending.Usage input input' old.out new.out in
+    let none = not_begun_of Holds ending.Usage input input' old new
+    (λ first last. script-not operator ending.Usage input input' old.out new.out first last (inl refl)) ends in
+    usage-unopened none.why (sym none.ended_is)
+not-usage_at (command.Serve operator port workers links) input input' old new ends = ends
+not-usage_at (command.Import operator caller) input input' old new ends = ends
+not-usage_at (command.Report operator caller asked csv) input input' old new ends =
+    let Holds = ReadsDesk (inquiry operator caller asked csv) ending.Usage old.out new.out in
+    let none = not_begun_of Holds ending.Usage input input' old new
+    (λ first last. report-not (inquiry operator caller asked csv) ending.Usage old.out new.out first last (inl refl))
+    ends.ends in
+    usage-unopened none.why (sym none.ended_is)
+not-usage_at (command.Trial seed count) input input' old new ends = ends
+
+-- where a command tells of a read that failed the count of the input has risen
+read-rose_at : (said : Command) (input input' : SourceState) (old new : Devices)
+    → EndsAs said ending.ReadFault input input' old new
+    → Rose input.faults input'.faults
+read-rose_at (command.Award full) input input' old new ends = ends.1
+read-rose_at (command.Run operator) input input' old new ends =
+    (on_desk_of (ScriptEnds operator ending.ReadFault input input' old.out new.out) ending.ReadFault input input' old new
+    (omega arith) ends).3.0
+read-rose_at (command.Serve operator port workers links) input input' old new ends = absurd ends
+read-rose_at (command.Import operator caller) input input' old new ends = absurd ends
+read-rose_at (command.Report operator caller asked csv) input input' old new ends =
+    absurd ((on_desk_of (ReadsDesk (inquiry operator caller asked csv) ending.ReadFault old.out new.out)
+    ending.ReadFault input input' old new (omega arith) ends.ends).3.1)
+read-rose_at (command.Trial seed count) input input' old new ends = absurd ends
+
+-- of a write that failed, the count of the output
+write-rose_at : (said : Command) (input input' : SourceState) (old new : Devices)
+    → EndsAs said ending.WriteFault input input' old new
+    → Rose old.out.faults new.out.faults
+write-rose_at (command.Award full) input input' old new ends = ends.0
+write-rose_at (command.Run operator) input input' old new ends =
+    (on_desk_of (ScriptEnds operator ending.WriteFault input input' old.out new.out) ending.WriteFault input input' old
+    new (omega arith) ends).3.0
+write-rose_at (command.Serve operator port workers links) input input' old new ends = absurd ends
+write-rose_at (command.Import operator caller) input input' old new ends = absurd ends
+write-rose_at (command.Report operator caller asked csv) input input' old new ends =
+    (on_desk_of (ReadsDesk (inquiry operator caller asked csv) ending.WriteFault old.out new.out) ending.WriteFault input
+    input' old new (omega arith) ends.ends).3.1.3
+write-rose_at (command.Trial seed count) input input' old new ends = absurd ends
+
+-- and of a disk that failed, the count of the disk
+disk-rose_at : (said : Command) (input input' : SourceState) (old new : Devices)
+    → EndsAs said ending.DiskFault input input' old new
+    → Rose old.disk.faults new.disk.faults
+disk-rose_at said input input' old new ends =
+    let none = unopened-not_begun said ending.DiskFault input input' old new ends tt in
+    none.unopened.rose (disk-unopened none.why (sym none.ended_is))
+
+-- the same of the ending that a command has
+module _ (said : Command) (ended : Ending) (input input' : SourceState) (old new : Devices)
+    (ends : EndsAs said ended input input' old new) where
+  ends_at : (at : Ending) → ended ≡ at → EndsAs said at input input' old new
+  ends_at at is = subst (λ (e : Ending). EndsAs said e input input' old new) is ends
+
+  pub not-usage : ended ≢ ending.Usage
+  not-usage is = not-usage_at said input input' old new (ends_at ending.Usage is)
+
+  pub read-rose : ended ≡ ending.ReadFault → Rose input.faults input'.faults
+  read-rose is = read-rose_at said input input' old new (ends_at ending.ReadFault is)
+
+  pub write-rose : ended ≡ ending.WriteFault → Rose old.out.faults new.out.faults
+  write-rose is = write-rose_at said input input' old new (ends_at ending.WriteFault is)
+
+  pub disk-rose : ended ≡ ending.DiskFault → Rose old.disk.faults new.disk.faults
+  disk-rose is = disk-rose_at said input input' old new (ends_at ending.DiskFault is)
+
+-- a report over a disk that stands for a legal history is answered
+reads-complete : (asked : Inquiry) (ended : Ending) (out out' : SinkState) (first last : Standing)
+    → ReadsDesk asked ended out out' first last
+    → ¬ (Rose out.faults out'.faults)
+    → (status_of ended ≡ 0) ⊎ (status_of ended ≡ 9)
+reads-complete asked ending.Done out out' first last ends no_write = inl refl
+reads-complete asked ending.Usage out out' first last ends no_write = absurd ends.1
+reads-complete asked (ending.BadInput number) out out' first last ends no_write = absurd ends.1
+reads-complete asked ending.ReadFault out out' first last ends no_write = absurd ends.1
+reads-complete asked ending.WriteFault out out' first last ends no_write = absurd (no_write ends.1.3)
+reads-complete asked ending.DiskFault out out' first last ends no_write = absurd ends.1
+reads-complete asked (ending.NotAJournal found) out out' first last ends no_write = absurd ends.1
+reads-complete asked (ending.Damaged place) out out' first last ends no_write = absurd ends.1
+reads-complete asked ending.OutOfMemory out out' first last ends no_write = inr refl
+
+pub report-complete : (asked : Inquiry) (ended : Ending) (input input' : SourceState) (old new : Devices)
+    → ReportEnds asked ended input input' old new
+    → HasHistory old.disk
+    → ¬ (Rose old.out.faults new.out.faults)
+    → ¬ (Rose old.disk.faults new.disk.faults)
+    → (status_of ended ≡ 0) ⊎ (status_of ended ≡ 9)
+report-complete asked ended input input' old new report stands no_write no_fault = elim report.ends [
+  | inl ends ↦ reads-complete asked ended old.out new.out ends.0 ends.1 ends.3 no_write
+  | inr none ↦ inr (memory-not_begun ended input input' old new none stands no_fault)
+]

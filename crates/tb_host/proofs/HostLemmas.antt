@@ -12,7 +12,7 @@ use Rattle.tb_host.specs.Books.{IsBadLine}
 use Rattle.tb_host.specs.DiskRun.{OnDesk}
 use Rattle.tb_host.specs.Endings.{Tells, ending_of, message_of, status_of}
 use Rattle.tb_host.specs.HostRun.{Reports, TellsLine, ToldUnopened}
-use Rattle.tb_host.specs.RunEnds.{BrokenOff, CutOff, Devices, Finished, LeftOff, NotBegun, RunEnds, ScriptEnds, Stopped}
+use Rattle.tb_host.specs.RunEnds.{BrokenOff, CutOff, Devices, EndsOnDisk, Finished, LeftOff, NotBegun, RunEnds, ScriptEnds, Stopped}
 use Rattle.tb_host.specs.Standings.{Standing}
 use Rattle.tb_host.specs.Told.{WhereTold}
 use Rattle.tb_host.specs.declared.ending.Ending.{Ending}
@@ -59,13 +59,14 @@ award-silent full (ending.NotAJournal found) input input' out out' ends done wro
 award-silent full (ending.Damaged place) input input' out out' ends done wrote = absurd ends
 award-silent full ending.OutOfMemory input input' out out' ends done wrote = ends
 
--- below 6 a script ended on a desk
-script_of : (operator : List ℕ) (ended : Ending) (input input' : SourceState) (old new : Devices)
+-- below 6 a command on the disk ended on a desk
+pub on_desk_of : (Holds : Standing → Standing → Type 0) (ended : Ending) (input input' : SourceState)
+    (old new : Devices)
     → status_of ended < 6
-    → RunEnds operator ended input input' old new
-    → OnDesk old.disk new.disk (ScriptEnds operator ended input input' old.out new.out)
-script_of operator ended input input' old new low (inl ends) = ends
-script_of operator ended input input' old new low (inr not_begun) =
+    → EndsOnDisk Holds ended input input' old new
+    → OnDesk old.disk new.disk Holds
+on_desk_of Holds ended input input' old new low (inl ends) = ends
+on_desk_of Holds ended input input' old new low (inr not_begun) =
     absurd (omega (arith, ap status_of not_begun.ended_is, status-unopened not_begun.why))
 
 -- what is so of where a script stood is so with less
@@ -84,7 +85,7 @@ module _ (operator : List ℕ) (ended : Ending) (input input' : SourceState) (ol
       → status_of other < 6
       → OnDesk old.disk new.disk (ScriptEnds operator other input input' old.out new.out)
   run_as other is low =
-      script_of operator other input input' old new low
+      on_desk_of (ScriptEnds operator other input input' old.out new.out) other input input' old new low
       (subst (λ (e : Ending). RunEnds operator e input input' old new) is ends)
 
   -- at 0 the script was acted on
@@ -129,41 +130,20 @@ module _ (operator : List ℕ) (ended : Ending) (input input' : SourceState) (ol
       ⊎ NotBegun ending.OutOfMemory input input' old new
   run-at_9 is = subst (λ (e : Ending). RunEnds operator e input input' old new) (memory-at_9 ended is) ends
 
-  -- at 6, 7 and 8 the disk wasn't opened, and why is told
-  pub run-at_unopened : (err err' : SinkState)
-      → 6 ≤ status_of ended
-      → status_of ended ≤ 8
-      → Reports ended err err'
-      → ToldUnopened (status_of ended) old.disk new.disk err err'
-  run-at_unopened err err' least most told = the_reason ends
-    where
-      tells : (why : OpenFault) → Reports (ending_of why) err err' → Tells err err' (message_of (ending_of why))
-      tells fault.DiskFault reports = reports
-      tells (fault.NotAJournal found) reports = reports
-      tells (fault.Damaged place) reports = reports
-      tells fault.OutOfMemory reports = reports
-
-      no_script : (e : Ending) (first last : Standing)
-          → 6 ≤ status_of e
-          → status_of e ≤ 8
-          → ScriptEnds operator e input input' old.out new.out first last
-          → ⊥
-      no_script ending.Done first last low high script = absurd (omega (arith, low))
-      no_script ending.Usage first last low high script = script
-      no_script (ending.BadInput number) first last low high script = absurd (omega (arith, low))
-      no_script ending.ReadFault first last low high script = absurd (omega (arith, low))
-      no_script ending.WriteFault first last low high script = absurd (omega (arith, low))
-      no_script ending.DiskFault first last low high script = script
-      no_script (ending.NotAJournal found) first last low high script = script
-      no_script (ending.Damaged place) first last low high script = script
-      no_script ending.OutOfMemory first last low high script = absurd (omega (arith, high))
-
-      the_reason : RunEnds operator ended input input' old new
-          → ToldUnopened (status_of ended) old.disk new.disk err err'
-      the_reason (inl script) = absurd (no_script ended script.0 script.1 least most script.3)
-      the_reason (inr not_begun) = record {
-        why = not_begun.why;
-        status_is = ap status_of not_begun.ended_is;
-        told = tells not_begun.why (subst (λ (e : Ending). Reports e err err') not_begun.ended_is told);
-        unopened = not_begun.unopened;
-      }
+-- a disk that wasn't opened, and why, is told
+pub unopened-told : (ended : Ending) (input input' : SourceState) (old new : Devices) (err err' : SinkState)
+    → NotBegun ended input input' old new
+    → Reports ended err err'
+    → ToldUnopened (status_of ended) old.disk new.disk err err'
+unopened-told ended input input' old new err err' not_begun told = record {
+  why = not_begun.why;
+  status_is = ap status_of not_begun.ended_is;
+  told = tells not_begun.why (subst (λ (e : Ending). Reports e err err') not_begun.ended_is told);
+  unopened = not_begun.unopened;
+}
+  where
+    tells : (why : OpenFault) → Reports (ending_of why) err err' → Tells err err' (message_of (ending_of why))
+    tells fault.DiskFault reports = reports
+    tells (fault.NotAJournal found) reports = reports
+    tells (fault.Damaged place) reports = reports
+    tells fault.OutOfMemory reports = reports

@@ -32,3 +32,4 @@ mod SealedLemmas
 mod ExactLemmas
 mod HostCommandLemmas
 mod AnswerLemmas
+mod ReportLemmas

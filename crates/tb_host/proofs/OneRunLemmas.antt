@@ -39,6 +39,7 @@ use Rattle.std.specs.List.{after_first, before_first}
 use Rattle.tb_host.specs.Fields.{is_blank}
 use Rattle.tb_host.specs.Replies.{Asks, IsAnswered, IsReply, IsTold, asked_by, reading_text, refusal_of, refused}
 use Rattle.tb_host.specs.ScriptLines.{SpellsAsk}
+use Rattle.tb_desk.specs.Desks.{replies_of}
 use Rattle.tb_host.specs.ScriptRun.{IsActedOn, IsRun}
 use Rattle.tb_host.specs.Standings.{Standing}
 use Rattle.tb_host.specs.Turns.{MakesTurn, turn_text}
@@ -228,7 +229,7 @@ pub record Sure (stands : Standing) : Type 0 where
 -- a turn without a fault is a function of the history: its verdict, and where the script stands then
 turn-one : (caller : List ℕ) (moment : Moment) (number : ℕ) (message : Message) (old new : Standing) (answer : Reply)
     → Sure old
-    → MakesTurn (asked_by caller moment number message) old new answer
+    → MakesTurn (asked_by caller moment number message) old new (replies_of answer)
     → new.faults ≡ old.faults
     → (answer ≡ turned.Verdict (verdict_on old.history caller number (running old.history moment) message))
     × (new ≡ stands_at (old.history ++ group old.history (asked_by caller moment number message)) [] old.faults)

@@ -28,12 +28,8 @@ use Rattle.std.specs.Str.Lines.{lines}
 use Rattle.tb_link.specs.Counts.{Rose}
 use Rattle.tb_link.specs.Sources.{SourceState}
 use Rattle.tb_link.specs.Sinks.{SinkState}
-use Rattle.tb_disk.specs.Disks.{DiskState}
-use Rattle.tb_desk.specs.declared.fault.OpenFault.{OpenFault}
-use Rattle.tb_desk.specs.declared.fault.OpenFault.TheVariants as fault
 use Rattle.tb_units.specs.Bytes.{blank}
-use Rattle.tb_host.specs.DiskRun.{Unopened}
-use Rattle.tb_host.specs.Endings.{ending_of, status_of}
+use Rattle.tb_host.specs.Endings.{status_of}
 use Rattle.tb_host.specs.Fields.{is_blank}
 use Rattle.tb_host.specs.Grammars.{LeavesGrammar}
 use Rattle.tb_host.specs.HostRun.{HasHistory}
@@ -44,7 +40,7 @@ use Rattle.tb_host.specs.Scripts.{BeginsWithScript, HasScript, LeavesScript, May
 use Rattle.tb_host.specs.Standings.{Standing}
 use Rattle.tb_host.specs.declared.ending.Ending.{Ending}
 use Rattle.tb_host.specs.declared.ending.Ending.TheVariants as ending
-use Rattle.tb_host.proofs.ExactLemmas.{refused-not}
+use Rattle.tb_host.proofs.ExactLemmas.{memory-not_begun}
 use Rattle.tb_host.proofs.ScriptLineLemmas.{NoBlank-moment, has_blank}
 
 -- a line that asks isn't the end
@@ -100,19 +96,6 @@ HasScript-stays texts number has leaves =
     (sym begins.lines_are ∙ stops.lines_are)
     (subst (λ (n : ℕ). LeavesGrammar MayStand n stops.rest) (omega arith) stops.bad) (omega (arith, begins.few))
 
--- a disk that stands for a legal history is opened, unless it fails or memory runs out
-opened-of : (why : OpenFault) (old new : DiskState)
-    → HasHistory old
-    → Unopened why old new
-    → ¬ (Rose old.faults new.faults)
-    → why ≡ fault.OutOfMemory
-opened-of fault.DiskFault old new stands unopened no_fault = absurd (no_fault (unopened.rose refl))
-opened-of (fault.NotAJournal found) old new stands unopened no_fault =
-    absurd (refused-not (fault.NotAJournal found) old new stands unopened ((λ is. (cc)), (λ is. (cc))))
-opened-of (fault.Damaged place) old new stands unopened no_fault =
-    absurd (refused-not (fault.Damaged place) old new stands unopened ((λ is. (cc)), (λ is. (cc))))
-opened-of fault.OutOfMemory old new stands unopened no_fault = refl
-
 -- a script over such a disk is answered
 script-complete : (operator : List ℕ) (ended : Ending) (input input' : SourceState) (out out' : SinkState)
     (first last : Standing) (text : List ℕ)
@@ -156,8 +139,7 @@ pub run-complete : (operator : List ℕ) (ended : Ending) (input input' : Source
 run-complete operator ended input input' old new text (inl ends) stands told script no_read no_write no_fault =
     script-complete operator ended input input' old.out new.out ends.0 ends.1 text ends.3 told script no_read no_write
 run-complete operator ended input input' old new text (inr not_begun) stands told script no_read no_write no_fault =
-    inr (ap status_of (not_begun.ended_is
-    ∙ ap ending_of (opened-of not_begun.why old.disk new.disk stands not_begun.unopened no_fault)))
+    inr (memory-not_begun ended input input' old new not_begun stands no_fault)
 
 -- an input that leaves the grammar of scripts is refused
 script-refused : (operator : List ℕ) (ended : Ending) (input input' : SourceState) (out out' : SinkState)
@@ -210,8 +192,7 @@ run-refused operator ended input input' old new text number (inl ends) stands to
     no_write
 run-refused operator ended input input' old new text number
     (inr not_begun) stands told leaves no_read no_write no_fault =
-    inr (ap status_of (not_begun.ended_is
-    ∙ ap ending_of (opened-of not_begun.why old.disk new.disk stands not_begun.unopened no_fault)))
+    inr (memory-not_begun ended input input' old new not_begun stands no_fault)
 
 -- lines that ask up to an end are those of one text
 asking-one : (asking : List (List ℕ)) (last : List ℕ) (rest asking' : List (List ℕ)) (last' : List ℕ)

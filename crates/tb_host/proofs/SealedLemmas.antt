@@ -19,6 +19,7 @@ use Rattle.tb_history.proofs.SealedLemmas.{IsLegal-sealed}
 use Rattle.tb_core.proofs.AnswerLemmas.{IsReading-own}
 use Rattle.tb_desk.specs.declared.reply.Reply.{Reply}
 use Rattle.tb_desk.specs.declared.reply.Reply.TheVariants as turned
+use Rattle.tb_desk.specs.Desks.{replies_of}
 use Rattle.tb_host.specs.Replies.{IsReply, IsSaid, IsSealed, IsTold, asked_by}
 use Rattle.tb_host.specs.Standings.{Standing}
 use Rattle.tb_host.specs.Turns.{MakesTurn, told, turn_text, unavailable}
@@ -38,7 +39,7 @@ verdict-own history caller moment other number message legal still agree =
 -- the reply to it
 message-sealed : (old new : Standing) (caller : List ℕ) (moment other : Moment) (number : ℕ) (message : Message)
     (answer : Reply) (reply : List ℕ)
-    → MakesTurn (asked_by caller moment number message) old new answer
+    → MakesTurn (asked_by caller moment number message) old new (replies_of answer)
     → reply ≡ turn_text answer
     → IsLegal old.history
     → old.doubt ≡ []

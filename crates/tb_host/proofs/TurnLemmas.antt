@@ -56,14 +56,14 @@ stands-is one history doubt faults histories doubts counts =
     ∙ (ap (λ (d : List Entry). stands_at history d one.faults) doubts
     ∙ ap (λ (f : ℕ). stands_at history doubt f) counts)
 
--- the count after an answer, by its clauses
-counts-of : (answer : Reply) (old new : ℕ)
+-- the count after replies, by its clauses
+counts-of : (replies : Replies) (old new : ℕ)
     → NeverFalls old new
-    → (answer ≡ turned.DiskFault → Rose old new)
-    → (answer ≢ turned.DiskFault → new ≡ old)
-    → Counts answer old new
-counts-of (turned.Verdict said) old new never fault no_fault = no_fault (λ is. absurd (cc))
-counts-of turned.DiskFault old new never fault no_fault = (never.never_falls, fault refl)
+    → (replies ≡ None → Rose old new)
+    → (replies ≢ None → new ≡ old)
+    → Counts replies old new
+counts-of (Some verdicts) old new never fault no_fault = no_fault (λ is. absurd (cc))
+counts-of None old new never fault no_fault = (never.never_falls, fault refl)
 
 -- the history on which a verdict stands has what was in doubt, or not
 resolved-of : (gate : ℕ) (disk : DiskState) (asked : Asked) (old new : Held) (replies : Replies) (at : List Entry)
@@ -79,20 +79,33 @@ way-of : (gate : ℕ) (disk : DiskState) (asked : Asked) (old new : Held) (repli
 way-of gate disk asked old new replies at (inl stuck) = inl stuck.0
 way-of gate disk asked old new replies at (inr resolved) = inr resolved.1
 
--- a turn of the desk, in the words of scripts
-pub MakesTurn-of : (gate : ℕ) (disk : DiskState) (asked : Asked) (old new : Standing) (answer : Reply)
+-- a turn of the desk, in the words of commands
+pub MakesTurn-of : (gate : ℕ) (disk : DiskState) (asked : Asked) (old new : Standing) (replies : Replies)
+    → Turns gate disk asked (held_at old) (held_at new) replies
+    → NeverFalls old.faults new.faults
+    → (replies ≡ None → Rose old.faults new.faults)
+    → (replies ≢ None → new.faults ≡ old.faults)
+    → MakesTurn asked old new replies
+MakesTurn-of gate disk asked old new replies turns never fault no_fault = record {
+  at = turns.at;
+  resolved = resolved-of gate disk asked (held_at old) (held_at new) replies turns.at turns.turn;
+  legal = turns.legal;
+  way = way-of gate disk asked (held_at old) (held_at new) replies turns.at turns.turn;
+  counts = counts-of replies old.faults new.faults never fault no_fault;
+}
+
+-- the same of a single message
+pub MakesTurn-single : (gate : ℕ) (disk : DiskState) (asked : Asked) (old new : Standing) (answer : Reply)
     → Turns gate disk asked (held_at old) (held_at new) (replies_of answer)
     → NeverFalls old.faults new.faults
     → (answer ≡ turned.DiskFault → Rose old.faults new.faults)
     → (answer ≢ turned.DiskFault → new.faults ≡ old.faults)
-    → MakesTurn asked old new answer
-MakesTurn-of gate disk asked old new answer turns never fault no_fault = record {
-  at = turns.at;
-  resolved = resolved-of gate disk asked (held_at old) (held_at new) (replies_of answer) turns.at turns.turn;
-  legal = turns.legal;
-  way = way-of gate disk asked (held_at old) (held_at new) (replies_of answer) turns.at turns.turn;
-  counts = counts-of answer old.faults new.faults never fault no_fault;
-}
+    → MakesTurn asked old new (replies_of answer)
+MakesTurn-single gate disk asked old new (turned.Verdict said) turns never fault no_fault =
+    MakesTurn-of gate disk asked old new (Some (said ∷ [])) turns never (λ is. absurd (cc))
+    (λ some. no_fault (λ is. absurd (cc)))
+MakesTurn-single gate disk asked old new turned.DiskFault turns never fault no_fault =
+    MakesTurn-of gate disk asked old new None turns never (λ is. fault refl) (λ some. absurd (some refl))
 
 -- the history on which a verdict stands begins with the one before
 at-grown : (old at doubt : List Entry)
@@ -117,17 +130,17 @@ way-grown old at asked before after replies is begins (inr (inl answered)) = (
 way-grown old at asked before after replies is begins (inr (inr doubted)) = (begins.0, doubted.same ∙ begins.1)
 
 -- a turn keeps the history
-pub HasGrown-turn : (asked : Asked) (old new : Standing) (answer : Reply)
-    → MakesTurn asked old new answer
+pub HasGrown-turn : (asked : Asked) (old new : Standing) (replies : Replies)
+    → MakesTurn asked old new replies
     → HasGrown old new
-HasGrown-turn asked old new answer turn =
-    way-grown old.history turn.at asked (held_at old) (held_at new) (replies_of answer) refl
+HasGrown-turn asked old new replies turn =
+    way-grown old.history turn.at asked (held_at old) (held_at new) replies refl
     (at-grown old.history turn.at old.doubt turn.resolved) turn.way
 
 -- the count after it isn't below the one before
-pub counts-grown : (answer : Reply) (old new : ℕ) → Counts answer old new → old ≤ new
-counts-grown (turned.Verdict said) old new counts = omega (arith, counts)
-counts-grown turned.DiskFault old new counts = counts.0
+pub counts-grown : (replies : Replies) (old new : ℕ) → Counts replies old new → old ≤ new
+counts-grown (Some verdicts) old new counts = omega (arith, counts)
+counts-grown None old new counts = counts.0
 
 -- where nothing is in doubt, the verdict stands on the history
 at-sure : (old at doubt : List Entry) → doubt ≡ [] → (at ≡ old) ⊎ (at ≡ old ++ doubt) → at ≡ old
@@ -152,7 +165,7 @@ gave-of at asked old new said (inr (inr doubted)) = let wrong = doubted.failed i
 -- so where nothing was in doubt it is that on the history
 pub Gave-sure : (asked : Asked) (old new : Standing) (said : Verdict)
     → old.doubt ≡ []
-    → MakesTurn asked old new (turned.Verdict said)
+    → MakesTurn asked old new (Some (said ∷ []))
     → Gave old.history asked said new
 Gave-sure asked old new said sure turn =
     subst (λ (at : List Entry). Gave at asked said new) (at-sure old.history turn.at old.doubt sure turn.resolved)

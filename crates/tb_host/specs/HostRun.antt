@@ -11,23 +11,28 @@ use Rattle.tb_desk.specs.declared.fault.OpenFault.{OpenFault}
 use Rattle.tb_host.specs.DiskRun.{Unopened}
 use Rattle.tb_host.specs.AwardRun.{AwardEnds}
 use Rattle.tb_host.specs.Reads.{ReadsBookAlone, ReadsScriptAlone}
+use Rattle.tb_host.specs.ReportRun.{ReportEnds, inquiry}
 use Rattle.tb_host.specs.RunEnds.{Devices, RunEnds}
-use Rattle.tb_host.specs.declared.command.Command.{Command}
-use Rattle.tb_host.specs.declared.command.Command.TheVariants as command
+use Rattle.tb_words.specs.declared.command.Command.{Command}
+use Rattle.tb_words.specs.declared.command.Command.TheVariants as command
 use Rattle.tb_host.specs.Told.{WhereTold}
 use Rattle.tb_host.specs.Endings.{status_of, ending_of, message_of, bad_input_message, Tells}
 use Rattle.tb_host.specs.declared.ending.Ending.{Ending}
 use Rattle.tb_host.specs.declared.ending.Ending.TheVariants as ending
 
--- how a command ends
+-- how a command ends, of those that there are so far
 abbrev pub EndsAs : Command → Ending → SourceState → SourceState → Devices → Devices → Type 0
 EndsAs (command.Award full) ended input input' old new = AwardEnds full ended input input' old.out new.out
 EndsAs (command.Run operator) ended input input' old new = RunEnds operator ended input input' old new
+EndsAs (command.Report operator caller asked csv) ended input input' old new =
+    ReportEnds (inquiry operator caller asked csv) ended input input' old new
+EndsAs other ended input input' old new = ⊥
 
--- a text was read up to the line that ends what the command reads, and nothing behind that
+-- a text was read up to the line that ends what the command reads, and nothing behind that; a report reads nothing
 abbrev pub ReadsAlone : Command → ℕ → ℕ → List ℕ → Type 0
 ReadsAlone (command.Award full) before after text = ReadsBookAlone before after text
 ReadsAlone (command.Run operator) before after text = ReadsScriptAlone before after text
+ReadsAlone other before after text = after ≡ before
 
 -- where all was done nothing is told, and else the message of the ending
 abbrev pub Reports : Ending → SinkState → SinkState → Type 0
@@ -38,6 +43,10 @@ Reports ended err err' = Tells err err' (message_of ended)
 abbrev pub TellsLine : Option (List ℕ) → (ℕ → List ℕ → Type 0) → SinkState → SinkState → Type 0
 TellsLine told Holds err err' =
     (number : ℕ) × Tells err err' (bad_input_message number) × WhereTold told (Holds number)
+
+-- a command ended so, with this status, and told so
+abbrev pub EndsWith : ℕ → SinkState → SinkState → (Ending → Type 0) → Type 0
+EndsWith status err err' Holds = (ended : Ending) × (status_of ended ≡ status) × Reports ended err err' × Holds ended
 
 -- at this status the desk wasn't opened, for a reason that is told
 pub record ToldUnopened (status : ℕ) (disk disk' : DiskState) (err err' : SinkState) : Type 0 where

@@ -27,4 +27,5 @@ pub mod Scripts
 pub mod DiskRun
 pub mod RunEnds
 pub mod ScriptSteps
+pub mod ReportRun
 pub mod HostRun

@@ -38,6 +38,7 @@ use Rattle.tb_history.specs.Readings.{IsReading}
 use Rattle.tb_history.specs.Roster.{is_published}
 use Rattle.tb_history.specs.Verdict.{verdict_on}
 use Rattle.tb_history.specs.declared.reading.Reading.{Reading}
+use Rattle.tb_desk.specs.Desks.{replies_of}
 use Rattle.tb_desk.specs.Turn.{Asked}
 use Rattle.tb_desk.specs.declared.reply.Reply.{Reply}
 use Rattle.tb_report.specs.Lines.{text_of}
@@ -89,7 +90,9 @@ asked_by caller moment number message =
 -- is what the history says, which changes nothing.
 abbrev pub IsReply : Standing → List ℕ → Moment → Result Request Refusal → List ℕ → Standing → Type 0
 IsReply old caller moment (Ok (request.Message number message)) reply new =
-    (answer : Reply) × MakesTurn (asked_by caller moment number message) old new answer × (reply ≡ turn_text answer)
+    (answer : Reply)
+    × MakesTurn (asked_by caller moment number message) old new (replies_of answer)
+    × (reply ≡ turn_text answer)
 IsReply old caller moment (Ok (request.Query query)) reply new =
     IsSaid old.history caller moment (Ok (request.Query query)) reply × (new ≡ old)
 IsReply old caller moment (Err why) reply new = IsSaid old.history caller moment (Err why) reply × (new ≡ old)

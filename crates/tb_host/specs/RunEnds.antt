@@ -1,4 +1,4 @@
--- What the command `run` does to its input, its output and its disk.
+-- What the command `run` does to its input, its output and its disk, and how each command on the disk ends.
 use Rattle.std.specs.Prelude.{◌≡◌, ◌⊎◌, ℕ, List, ◌∷◌, ◌++◌, Option, Some, None, position}
 use Rattle.std.specs.Str.Lines.{lines}
 use Rattle.tb_link.specs.Counts.{Rose}
@@ -102,8 +102,12 @@ pub record NotBegun (ended : Ending) (input input' : SourceState) (old new : Dev
   pub unread : input' ≡ input
   pub silent : new.out ≡ old.out
 
+-- how a command on the disk ends: so, on a desk that was opened, or the desk wasn't opened
+abbrev pub EndsOnDisk : (Standing → Standing → Type 0) → Ending → SourceState → SourceState → Devices → Devices
+    → Type 0
+EndsOnDisk Holds ended input input' old new = OnDesk old.disk new.disk Holds ⊎ NotBegun ended input input' old new
+
 -- how the command ends: a script ended on a desk, or none was opened
 abbrev pub RunEnds : List ℕ → Ending → SourceState → SourceState → Devices → Devices → Type 0
 RunEnds operator ended input input' old new =
-    OnDesk old.disk new.disk (ScriptEnds operator ended input input' old.out new.out)
-    ⊎ NotBegun ended input input' old new
+    EndsOnDisk (ScriptEnds operator ended input input' old.out new.out) ended input input' old new

@@ -1,12 +1,11 @@
--- What one message makes of the history and the group in doubt.
-use Rattle.std.specs.Prelude.{◌≡◌, ◌⊎◌, ℕ, ◌≤◌, List, [], ◌∷◌, ◌++◌, codes}
+-- What one turn makes of the history and the group in doubt.
+use Rattle.std.specs.Prelude.{◌≡◌, ◌⊎◌, ℕ, ◌≤◌, List, [], ◌∷◌, ◌++◌, Some, None, codes}
 use Rattle.tb_units.specs.Bytes.{line_feed}
 use Rattle.tb_link.specs.Counts.{Rose}
 use Rattle.tb_message.specs.declared.message.Entry.{Entry}
 use Rattle.tb_message.specs.declared.verdict.Verdict.{Verdict}
 use Rattle.tb_message.specs.Verdicts.{verdict_text}
 use Rattle.tb_history.specs.Legal.{IsLegal}
-use Rattle.tb_desk.specs.Desks.{replies_of}
 use Rattle.tb_desk.specs.Turn.{Asked, Held, Replies, IsStuck, IsAnswered, IsDoubted}
 use Rattle.tb_desk.specs.declared.reply.Reply.{Reply}
 use Rattle.tb_desk.specs.declared.reply.Reply.TheVariants as turned
@@ -31,16 +30,16 @@ abbrev pub GoesOneWay : List Entry → Asked → Held → Held → Replies → T
 GoesOneWay at asked old new replies =
     IsStuck old new replies ⊎ IsAnswered at asked new replies ⊎ IsDoubted at asked new replies
 
--- a disk fault is answered only where the count of faults rose, or stands at its last value, and a verdict where it
+-- a disk fault is answered only where the count of faults rose, or stands at its last value, and verdicts where it
 -- stayed
-abbrev pub Counts : Reply → ℕ → ℕ → Type 0
-Counts (turned.Verdict said) old new = new ≡ old
-Counts turned.DiskFault old new = (old ≤ new) × Rose old new
+abbrev pub Counts : Replies → ℕ → ℕ → Type 0
+Counts (Some verdicts) old new = new ≡ old
+Counts None old new = (old ≤ new) × Rose old new
 
--- A message makes one turn. Its verdict stands on the history, or on that with the group that was in doubt.
-pub record MakesTurn (asked : Asked) (old new : Standing) (answer : Reply) : Type 0 where
+-- Messages make one turn. Their verdicts stand on the history, or on that with the group that was in doubt.
+pub record MakesTurn (asked : Asked) (old new : Standing) (replies : Replies) : Type 0 where
   pub at : List Entry
   pub resolved : (at ≡ old.history) ⊎ (at ≡ old.history ++ old.doubt)
   pub legal : IsLegal at
-  pub way : GoesOneWay at asked (held_at old) (held_at new) (replies_of answer)
-  pub counts : Counts answer old.faults new.faults
+  pub way : GoesOneWay at asked (held_at old) (held_at new) replies
+  pub counts : Counts replies old.faults new.faults

@@ -1,5 +1,6 @@
 //! What a line of a script is answered, and what it does to the history.
 ghost use Rattle.std.specs.Prelude.{◌≡◌, Some, IfOk, OnErr};
+ghost use Rattle.tb_desk.specs.Desks.{replies_of};
 ghost use Rattle.tb_message.specs.Spelling.{IsNumbered};
 ghost use Rattle.tb_history.specs.Answer.{caller_of, query_refusal};
 ghost use Rattle.tb_history.specs.Roster.{registrations};
@@ -39,8 +40,8 @@ pub fn answer<D: Disk>(
     }
 }
 
-// The submitter whose key it is, or the operator.
-fn caller<D: Disk>(desk: &Desk<D>, operator: &Ident, key: &Key) -> Option<Ident>
+/// The submitter whose key it is, or the operator.
+pub fn caller<D: Disk>(desk: &Desk<D>, operator: &Ident, key: &Key) -> Option<Ident>
     ensures { result ≡ caller_of (registrations desk.now.host.history) operator.now key.now }
 {
     match key {
@@ -83,8 +84,8 @@ fn submit<D: Disk>(
     message: &Message,
 ) -> Result<tb_desk::Reply, OutOfMemory>
     requires { IsNumbered number message.now }
-    ensures turn { IfOk result (MakesTurn (asked_by caller.now moment number message.now)
-        (standing (D.disk desk.old.disk) desk.old) (standing (D.disk desk.new.disk) desk.new)) }
+    ensures turn { IfOk result (λ answer. MakesTurn (asked_by caller.now moment number message.now)
+        (standing (D.disk desk.old.disk) desk.old) (standing (D.disk desk.new.disk) desk.new) (replies_of answer)) }
     ensures stays { OnErr result (standing (D.disk desk.new.disk) desk.new ≡ standing (D.disk desk.old.disk) desk.old) }
     ensures kept { (desk.new.opened ≡ desk.old.opened) × (desk.new.recovered ≡ desk.old.recovered) }
 {

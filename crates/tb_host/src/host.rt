@@ -8,24 +8,31 @@ ghost use Rattle.tb_desk.specs.declared.fault.OpenFault.{OpenFault};
 ghost use Rattle.tb_host.specs.AwardRun.{AwardEnds, Printed, PrintedPrefix};
 ghost use Rattle.tb_host.specs.Told.{WhereTold};
 ghost use Rattle.tb_host.specs.Books.{HasBadLine, HasBook, IsBadLine};
-ghost use Rattle.tb_host.specs.Commands.{AreAward, AreCommand, AreRun};
+ghost use Rattle.tb_host.specs.Commands.{AreAward, AreCommand, AreReport, AreRun, IsThere, OpenDisk};
 ghost use Rattle.tb_host.specs.DiskRun.{OnDesk};
 ghost use Rattle.tb_host.specs.Endings.{ending_of, status_of, IsUnopened};
 ghost use Rattle.tb_host.specs.Reads.{ReadsBookAlone, ReadsScriptAlone};
 ghost use Rattle.tb_host.specs.RunEnds.{BrokenOff, CutOff, Finished, LeftOff, NotBegun, RunEnds, Stopped};
+ghost use Rattle.tb_host.specs.ReportRun as spec;
+ghost use Rattle.tb_host.specs.ReportRun.{ReportEnds};
 ghost use Rattle.tb_host.specs.Scripts.{HasScript, LeavesScript};
-ghost use Rattle.tb_host.specs.HostRun.{EndsAs, HasHistory, ReadsAlone, Reports, TellsLine, ToldUnopened};
+ghost use Rattle.tb_host.specs.HostRun.{EndsAs, EndsWith, HasHistory, ReadsAlone, Reports, TellsLine, ToldUnopened};
 ghost use Rattle.tb_host.specs.declared.ending.Ending.{Ending};
+ghost use Rattle.tb_words.specs.declared.command.Command.TheVariants as every;
 
 use crate::award_command::award;
-use crate::command::{Command, read_command};
+use crate::command::read_command;
 use crate::ending::Ending;
+use crate::report_command::{Inquiry, report};
 use crate::run_command::run;
+use crate::sender::Sender;
 use std::alloc::Global;
 use tb_disk::Disk;
 use tb_gates::{Clock, Gate};
 use tb_link::{Sink, Source};
-use tb_words::WordsFault;
+use tb_message::{Key, Query};
+use tb_units::Ident;
+use tb_words::{Command, WordsFault};
 
 /// How the program ended: its status, and the disk, handed back.
 #[derive(Drop)]
@@ -40,7 +47,7 @@ pub struct Ended<D: Disk> {
 /// 4: the input failed. 5: the output failed. 6: the disk failed while it was opened. 7: the disk holds no journal; what
 /// it begins with is told. 8: the journal is damaged; the place is told. 9: out of memory.
 ///
-/// `run` works on the journal that `disk` holds. No command touches `spare`, or reads the clock. There is no command so
+/// `run` and `report` work on the journal that `disk` holds. No command touches `spare`, or reads the clock. There is no command so
 /// far that serves links, so there have to be no gates.
 pub fn host_main<
     D: Disk + Send + Drop,
@@ -66,8 +73,7 @@ pub fn host_main<
     ensures read_fault { result.status ≡ 4 → Rose (I.source input.old).faults (I.source input.new).faults }
     ensures write_fault { result.status ≡ 5 → Rose (O.sink out.old).faults (O.sink out.new).faults }
     ensures disk_fault { result.status ≡ 6 → Rose (D.disk disk).faults (D.disk result.disk).faults }
-    ensures opens { (6 ≤ result.status) → (result.status ≤ 8)
-        → (operator : List ℕ) × AreRun operator (map string_bytes words.now) }
+    ensures opens { (6 ≤ result.status) → (result.status ≤ 8) → OpenDisk (map string_bytes words.now) }
     ensures others { (result.status ≢ 0) → (result.status ≢ 2) → (result.status < 3) ⊎ (8 < result.status)
         → result.status ≡ 9 }
     // At 0 no fault was passed over.
@@ -161,16 +167,30 @@ pub fn host_main<
         → (¬ (Rose (O.sink out.old).faults (O.sink out.new).faults))
         → (¬ (Rose (D.disk disk).faults (D.disk result.disk).faults))
         → (result.status ≡ 3) ⊎ (result.status ≡ 9)) }
-    ensures run_refused_file { (operator : List ℕ) → AreRun operator (map string_bytes words.now)
+    ensures refused_file { OpenDisk (map string_bytes words.now)
         → IfSome (D.disk disk).past (λ past. (why : OpenFault) → IsTrueOf (contents_of past) (Err why)
         → SpeaksOfFile (Err why)
         → (¬ (Rose (D.disk disk).faults (D.disk result.disk).faults))
         → (result.status ≡ status_of (ending_of why)) ⊎ (result.status ≡ 9)) }
+
+    // `report` answers one query by the history that the file stood for, and that it stands for still. It reads no
+    // input.
+    ensures report { (asked : Inquiry) → AreReport asked (map string_bytes words.now)
+        → EndsWith result.status (E.sink err.old) (E.sink err.new) (λ ended. ReportEnds asked ended
+        (I.source input.old) (I.source input.new)
+        (record { out = O.sink out.old; disk = D.disk disk })
+        (record { out = O.sink out.new; disk = D.disk result.disk })) }
+    // Over a disk that stands for a legal history it is answered, unless an object failed or memory ran out.
+    ensures report_complete { (asked : Inquiry) → AreReport asked (map string_bytes words.now)
+        → HasHistory (D.disk disk)
+        → (¬ (Rose (O.sink out.old).faults (O.sink out.new).faults))
+        → (¬ (Rose (D.disk disk).faults (D.disk result.disk).faults))
+        → (result.status ≡ 0) ⊎ (result.status ≡ 9) }
 {
     let _ = spare;
     let _ = gates;
     let (ending, disk, _clock) = run_command(alloc, words, input, out, disk, clock);
-    report(ending, err);
+    tell(ending, err);
     Ended {
         status: ending.status(),
         disk,
@@ -194,7 +214,14 @@ fn run_command<D: Disk, C: Clock, I: Source, O: Sink>(
         → RunEnds operator result.0 (I.source input.old) (I.source input.new)
         (record { out = O.sink out.old; disk = D.disk disk })
         (record { out = O.sink out.new; disk = D.disk result.1 }) }
-    ensures opens { IsUnopened result.0 → (operator : List ℕ) × AreRun operator (map string_bytes words.now) }
+    ensures report { (asked : Inquiry) → AreReport asked (map string_bytes words.now)
+        → ReportEnds asked result.0 (I.source input.old) (I.source input.new)
+        (record { out = O.sink out.old; disk = D.disk disk })
+        (record { out = O.sink out.new; disk = D.disk result.1 }) }
+    ensures opens { IsUnopened result.0 → OpenDisk (map string_bytes words.now) }
+    ensures unopened { IsUnopened result.0 → NotBegun result.0 (I.source input.old) (I.source input.new)
+        (record { out = O.sink out.old; disk = D.disk disk })
+        (record { out = O.sink out.new; disk = D.disk result.1 }) }
     ensures faults { (result.0 ≡ Ending.ReadFault → Rose (I.source input.old).faults (I.source input.new).faults)
         × (result.0 ≡ Ending.WriteFault → Rose (O.sink out.old).faults (O.sink out.new).faults)
         × (result.0 ≡ Ending.DiskFault → Rose (D.disk disk).faults (D.disk result.1).faults) }
@@ -226,10 +253,11 @@ fn do_command<D: Disk, C: Clock, I: Source, O: Sink>(
     disk: D,
     clock: C,
 ) -> (Ending, D, C)
+    requires { IsThere command.now }
     ensures ends { EndsAs command.now result.0 (I.source input.old) (I.source input.new)
         (record { out = O.sink out.old; disk = D.disk disk })
         (record { out = O.sink out.new; disk = D.disk result.1 }) }
-    ensures award_disk { (full : Bool) → command.now ≡ Command.Award full → result.1 ≡ disk }
+    ensures award_disk { (full : Bool) → command.now ≡ every.Award full → result.1 ≡ disk }
     ensures no_fault { result.0 ≡ Ending.Done → ((I.source input.new).faults ≡ (I.source input.old).faults)
         × ((O.sink out.new).faults ≡ (O.sink out.old).faults) }
     ensures reads { result.0 ≡ Ending.Done → WhereTold (I.source input.old).left
@@ -243,11 +271,39 @@ fn do_command<D: Disk, C: Clock, I: Source, O: Sink>(
             let (ending, disk) = run(alloc, operator, input, out, disk);
             (ending, disk, clock)
         }
+        Command::Report {
+            operator,
+            key,
+            query,
+            csv,
+        } => {
+            let asked = inquiry(operator, key, query, *csv);
+            let (ending, disk) = report(alloc, &asked, out, disk);
+            (ending, disk, clock)
+        }
+        // There are no such commands so far.
+        Command::Serve { .. } | Command::Import { .. } | Command::Trial { .. } => {
+            (Ending::Usage, disk, clock)
+        }
+    }
+}
+
+fn inquiry(operator: &Ident, key: &Key, query: &Query, csv: bool) -> Inquiry
+    ensures { result ≡ spec.inquiry operator.now key.now query.now csv }
+{
+    let sender = Sender {
+        operator: *operator,
+        key: *key,
+    };
+    Inquiry {
+        sender,
+        query: *query,
+        csv,
     }
 }
 
 // Nothing can be told of a failure to tell.
-fn report<E: Sink>(ending: Ending, err: &mut E)
+fn tell<E: Sink>(ending: Ending, err: &mut E)
     ensures { Reports ending (E.sink err.old) (E.sink err.new) }
 {
     if ending != Ending::Done {

@@ -19,10 +19,14 @@ mod laws;
 mod line_end;
 mod read_line;
 mod reply;
+mod report_command;
+#[cfg(test)]
+mod report_tests;
 mod run_command;
 #[cfg(test)]
 mod run_tests;
 mod script_line;
+mod sender;
 #[cfg(test)]
 mod tests;
 mod text_book;

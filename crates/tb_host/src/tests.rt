@@ -193,15 +193,7 @@ pub fn run_on(
     let mut gates: Vec<ListGate> = Vec::new(alloc);
     let clock = ListClock::new(Vec::from_array(alloc, [NOON])?);
     let ended = host_main(
-        alloc,
-        &owned,
-        &mut input,
-        &mut out,
-        &mut err,
-        disk,
-        &mut spare,
-        &mut gates,
-        clock,
+        alloc, &owned, &mut input, &mut out, &mut err, disk, &mut spare, &mut gates, clock,
     );
     Ok(Outcome {
         status: ended.status,

@@ -1,9 +1,10 @@
 use Rattle.std.proofs.Common.{subst, sym}
+use Rattle.tb_desk.specs.Desks.{replies_of}
 use Rattle.tb_host.specs.Replies.{asked_by}
 use Rattle.tb_host.specs.Standings.{Standing, standing}
 use Rattle.tb_host.specs.Turns.{MakesTurn}
 use Rattle.tb_host.proofs.AnswerLemmas.{standing-same}
-use Rattle.tb_host.proofs.TurnLemmas.{MakesTurn-of}
+use Rattle.tb_host.proofs.TurnLemmas.{MakesTurn-single}
 use Rattle.tb_host.proofs.answer.submit.Goals as goal
 
 pub returns-clause-turn : goal.returns-clause-turn
@@ -14,8 +15,8 @@ returns-clause-turn g c =
     let new = standing (g.D.Disk.disk c.submit.new.self.disk) c.submit.new.self in
     subst (λ (old : Standing). MakesTurn (asked_by c.args.caller.now c.args.moment c.args.number c.args.message.now)
     old new
-    c.submit.result) same
-    (MakesTurn-of room.gate (g.D.Disk.disk room.disk)
+    (replies_of c.submit.result)) same
+    (MakesTurn-single room.gate (g.D.Disk.disk room.disk)
     (asked_by c.args.caller.now c.args.moment c.args.number c.args.message.now)
     (standing (g.D.Disk.disk room.disk) room) new c.submit.result c.submit.ensures.turn c.submit.ensures.count
     c.submit.ensures.fault c.submit.ensures.no_fault)

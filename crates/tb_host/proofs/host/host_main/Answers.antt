@@ -1,8 +1,9 @@
-use Rattle.std.proofs.Common.{ℕ, ◌<◌, ◌≤◌, ◌⊎◌, ◌∙◌, subst, sym, arith}
+use Rattle.std.proofs.Common.{inl, inr, ℕ, ◌<◌, ◌≤◌, ◌⊎◌, ◌∙◌, subst, sym, arith}
 use Rattle.tb_host.specs.Endings.{status_of}
 use Rattle.tb_host.proofs.CompleteLemmas.{award_complete, award_refused}
 use Rattle.tb_host.proofs.EndingLemmas.{disk-at_6, done-at_0, other-at, read-at_4, unopened-at, usage-at_2, write-at_5}
-use Rattle.tb_host.proofs.ExactLemmas.{run-refused_file, told_past}
+use Rattle.tb_host.proofs.ExactLemmas.{disk-refused_file, told_past}
+use Rattle.tb_host.proofs.HostCommandLemmas.{report-complete}
 use Rattle.tb_host.proofs.HostLemmas.{
   award-at_0,
   award-at_3,
@@ -13,7 +14,7 @@ use Rattle.tb_host.proofs.HostLemmas.{
   run-at_4,
   run-at_5,
   run-at_9,
-  run-at_unopened,
+  unopened-told,
 }
 use Rattle.tb_host.proofs.ScriptLawLemmas.{run-complete, run-refused}
 use Rattle.tb_host.proofs.host.host_main.Goals as goal
@@ -64,7 +65,7 @@ returns-clause-reads g c = λ is.
 pub returns-clause-bad_input : goal.returns-clause-bad_input
 returns-clause-bad_input g c = λ is full award.
     award-at_3 full c.run_command-ending.result.0 _ _ _ _ (c.run_command-ending.ensures.award full award) _ _
-    (sym c.status.ensures ∙ is) c.report.ensures
+    (sym c.status.ensures ∙ is) c.tell.ensures
 
 pub returns-clause-prefix : goal.returns-clause-prefix
 returns-clause-prefix g c = λ is full award.
@@ -98,7 +99,7 @@ returns-clause-run_reads g c = λ is.
 pub returns-clause-run_bad_input : goal.returns-clause-run_bad_input
 returns-clause-run_bad_input g c = λ is operator run.
     run-at_3 operator c.run_command-ending.result.0 _ _ _ _ (c.run_command-ending.ensures.run operator run) _ _
-    (sym c.status.ensures ∙ is) c.report.ensures
+    (sym c.status.ensures ∙ is) c.tell.ensures
 
 pub returns-clause-run_cut_off : goal.returns-clause-run_cut_off
 returns-clause-run_cut_off g c = λ is operator run.
@@ -119,10 +120,8 @@ pub returns-clause-run_unopened : goal.returns-clause-run_unopened
 returns-clause-run_unopened g c = λ least most.
     let low : 6 ≤ status_of c.run_command-ending.result.0 = omega (arith, least, c.status.ensures) in
     let high : status_of c.run_command-ending.result.0 ≤ 8 = omega (arith, most, c.status.ensures) in
-    let opens = c.run_command-ending.ensures.opens (unopened-at c.run_command-ending.result.0 low high) in
-    rw c.status.ensures (run-at_unopened opens.0 c.run_command-ending.result.0 _ _ _ _
-    (c.run_command-ending.ensures.run opens.0 opens.1)
-    _ _ low high c.report.ensures)
+    rw c.status.ensures (unopened-told c.run_command-ending.result.0 _ _ _ _ _ _
+    (c.run_command-ending.ensures.unopened (unopened-at c.run_command-ending.result.0 low high)) c.tell.ensures)
 
 pub returns-clause-run_complete : goal.returns-clause-run_complete
 returns-clause-run_complete g c = λ operator run stands text told script no_read no_write no_fault.
@@ -134,8 +133,24 @@ returns-clause-run_refused g c = λ operator run stands text told number leaves 
     rw c.status.ensures (run-refused operator c.run_command-ending.result.0 _ _ _ _ text number
     (c.run_command-ending.ensures.run operator run) stands told leaves no_read no_write no_fault)
 
-pub returns-clause-run_refused_file : goal.returns-clause-run_refused_file
-returns-clause-run_refused_file g c = λ operator run.
-    told_past _ (g.D.Disk.disk c.args.disk).past (λ past told why is_true speaks no_fault.
-    rw c.status.ensures (run-refused_file operator c.run_command-ending.result.0 _ _ _ _ past why
-    (c.run_command-ending.ensures.run operator run) told is_true speaks no_fault))
+pub returns-clause-refused_file : goal.returns-clause-refused_file
+returns-clause-refused_file g c = λ opens.
+    told_past _ (g.D.Disk.disk c.args.disk).past (λ past told why is_true speaks no_fault. elim opens [
+      | inl run ↦ rw c.status.ensures (disk-refused_file _ c.run_command-ending.result.0 _ _ _ _ past why
+          (c.run_command-ending.ensures.run run.0 run.1) told is_true speaks no_fault)
+      | inr report ↦ rw c.status.ensures (disk-refused_file _ c.run_command-ending.result.0 _ _ _ _ past why
+          (c.run_command-ending.ensures.report report.0 report.1).ends told is_true speaks no_fault)
+    ])
+
+pub returns-clause-report : goal.returns-clause-report
+returns-clause-report g c = λ asked are. (
+  c.run_command-ending.result.0,
+  sym c.status.ensures,
+  c.tell.ensures,
+  c.run_command-ending.ensures.report asked are,
+)
+
+pub returns-clause-report_complete : goal.returns-clause-report_complete
+returns-clause-report_complete g c = λ asked are stands no_write no_fault.
+    rw c.status.ensures (report-complete asked c.run_command-ending.result.0 _ _ _ _
+    (c.run_command-ending.ensures.report asked are) stands no_write no_fault)

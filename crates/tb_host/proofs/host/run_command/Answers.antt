@@ -1,55 +1,57 @@
-use Rattle.std.proofs.Common.{◌≡◌, ◌∙◌, ap, refl, inl, inr}
+use Rattle.std.proofs.Common.{◌≡◌, ◌∙◌, ap, refl, inr}
 use Rattle.tb_desk.specs.declared.fault.OpenFault.TheVariants as fault
-use Rattle.tb_host.proofs.CommandLemmas.{AreCommand-words}
-use Rattle.tb_host.proofs.DiskLemmas.{Unopened-untouched}
+use Rattle.tb_words.specs.declared.command.Command.TheVariants as command
+use Rattle.tb_words.proofs.OneCommandLemmas.{one_command}
 use Rattle.tb_host.proofs.HostCommandLemmas.{
-  award-ends,
-  award-reads,
-  award-words,
   disk-rose,
+  ends-asked,
   not-usage,
-  opens-run,
   read-rose,
-  run-ends,
-  run-reads,
+  reads-asked,
+  unopened-not_begun,
+  unopened-opens,
   write-rose,
 }
+use Rattle.tb_host.proofs.ReportLemmas.{NotBegun-memory, ReportEnds-memory}
 use Rattle.tb_host.proofs.host.run_command.Goals as goal
 
 pub returns-in-Ok : goal.returns-in-Ok
 returns-in-Ok g c =
-    let are = c.in-Ok.ensures.command in
+    let said = c.in-Ok.command in
+    let are = c.in-Ok.ensures.command.1 in
     let ends = c.do_command.ensures.ends in
     record {
       usage = (
-        λ is. absurd (not-usage c.in-Ok.command _ _ _ _ _ ends is),
-        λ none. absurd (none (AreCommand-words c.in-Ok.command _ are)),
+        λ is. absurd (not-usage said _ _ _ _ _ ends is),
+        λ none. absurd (none (said, c.in-Ok.ensures.command.0, c.in-Ok.ensures.command.1)),
       );
-      award = λ full asked. award-ends c.in-Ok.command _ full _ _ _ _ _ are ends asked;
-      award_disk = λ full asked. c.do_command.ensures.award_disk full (award-words c.in-Ok.command _ full are asked);
-      run = λ operator asked. run-ends c.in-Ok.command _ operator _ _ _ _ _ are ends asked;
-      opens = λ unopened. opens-run c.in-Ok.command _ _ _ _ _ _ are ends unopened;
+      award = λ full asked. ends-asked said (command.Award full) _ _ _ _ _ _ are ends asked;
+      award_disk = λ full asked. c.do_command.ensures.award_disk full (one_command _ said (command.Award full) are asked);
+      run = λ operator asked. ends-asked said (command.Run operator) _ _ _ _ _ _ are ends asked;
+      report = λ asked is.
+          ends-asked said (command.Report asked.sender.operator asked.sender.key asked.query asked.csv) _ _ _ _ _ _ are ends is;
+      opens = λ unopened. unopened-opens said _ _ _ _ _ _ are ends unopened;
+      unopened = λ unopened. unopened-not_begun said _ _ _ _ _ ends unopened;
       faults = (
-        λ is. read-rose c.in-Ok.command _ _ _ _ _ ends is,
-        λ is. write-rose c.in-Ok.command _ _ _ _ _ ends is,
-        λ is. disk-rose c.in-Ok.command _ _ _ _ _ ends is,
+        read-rose said _ _ _ _ _ ends,
+        write-rose said _ _ _ _ _ ends,
+        disk-rose said _ _ _ _ _ ends,
       );
       no_fault = c.do_command.ensures.no_fault;
       reads = λ is full asked.
-          award-reads c.in-Ok.command _ full _ _ _ are (c.do_command.ensures.reads is) asked;
+          reads-asked said (command.Award full) _ _ _ _ are (c.do_command.ensures.reads is) asked;
       run_reads = λ is operator asked.
-          run-reads c.in-Ok.command _ operator _ _ _ are (c.do_command.ensures.reads is) asked;
-      untouched = λ is. absurd (not-usage c.in-Ok.command _ _ _ _ _ ends is);
+          reads-asked said (command.Run operator) _ _ _ _ are (c.do_command.ensures.reads is) asked;
+      untouched = λ is. absurd (not-usage said _ _ _ _ _ ends is);
       unread = c.do_command.ensures.unread;
       clock = c.do_command.ensures.clock;
     }
 
 pub returns-in-Err-OutOfMemory-clause-run : goal.returns-in-Err-OutOfMemory-clause-run
 returns-in-Err-OutOfMemory-clause-run g c = λ operator asked.
-    inr (record {
-      why = fault.OutOfMemory;
-      ended_is = refl;
-      unopened = Unopened-untouched (g.D.Disk.disk c.args.disk);
-      unread = refl;
-      silent = refl;
-    })
+    inr (NotBegun-memory (g.I.Source.source c.args.input.now) (g.O.Sink.sink c.args.out.now) (g.D.Disk.disk c.args.disk))
+
+pub returns-in-Err-OutOfMemory-clause-report : goal.returns-in-Err-OutOfMemory-clause-report
+returns-in-Err-OutOfMemory-clause-report g c = λ asked is.
+    ReportEnds-memory asked (g.I.Source.source c.args.input.now) (g.O.Sink.sink c.args.out.now)
+    (g.D.Disk.disk c.args.disk)

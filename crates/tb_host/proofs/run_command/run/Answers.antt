@@ -3,9 +3,8 @@ use Rattle.std.specs.Prelude.{ℕ}
 use Rattle.tb_disk.specs.Disks.{DiskState}
 use Rattle.tb_desk.specs.Desks.{IsBeginning}
 use Rattle.tb_desk.specs.Stands.{CrashesLeave}
-use Rattle.tb_host.specs.Endings.{IsUnopened}
 use Rattle.tb_host.specs.Standings.{Standing, standing}
-use Rattle.tb_host.proofs.DiskLemmas.{CrashesKeep-here, IsLegal-first, Unopened-here}
+use Rattle.tb_host.proofs.DiskLemmas.{Keeps-desk, Unopened-here}
 use Rattle.tb_host.proofs.run_command.run.Goals as goal
 
 pub returns-in-Ok-clause-ends : goal.returns-in-Ok-clause-ends
@@ -16,7 +15,6 @@ returns-in-Ok-clause-ends g c =
     standing (g.D.Disk.disk c.act_on_script-ending.new.desk.disk) c.act_on_script-ending.new.desk in
     let done = c.act_on_script-ending.ensures in
     let disk = c.into_disk.ensures in
-    let legal = IsLegal-first first last done.grown disk.legal in
     let since : CrashesLeave (IsBeginning last.history c.act_on_script-ending.new.desk.recovered)
     (g.D.Disk.disk c.in-Ok.desk.disk) (g.D.Disk.disk c.into_disk.result) =
     subst (λ (opened : DiskState). CrashesLeave (IsBeginning last.history c.act_on_script-ending.new.desk.recovered)
@@ -24,25 +22,16 @@ returns-in-Ok-clause-ends g c =
     inl (
       first,
       last,
-      record {
-        opened = record {
-          stood = begun.exact;
-          legal = legal;
-          sure = begun.made.0;
-          count = begun.no_fault;
-        };
-        grown = done.grown;
-        stays = record {
-          legal = disk.legal;
-          accepted = disk.accepted;
-          stands = disk.stands;
-          leaves = disk.leaves;
-          count = ap (λ (d : DiskState). d.faults) (ap g.D.Disk.disk (sym disk.disk));
-        };
-        since = CrashesKeep-here (g.D.Disk.disk c.args.disk) (g.D.Disk.disk c.in-Ok.desk.disk)
-            (g.D.Disk.disk c.into_disk.result) first last c.act_on_script-ending.new.desk.recovered begun.exact legal
-            done.grown (done.kept.1 ∙ begun.made.1) begun.crash since;
-      },
+      Keeps-desk (g.D.Disk.disk c.args.disk) (g.D.Disk.disk c.in-Ok.desk.disk) (g.D.Disk.disk c.into_disk.result) first
+          last c.act_on_script-ending.new.desk.recovered begun.exact begun.made.0 begun.no_fault
+          (done.kept.1 ∙ begun.made.1) begun.crash done.grown record {
+            legal = disk.legal;
+            accepted = disk.accepted;
+            stands = disk.stands;
+            leaves = disk.leaves;
+            count = ap (λ (d : DiskState). d.faults) (ap g.D.Disk.disk (sym disk.disk));
+          }
+          since,
       done.ends,
     )
 

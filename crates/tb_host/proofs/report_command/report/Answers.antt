@@ -1,0 +1,55 @@
+use Rattle.std.proofs.Common.{◌≡◌, inl, inr, subst, sym, ap, refl, [], append-nil}
+use Rattle.tb_disk.specs.Disks.{DiskState}
+use Rattle.tb_desk.specs.Desks.{IsBeginning}
+use Rattle.tb_desk.specs.Stands.{CrashesLeave}
+use Rattle.tb_journal.specs.Journal.{Told}
+use Rattle.tb_journal.specs.Opening.{IsHarmless}
+use Rattle.tb_host.specs.Standings.{Standing, standing}
+use Rattle.tb_host.proofs.DiskLemmas.{Keeps-desk, Unopened-here}
+use Rattle.tb_host.proofs.report_command.report.Goals as goal
+
+pub returns-in-Ok-clause-ends : goal.returns-in-Ok-clause-ends
+returns-in-Ok-clause-ends g c = λ input.
+    let begun = c.in-Ok.ensures in
+    let stands : Standing = standing (g.D.Disk.disk c.in-Ok.desk.disk) c.in-Ok.desk in
+    let disk = c.into_disk.ensures in
+    let same = ap g.D.Disk.disk disk.disk in
+    let since : CrashesLeave (IsBeginning stands.history c.in-Ok.desk.recovered) (g.D.Disk.disk c.in-Ok.desk.disk)
+    (g.D.Disk.disk c.into_disk.result) =
+    subst (λ (opened : DiskState). CrashesLeave (IsBeginning stands.history c.in-Ok.desk.recovered) opened
+    (g.D.Disk.disk c.into_disk.result)) (ap g.D.Disk.disk begun.made.3) disk.since in
+    record {
+      ends = inl (
+        stands,
+        stands,
+        Keeps-desk (g.D.Disk.disk c.args.disk) (g.D.Disk.disk c.in-Ok.desk.disk) (g.D.Disk.disk c.into_disk.result)
+            stands stands c.in-Ok.desk.recovered begun.exact begun.made.0 begun.no_fault begun.made.1 begun.crash
+            ([], sym (append-nil stands.history)) record {
+              legal = disk.legal;
+              accepted = disk.accepted;
+              stands = disk.stands;
+              leaves = disk.leaves;
+              count = ap (λ (d : DiskState). d.faults) (sym same);
+            }
+            since,
+        (refl, c.write_answer-ending.ensures.reads),
+      );
+      unread = refl;
+      harmless = subst (λ (d : DiskState). Told (g.D.Disk.disk c.args.disk) d IsHarmless) (sym same) begun.crash;
+    }
+
+pub returns-in-Err-clause-ends : goal.returns-in-Err-clause-ends
+returns-in-Err-clause-ends g c = λ input.
+    let refused = c.in-Err.ensures in
+    record {
+      ends = inr (record {
+        why = c.in-Err.fault;
+        ended_is = c.of.ensures;
+        unopened = Unopened-here c.in-Err.fault (g.D.Disk.disk c.args.disk) (g.D.Disk.disk c.in-Err.disk)
+            refused.exact_refusal refused.crash_refused refused.refused refused.fault refused.count_refused;
+        unread = refl;
+        silent = refl;
+      });
+      unread = refl;
+      harmless = refused.crash_refused;
+    }

@@ -1,0 +1,130 @@
+//! `report` on what a script left. The texts are worked out by hand from the rules.
+use crate::run_tests::{ORDINARY, WORDS};
+use crate::tests::{Outcome, disk_of, run, run_on};
+use std::alloc::Global;
+use std::process::Abort;
+use std::test::Fail;
+
+const RESULTS: &str = "auction bill13
+cusip 912797AA5
+issue 2024-11-07
+maturity 2025-02-06
+days 91
+offering 76000000000
+noncompetitive 0
+competitive 20000000000
+total 20000000000
+high 4.270
+allotted 100.00
+median 4.270
+low 4.270
+price 98.920639
+investment 4.377
+bids at lower rates were accepted in full
+";
+
+/// A bill of 1,000, of which 800 went to another, and of the rest all is pledged.
+const HELD: &str =
+    r#"1730700000 op:root {"number":1,"kind":"register","submitter":"dealer1","key":"k1"}
+1730700000 op:root {"number":2,"kind":"register","submitter":"dealer2","key":"k2"}
+1730700000 op:root {"number":3,"kind":"enrol","bidder":"fund1","submitter":"dealer1"}
+1730700000 op:root {"number":4,"kind":"announce","auction":"sat1","cusip":"912797AB3","offering":1000000,"minimum":100,"ceiling":1000000,"floor":1000000,"threshold":1000000,"date":"2024-11-04","nc_close":"11:00","c_close":"11:30","issue":"2024-11-07","maturity":"2025-02-15"}
+1730700000 k1 {"number":1,"kind":"bid","auction":"sat1","bidder":"fund1","rate":"4.000","amount":1000}
+1730737800 op:root {"number":5,"kind":"publish","auction":"sat1"}
+1730955600 op:root {"number":6,"kind":"settle","auction":"sat1"}
+1730955600 k1 {"number":2,"kind":"transfer","cusip":"912797AB3","to":"dealer2","amount":800}
+1730955600 k1 {"number":12,"kind":"pledge","cusip":"912797AB3","to":"dealer2","amount":200}
+end
+"#;
+
+/// What the script leaves is asked, and stays as it is. The writes of these numbers fail.
+fn ask(
+    rt: &impl Abort,
+    alloc: Global,
+    left: &str,
+    words: &[&str],
+    failing_writes: &[u64],
+) -> Result<Outcome, Fail> {
+    let ran = run(alloc, &WORDS, left, 4096, &[], &[])?;
+    let disk = disk_of(rt, alloc, ran.disk.contents(), &[], 0)?;
+    let report = run_on(alloc, words, "", 1, &[0], failing_writes, disk)?;
+    assert_eq!(rt; report.disk.contents(), ran.disk.contents());
+    Ok(report)
+}
+
+#[test]
+fn queries_are_answered_from_the_disk(rt: HostRuntime) -> Result<(), Fail> {
+    for (left, words, status, text) in [
+        (
+            ORDINARY,
+            ["report", "results", "bill13", "--op=root", "--key=k1"].as_slice(),
+            0,
+            RESULTS,
+        ),
+        (
+            ORDINARY,
+            [
+                "report", "--csv", "awards", "bill13", "--op", "root", "--key", "k1",
+            ]
+            .as_slice(),
+            0,
+            "bidder,amount,payment\nfund1,20000000000,19784127800.00\n",
+        ),
+        (
+            HELD,
+            ["report", "holdings", "--key", "k1", "--op", "root", "--csv"].as_slice(),
+            0,
+            "cusip,held,pledged,free\n912797AB3,200,200,0\n",
+        ),
+        (
+            HELD,
+            ["report", "holdings", "--key", "k2", "--op", "root"].as_slice(),
+            0,
+            "912797AB3 800 0 800\n",
+        ),
+        (
+            HELD,
+            [
+                "report", "awards", "sat2", "--key", "k1", "--op", "root", "--csv",
+            ]
+            .as_slice(),
+            0,
+            "refused 10 UnknownAuction\n",
+        ),
+        (
+            HELD,
+            ["report", "holdings", "--key", "k3", "--op", "root"].as_slice(),
+            0,
+            "refused 1 UnknownKey\n",
+        ),
+        (
+            ORDINARY,
+            [
+                "report",
+                "results",
+                "bill13",
+                "--op=root",
+                "--key=k1",
+                "--csv",
+            ]
+            .as_slice(),
+            2,
+            "",
+        ),
+    ] {
+        let report = ask(&rt, rt.alloc(), left, words, &[])?;
+        assert_eq!(rt; report.status, status);
+        assert_eq!(rt; report.out.bytes(), text.as_bytes());
+    }
+    Ok(())
+}
+
+#[test]
+fn a_write_that_fails_ends_a_report(rt: HostRuntime) -> Result<(), Fail> {
+    let words = ["report", "results", "bill13", "--op=root", "--key=k1"];
+    let failed = ask(&rt, rt.alloc(), ORDINARY, &words, &[0])?;
+    assert_eq!(rt; failed.status, 5);
+    assert_eq!(rt; failed.out.bytes(), b"".as_slice());
+    assert_eq!(rt; failed.err.bytes(), b"write fault\n".as_slice());
+    Ok(())
+}
