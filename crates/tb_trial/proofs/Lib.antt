@@ -1,0 +1,4 @@
+pub mod BidderLemmas
+pub mod AnnouncedLemmas
+pub mod StatedLemmas
+pub mod TrialLemmas
