@@ -24,12 +24,9 @@ IsThere-words (every.Serve operator port workers links) (name ∷ others) none a
 IsThere-words (every.Import operator caller) [] none are =
     absurd (let empty : [] ≡ codes "import" ∷ are.0 = are.1 in cc)
 IsThere-words (every.Import operator caller) (name ∷ others) none are =
-    none (inr (inl (let same : name ∷ others ≡ codes "import" ∷ are.0 = are.1 in cc)))
+    none (inr (let same : name ∷ others ≡ codes "import" ∷ are.0 = are.1 in cc))
 IsThere-words (every.Report operator caller asked csv) texts none are = tt
-IsThere-words (every.Trial seed count) [] none are =
-    absurd (let empty : [] ≡ codes "trial" ∷ are.0 = are.1 in cc)
-IsThere-words (every.Trial seed count) (name ∷ others) none are =
-    none (inr (inr (let same : name ∷ others ≡ codes "trial" ∷ are.0 = are.1 in cc)))
+IsThere-words (every.Trial seed count) texts none are = tt
 
 -- a command that there is has another name than those that there aren't
 name-there : (said : declared.Command)
@@ -37,17 +34,15 @@ name-there : (said : declared.Command)
     → BeginWithMissing (all.name_of said ∷ [])
     → ⊥
 name-there (every.Award full) there (inl same) = absurd (omega (arith, ap first_byte same))
-name-there (every.Award full) there (inr (inl same)) = absurd (omega (arith, ap first_byte same))
-name-there (every.Award full) there (inr (inr same)) = absurd (omega (arith, ap first_byte same))
+name-there (every.Award full) there (inr same) = absurd (omega (arith, ap first_byte same))
 name-there (every.Run operator) there (inl same) = absurd (omega (arith, ap first_byte same))
-name-there (every.Run operator) there (inr (inl same)) = absurd (omega (arith, ap first_byte same))
-name-there (every.Run operator) there (inr (inr same)) = absurd (omega (arith, ap first_byte same))
+name-there (every.Run operator) there (inr same) = absurd (omega (arith, ap first_byte same))
 name-there (every.Serve operator port workers links) there named = there
 name-there (every.Import operator caller) there named = there
 name-there (every.Report operator caller asked csv) there (inl same) = absurd (omega (arith, ap first_byte same))
-name-there (every.Report operator caller asked csv) there (inr (inl same)) = absurd (omega (arith, ap first_byte same))
-name-there (every.Report operator caller asked csv) there (inr (inr same)) = absurd (omega (arith, ap first_byte same))
-name-there (every.Trial seed count) there named = there
+name-there (every.Report operator caller asked csv) there (inr same) = absurd (omega (arith, ap first_byte same))
+name-there (every.Trial seed count) there (inl same) = absurd (omega (arith, ap first_byte same))
+name-there (every.Trial seed count) there (inr same) = absurd (omega (arith, ap first_byte same))
 
 -- so words that begin with such a name are outside the command set
 pub AreCommand-missing : (texts : List (List ℕ)) → BeginWithMissing texts → ¬ (AreCommand texts)

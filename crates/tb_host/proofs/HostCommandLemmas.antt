@@ -16,6 +16,7 @@ use Rattle.tb_host.specs.ReportRun.{Reads, ReadsDesk, ReportEnds, inquiry}
 use Rattle.tb_host.specs.RunEnds.{Devices, EndsOnDisk, NotBegun, RunEnds, ScriptEnds}
 use Rattle.tb_host.specs.Standings.{Standing}
 use Rattle.tb_host.specs.Told.{WhereTold}
+use Rattle.tb_host.specs.TrialRun.{TrialEnds}
 use Rattle.tb_host.specs.declared.ending.Ending.{Ending}
 use Rattle.tb_host.specs.declared.ending.Ending.TheVariants as ending
 use Rattle.tb_host.specs.declared.report_command.Inquiry.{Inquiry}
@@ -101,6 +102,20 @@ award-opens_none full (ending.NotAJournal found) input input' out out' award non
 award-opens_none full (ending.Damaged place) input input' out out' award none = award
 award-opens_none full ending.OutOfMemory input input' out out' award none = none
 
+-- nor does `trial`
+trial-opens_none : (seed count : ℕ) (ended : Ending) (out out' : SinkState)
+    → TrialEnds seed count ended out out'
+    → ¬ (IsUnopened ended)
+trial-opens_none seed count ending.Done out out' trial none = none
+trial-opens_none seed count ending.Usage out out' trial none = none
+trial-opens_none seed count (ending.BadInput number) out out' trial none = none
+trial-opens_none seed count ending.ReadFault out out' trial none = none
+trial-opens_none seed count ending.WriteFault out out' trial none = none
+trial-opens_none seed count ending.DiskFault out out' trial none = trial
+trial-opens_none seed count (ending.NotAJournal found) out out' trial none = trial
+trial-opens_none seed count (ending.Damaged place) out out' trial none = trial
+trial-opens_none seed count ending.OutOfMemory out out' trial none = none
+
 -- a command that ended as a disk that wasn't opened wasn't begun
 pub unopened-not_begun : (said : Command) (ended : Ending) (input input' : SourceState) (old new : Devices)
     → EndsAs said ended input input' old new
@@ -116,7 +131,8 @@ unopened-not_begun (command.Import operator caller) ended input input' old new e
 unopened-not_begun (command.Report operator caller asked csv) ended input input' old new ends is =
     not_begun_of (ReadsDesk (inquiry operator caller asked csv) ended old.out new.out) ended input input' old new
     (λ first last. report-not (inquiry operator caller asked csv) ended old.out new.out first last (inr is)) ends.ends
-unopened-not_begun (command.Trial seed count) ended input input' old new ends is = absurd ends
+unopened-not_begun (command.Trial seed count) ended input input' old new ends is =
+    absurd (trial-opens_none seed count ended old.out new.out ends is)
 
 -- it is one of those that open the disk
 pub unopened-opens : (said : Command) (texts : List (List ℕ)) (ended : Ending) (input input' : SourceState)
@@ -132,7 +148,8 @@ unopened-opens (command.Serve operator port workers links) texts ended input inp
 unopened-opens (command.Import operator caller) texts ended input input' old new are ends is = absurd ends
 unopened-opens (command.Report operator caller asked csv) texts ended input input' old new are ends is =
     inr (inquiry operator caller asked csv, are)
-unopened-opens (command.Trial seed count) texts ended input input' old new are ends is = absurd ends
+unopened-opens (command.Trial seed count) texts ended input input' old new are ends is =
+    absurd (trial-opens_none seed count ended old.out new.out ends is)
 
 -- no command ends as words outside the command set do
 not-usage_at : (said : Command) (input input' : SourceState) (old new : Devices)
@@ -181,7 +198,7 @@ write-rose_at (command.Import operator caller) input input' old new ends = absur
 write-rose_at (command.Report operator caller asked csv) input input' old new ends =
     (on_desk_of (ReadsDesk (inquiry operator caller asked csv) ending.WriteFault old.out new.out) ending.WriteFault input
     input' old new (omega arith) ends.ends).3.1.3
-write-rose_at (command.Trial seed count) input input' old new ends = absurd ends
+write-rose_at (command.Trial seed count) input input' old new ends = ends.0
 
 -- and of a disk that failed, the count of the disk
 disk-rose_at : (said : Command) (input input' : SourceState) (old new : Devices)

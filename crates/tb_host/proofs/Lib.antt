@@ -31,5 +31,6 @@ mod OneRunLemmas
 mod SealedLemmas
 mod ExactLemmas
 mod HostCommandLemmas
+mod TrialLemmas
 mod AnswerLemmas
 mod ReportLemmas

@@ -18,6 +18,10 @@ abbrev pub AreReport : Inquiry → List (List ℕ) → Type 0
 AreReport asked words =
     all.AreWordsOf (every.Report asked.sender.operator asked.sender.key asked.query asked.csv) words
 
+-- the words are the command `trial` with this seed and this count
+abbrev pub AreTrial : ℕ → ℕ → List (List ℕ) → Type 0
+AreTrial seed count words = all.AreWordsOf (every.Trial seed count) words
+
 -- the commands that there are so far
 abbrev pub IsThere : declared.Command → Type 0
 IsThere (every.Award full) = ⊤
@@ -25,7 +29,7 @@ IsThere (every.Run operator) = ⊤
 IsThere (every.Serve operator port workers links) = ⊥
 IsThere (every.Import operator caller) = ⊥
 IsThere (every.Report operator caller asked csv) = ⊤
-IsThere (every.Trial seed count) = ⊥
+IsThere (every.Trial seed count) = ⊤
 
 -- the words are inside the command set
 abbrev pub AreCommand : List (List ℕ) → Type 0
@@ -38,4 +42,4 @@ OpenDisk words = ((operator : List ℕ) × AreRun operator words) ⊎ ((asked : 
 -- the name of a command stands first that there isn't so far
 abbrev pub BeginWithMissing : List (List ℕ) → Type 0
 BeginWithMissing [] = ⊥
-BeginWithMissing (name ∷ words) = (name ≡ codes "serve") ⊎ (name ≡ codes "import") ⊎ (name ≡ codes "trial")
+BeginWithMissing (name ∷ words) = (name ≡ codes "serve") ⊎ (name ≡ codes "import")

@@ -13,6 +13,7 @@ use Rattle.tb_host.specs.AwardRun.{AwardEnds}
 use Rattle.tb_host.specs.Reads.{ReadsBookAlone, ReadsScriptAlone}
 use Rattle.tb_host.specs.ReportRun.{ReportEnds, inquiry}
 use Rattle.tb_host.specs.RunEnds.{Devices, RunEnds}
+use Rattle.tb_host.specs.TrialRun.{TrialEnds}
 use Rattle.tb_words.specs.declared.command.Command.{Command}
 use Rattle.tb_words.specs.declared.command.Command.TheVariants as command
 use Rattle.tb_host.specs.Told.{WhereTold}
@@ -26,9 +27,10 @@ EndsAs (command.Award full) ended input input' old new = AwardEnds full ended in
 EndsAs (command.Run operator) ended input input' old new = RunEnds operator ended input input' old new
 EndsAs (command.Report operator caller asked csv) ended input input' old new =
     ReportEnds (inquiry operator caller asked csv) ended input input' old new
+EndsAs (command.Trial seed count) ended input input' old new = TrialEnds seed count ended old.out new.out
 EndsAs other ended input input' old new = ⊥
 
--- a text was read up to the line that ends what the command reads, and nothing behind that; a report reads nothing
+-- a text was read up to the line that ends what the command reads, and nothing behind that; a report and a trial read nothing
 abbrev pub ReadsAlone : Command → ℕ → ℕ → List ℕ → Type 0
 ReadsAlone (command.Award full) before after text = ReadsBookAlone before after text
 ReadsAlone (command.Run operator) before after text = ReadsScriptAlone before after text

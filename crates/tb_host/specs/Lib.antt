@@ -17,6 +17,7 @@ pub mod AwardTexts
 pub mod Commands
 pub mod Endings
 pub mod AwardRun
+pub mod TrialRun
 pub mod ScriptLines
 pub mod Standings
 pub mod Turns

@@ -90,7 +90,8 @@ fn nothing_text(alloc: Global, bidders: &[Ident], full: bool) -> Result<Vec<u8>,
     Ok(text)
 }
 
-fn cut_lines(alloc: Global, cut: &Cut) -> Result<Vec<u8>, OutOfMemory>
+// The lines `high`, `allotted` and `price`.
+pub(crate) fn cut_lines(alloc: Global, cut: &Cut) -> Result<Vec<u8>, OutOfMemory>
     ensures { IfOk result (λ text. text.items
         ≡ cut_text cut.now.stop.steps cut.now.percent.hundredths cut.now.price.millionths) }
 {
@@ -101,7 +102,8 @@ fn cut_lines(alloc: Global, cut: &Cut) -> Result<Vec<u8>, OutOfMemory>
     Ok(text)
 }
 
-fn push_line(text: &mut Vec<u8>, word: &[u8], value: &[u8]) -> Result<(), OutOfMemory>
+// The line of a word and a value.
+pub(crate) fn push_line(text: &mut Vec<u8>, word: &[u8], value: &[u8]) -> Result<(), OutOfMemory>
     ensures { OnOk result (text.new.items ≡ text.old.items ++ labelled word.now value.now) }
 {
     text.extend_from_slice(word)?;

@@ -23,9 +23,7 @@ fn begin_with_missing(words: &[String]) -> bool
     ensures { IsTrue result ↔ BeginWithMissing (map string_bytes words.now) }
 {
     match words.split_first() {
-        Some((name, _)) => {
-            name.as_str() == "serve" || name.as_str() == "import" || name.as_str() == "trial"
-        }
+        Some((name, _)) => name.as_str() == "serve" || name.as_str() == "import",
         None => false,
     }
 }

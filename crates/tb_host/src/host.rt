@@ -8,7 +8,7 @@ ghost use Rattle.tb_desk.specs.declared.fault.OpenFault.{OpenFault};
 ghost use Rattle.tb_host.specs.AwardRun.{AwardEnds, Printed, PrintedPrefix};
 ghost use Rattle.tb_host.specs.Told.{WhereTold};
 ghost use Rattle.tb_host.specs.Books.{HasBadLine, HasBook, IsBadLine};
-ghost use Rattle.tb_host.specs.Commands.{AreAward, AreCommand, AreReport, AreRun, IsThere, OpenDisk};
+ghost use Rattle.tb_host.specs.Commands.{AreAward, AreCommand, AreReport, AreRun, AreTrial, IsThere, OpenDisk};
 ghost use Rattle.tb_host.specs.DiskRun.{OnDesk};
 ghost use Rattle.tb_host.specs.Endings.{ending_of, status_of, IsUnopened};
 ghost use Rattle.tb_host.specs.Reads.{ReadsBookAlone, ReadsScriptAlone};
@@ -17,7 +17,9 @@ ghost use Rattle.tb_host.specs.ReportRun as spec;
 ghost use Rattle.tb_host.specs.ReportRun.{ReportEnds};
 ghost use Rattle.tb_host.specs.Scripts.{HasScript, LeavesScript};
 ghost use Rattle.tb_host.specs.HostRun.{EndsAs, EndsWith, HasHistory, ReadsAlone, Reports, TellsLine, ToldUnopened};
+ghost use Rattle.tb_host.specs.TrialRun.{TrialEnds, TrialPrinted, TrialPrintedPrefix};
 ghost use Rattle.tb_host.specs.declared.ending.Ending.{Ending};
+ghost use Rattle.tb_words.specs.Commands.{IsInRange};
 ghost use Rattle.tb_words.specs.declared.command.Command.TheVariants as every;
 
 use crate::award_command::award;
@@ -26,6 +28,7 @@ use crate::ending::Ending;
 use crate::report_command::{Inquiry, report};
 use crate::run_command::run;
 use crate::sender::Sender;
+use crate::trial_command::trial;
 use std::alloc::Global;
 use tb_disk::Disk;
 use tb_gates::{Clock, Gate};
@@ -186,6 +189,22 @@ pub fn host_main<
         → (¬ (Rose (O.sink out.old).faults (O.sink out.new).faults))
         → (¬ (Rose (D.disk disk).faults (D.disk result.disk).faults))
         → (result.status ≡ 0) ⊎ (result.status ≡ 9) }
+
+    // `trial` touches the output alone.
+    ensures trial_untouched { (seed count : ℕ) → AreTrial seed count (map string_bytes words.now)
+        → (input.new ≡ input.old) × (result.disk ≡ disk) }
+    // What the output has taken: all of the text at 0, a prefix of it at 5, and else nothing.
+    ensures trial_done { result.status ≡ 0 → (seed count : ℕ) → AreTrial seed count (map string_bytes words.now)
+        → TrialPrinted seed count (O.sink out.old) (O.sink out.new) }
+    ensures trial_prefix { result.status ≡ 5 → (seed count : ℕ) → AreTrial seed count (map string_bytes words.now)
+        → TrialPrintedPrefix seed count (O.sink out.old) (O.sink out.new) }
+    ensures trial_silent { (result.status ≢ 0) → (result.status ≢ 5) → (seed count : ℕ)
+        → AreTrial seed count (map string_bytes words.now)
+        → O.sink out.new ≡ O.sink out.old }
+    // It is done, unless the output failed or memory ran out.
+    ensures trial_complete { (seed count : ℕ) → AreTrial seed count (map string_bytes words.now)
+        → (¬ (Rose (O.sink out.old).faults (O.sink out.new).faults))
+        → (result.status ≡ 0) ⊎ (result.status ≡ 9) }
 {
     let _ = spare;
     let _ = gates;
@@ -218,6 +237,10 @@ fn run_command<D: Disk, C: Clock, I: Source, O: Sink>(
         → ReportEnds asked result.0 (I.source input.old) (I.source input.new)
         (record { out = O.sink out.old; disk = D.disk disk })
         (record { out = O.sink out.new; disk = D.disk result.1 }) }
+    ensures trial { (seed count : ℕ) → AreTrial seed count (map string_bytes words.now)
+        → TrialEnds seed count result.0 (O.sink out.old) (O.sink out.new) }
+    ensures trial_untouched { (seed count : ℕ) → AreTrial seed count (map string_bytes words.now)
+        → (input.new ≡ input.old) × (result.1 ≡ disk) }
     ensures opens { IsUnopened result.0 → OpenDisk (map string_bytes words.now) }
     ensures unopened { IsUnopened result.0 → NotBegun result.0 (I.source input.old) (I.source input.new)
         (record { out = O.sink out.old; disk = D.disk disk })
@@ -253,11 +276,14 @@ fn do_command<D: Disk, C: Clock, I: Source, O: Sink>(
     disk: D,
     clock: C,
 ) -> (Ending, D, C)
-    requires { IsThere command.now }
+    requires there { IsThere command.now }
+    requires in_range { IsInRange command.now }
     ensures ends { EndsAs command.now result.0 (I.source input.old) (I.source input.new)
         (record { out = O.sink out.old; disk = D.disk disk })
         (record { out = O.sink out.new; disk = D.disk result.1 }) }
     ensures award_disk { (full : Bool) → command.now ≡ every.Award full → result.1 ≡ disk }
+    ensures trial_untouched { (seed count : ℕ) → command.now ≡ every.Trial seed count
+        → (input.new ≡ input.old) × (result.1 ≡ disk) }
     ensures no_fault { result.0 ≡ Ending.Done → ((I.source input.new).faults ≡ (I.source input.old).faults)
         × ((O.sink out.new).faults ≡ (O.sink out.old).faults) }
     ensures reads { result.0 ≡ Ending.Done → WhereTold (I.source input.old).left
@@ -281,10 +307,9 @@ fn do_command<D: Disk, C: Clock, I: Source, O: Sink>(
             let (ending, disk) = report(alloc, &asked, out, disk);
             (ending, disk, clock)
         }
+        Command::Trial { seed, count } => (trial(alloc, *seed, *count, out), disk, clock),
         // There are no such commands so far.
-        Command::Serve { .. } | Command::Import { .. } | Command::Trial { .. } => {
-            (Ending::Usage, disk, clock)
-        }
+        Command::Serve { .. } | Command::Import { .. } => (Ending::Usage, disk, clock),
     }
 }
 

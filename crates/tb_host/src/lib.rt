@@ -30,6 +30,7 @@ mod sender;
 #[cfg(test)]
 mod tests;
 mod text_book;
+mod trial_command;
 mod way;
 mod word;
 

@@ -276,6 +276,7 @@ fn faulty_words_and_books_are_told(rt: HostRuntime) -> Result<(), Fail> {
         ([].as_slice(), BOOK, 2, "usage\n"),
         (["award", "more"].as_slice(), BOOK, 2, "usage\n"),
         (["award", "full", "full"].as_slice(), BOOK, 2, "usage\n"),
+        (["trial", "1", "0"].as_slice(), BOOK, 2, "usage\n"),
         (["award"].as_slice(), "", 3, "bad input at line 1\n"),
         (
             ["award"].as_slice(),
@@ -295,5 +296,19 @@ fn faulty_words_and_books_are_told(rt: HostRuntime) -> Result<(), Fail> {
         assert_eq!(rt; run.out.bytes(), b"".as_slice());
         assert_eq!(rt; run.err.bytes(), told.as_bytes());
     }
+    Ok(())
+}
+
+#[test]
+fn a_trial_prints_its_figures(rt: HostRuntime) -> Result<(), Fail> {
+    let words = ["trial", "1", "1"];
+    let text = "bids 1\nhigh 5.050\nallotted 100.00\nprice 98.723472\nawarded 27200\n";
+    // No read is made.
+    let done = run(rt.alloc(), &words, BOOK, 7, &[0], &[1])?;
+    assert_eq!(rt; done.status, 0);
+    assert_eq!(rt; done.out.bytes(), text.as_bytes());
+    let failed = run(rt.alloc(), &words, BOOK, 7, &[], &[0])?;
+    assert_eq!(rt; failed.status, 5);
+    assert_eq!(rt; failed.out.bytes(), b"".as_slice());
     Ok(())
 }

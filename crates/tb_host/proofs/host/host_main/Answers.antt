@@ -17,6 +17,7 @@ use Rattle.tb_host.proofs.HostLemmas.{
   unopened-told,
 }
 use Rattle.tb_host.proofs.ScriptLawLemmas.{run-complete, run-refused}
+use Rattle.tb_host.proofs.TrialLemmas.{trial-at_0, trial-at_5, trial-complete, trial-silent}
 use Rattle.tb_host.proofs.host.host_main.Goals as goal
 
 pub returns-clause-no_fault : goal.returns-clause-no_fault
@@ -154,3 +155,23 @@ pub returns-clause-report_complete : goal.returns-clause-report_complete
 returns-clause-report_complete g c = λ asked are stands no_write no_fault.
     rw c.status.ensures (report-complete asked c.run_command-ending.result.0 _ _ _ _
     (c.run_command-ending.ensures.report asked are) stands no_write no_fault)
+
+pub returns-clause-trial_done : goal.returns-clause-trial_done
+returns-clause-trial_done g c = λ is seed count trial.
+    trial-at_0 seed count c.run_command-ending.result.0 _ _ (c.run_command-ending.ensures.trial seed count trial)
+    (sym c.status.ensures ∙ is)
+
+pub returns-clause-trial_prefix : goal.returns-clause-trial_prefix
+returns-clause-trial_prefix g c = λ is seed count trial.
+    trial-at_5 seed count c.run_command-ending.result.0 _ _ (c.run_command-ending.ensures.trial seed count trial)
+    (sym c.status.ensures ∙ is)
+
+pub returns-clause-trial_silent : goal.returns-clause-trial_silent
+returns-clause-trial_silent g c = λ not_0 not_5 seed count trial.
+    trial-silent seed count c.run_command-ending.result.0 _ _ (c.run_command-ending.ensures.trial seed count trial)
+    (λ is. not_0 (c.status.ensures ∙ is)) (λ is. not_5 (c.status.ensures ∙ is))
+
+pub returns-clause-trial_complete : goal.returns-clause-trial_complete
+returns-clause-trial_complete g c = λ seed count trial no_write.
+    rw c.status.ensures (trial-complete seed count c.run_command-ending.result.0 _ _
+    (c.run_command-ending.ensures.trial seed count trial) no_write)

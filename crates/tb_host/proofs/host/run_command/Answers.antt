@@ -15,6 +15,9 @@ use Rattle.tb_host.proofs.HostCommandLemmas.{
 use Rattle.tb_host.proofs.ReportLemmas.{NotBegun-memory, ReportEnds-memory}
 use Rattle.tb_host.proofs.host.run_command.Goals as goal
 
+pub do_command-requires-clause-in_range : goal.do_command-requires-clause-in_range
+do_command-requires-clause-in_range g c = c.in-Ok.ensures.command.1.2.in_range
+
 pub returns-in-Ok : goal.returns-in-Ok
 returns-in-Ok g c =
     let said = c.in-Ok.command in
@@ -30,6 +33,9 @@ returns-in-Ok g c =
       run = λ operator asked. ends-asked said (command.Run operator) _ _ _ _ _ _ are ends asked;
       report = λ asked is.
           ends-asked said (command.Report asked.sender.operator asked.sender.key asked.query asked.csv) _ _ _ _ _ _ are ends is;
+      trial = λ seed count asked. ends-asked said (command.Trial seed count) _ _ _ _ _ _ are ends asked;
+      trial_untouched = λ seed count asked.
+          c.do_command.ensures.trial_untouched seed count (one_command _ said (command.Trial seed count) are asked);
       opens = λ unopened. unopened-opens said _ _ _ _ _ _ are ends unopened;
       unopened = λ unopened. unopened-not_begun said _ _ _ _ _ ends unopened;
       faults = (
