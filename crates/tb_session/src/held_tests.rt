@@ -7,9 +7,11 @@ use super::*;
 use crate::tests::{Memory, opened, post, reply};
 use std::alloc::Global;
 use std::process::Abort;
+use std::sync::Wait;
 use std::sync::atomic::{AtomicBool, Ordering};
 use std::test::Fail;
 use std::thread;
+use std::thread::Threads;
 use tb_gates::{Gate, Link, PairLink};
 use tb_link::{Failed, Faults, Sink, Source, TextSink, TextSource};
 
@@ -97,6 +99,7 @@ struct HeldGate<'a> {
     link: Option<HeldLink<'a>>,
     back: Option<HeldLink<'a>>,
     given: u64,
+    faults: Faults,
     ghost few: { given + length (option_to_list link) ≤ most_links },
 }
 
@@ -106,7 +109,7 @@ impl<'a> Gate for HeldGate<'a> {
 
     type Conn = HeldLink<'a>;
 
-    ghost gate = { λ gate. record { left = None; back = None; given = gate.given; faults = 0 } };
+    ghost gate = { λ gate. record { left = None; back = None; given = gate.given; faults = gate.faults.count } };
 
     fn next(&mut self) -> Result<Option<HeldLink<'a>>, Failed> {
         match self.link.take() {
@@ -122,7 +125,7 @@ impl<'a> Gate for HeldGate<'a> {
         self.back = Some(conn);
     }
 
-    ghost bounded = { λ self. refl };
+    ghost bounded = { λ self. self.faults.bounded };
 
     ghost few = { λ self. fewer_given self.given (length (option_to_list self.link)) self.few };
 
@@ -152,6 +155,7 @@ fn gate_of<'a>(
         }),
         back: None,
         given: 0,
+        faults: Faults::none(),
     })
 }
 
@@ -164,33 +168,44 @@ fn expect(rt: &impl Abort, gate: &HeldGate<'_>, reply: &str) {
     assert_eq!(rt; link.pair.sink.bytes(), reply.as_bytes());
 }
 
-#[test]
-fn links_that_wait_for_each_other_are_answered(rt: HostRuntime) -> Result<(), Fail> {
+/// Serves two links, each at a gate of its own, which wait for each other by these two flags.
+fn serve_both<R: Threads + Wait + Sync + Abort>(
+    rt: &R,
+    alloc: Global,
+    here: &AtomicBool,
+    there: &AtomicBool,
+) -> Result<(), Fail> {
     let first = post(
-        rt.alloc(),
+        alloc,
         "k1",
         "{\"number\":1,\"kind\":\"bid\",\"auction\":\"bill13\",\"bidder\":\"fund1\",\"rate\":\"4.300\",\"amount\":100}",
     )?;
     let second = post(
-        rt.alloc(),
+        alloc,
         "k2",
         "{\"number\":2,\"kind\":\"bid\",\"auction\":\"bill13\",\"bidder\":\"fund2\",\"rate\":\"4.310\",\"amount\":100}",
     )?;
-    let first_reply = reply(rt.alloc(), "200 OK", "accepted 1 1730700000\n")?;
-    let second_reply = reply(rt.alloc(), "200 OK", "accepted 2 1730700000\n")?;
-    let here = AtomicBool::new(false);
-    let there = AtomicBool::new(false);
-    let mut gates = Vec::new(rt.alloc());
-    gates.push(gate_of(rt.alloc(), &first, &here, &there)?)?;
-    gates.push(gate_of(rt.alloc(), &second, &there, &here)?)?;
-    let room: Memory = opened(&rt, rt.alloc(), Vec::new(rt.alloc()))?;
-    assert!(rt; !room.desk.unsure());
-    let served = match serve_gates(&rt, rt.alloc(), room, &mut gates) {
+    let first_reply = reply(alloc, "200 OK", "accepted 1 1730700000\n")?;
+    let second_reply = reply(alloc, "200 OK", "accepted 2 1730700000\n")?;
+    let mut gates = Vec::new(alloc);
+    gates.push(gate_of(alloc, &first, here, there)?)?;
+    gates.push(gate_of(alloc, &second, there, here)?)?;
+    let room: Memory = opened(rt, alloc, Vec::new(alloc))?;
+    assert!(rt; !room.desk.unsure() && gates.len() <= 64);
+    let served = match serve_gates(rt, alloc, room, &mut gates) {
         Ok(ended) => (ended.served, ended.accepted),
         Err(_) => (0, 0),
     };
     assert_eq!(rt; served, (2, 2));
-    expect(&rt, &gates[0], &first_reply);
-    expect(&rt, &gates[1], &second_reply);
+    assert_eq!(rt; gates.len(), 2);
+    expect(rt, &gates[0], &first_reply);
+    expect(rt, &gates[1], &second_reply);
     Ok(())
+}
+
+#[test]
+fn links_that_wait_for_each_other_are_answered(rt: HostRuntime) -> Result<(), Fail> {
+    let here = AtomicBool::new(false);
+    let there = AtomicBool::new(false);
+    serve_both(&rt, rt.alloc(), &here, &there)
 }

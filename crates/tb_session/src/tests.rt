@@ -134,8 +134,8 @@ fn gate_of(
     Ok(ListGate::new(alloc, made, fails.to_vec(alloc)?)?)
 }
 
-/// What became of a run: how many links were served, how much longer the history is, whether a gate failed, and the bytes that
-/// each link took.
+/// What became of a run: how many links were served, how much longer the history is, whether a gate failed, and the
+/// bytes that each link took.
 #[derive(Drop)]
 pub struct Told {
     pub served: u64,
@@ -304,140 +304,138 @@ fn a_link_is_answered_request_by_request(rt: HostRuntime) -> Result<(), Fail> {
     Ok(())
 }
 
-/// A link, how it ends, and what it is replied.
-#[derive(Clone, Copy)]
-struct Row<'a> {
-    given: Given<'a>,
-    ended: End,
-    reply: &'a str,
-}
-
-/// Serves these links one after the other in one room.
-fn expect_ends<R: Wait + Abort>(
+/// Serves one link in the room. It ends so, and is replied this.
+fn ends<R: Wait + Abort>(
     rt: &R,
     alloc: Global,
     room: Memory,
-    rows: &[Row<'_>],
-) -> Result<(), Fail> {
-    let mut links = Vec::new(alloc);
-    for row in rows {
-        links.push(link_of(rt, alloc, &row.given)?)?;
-    }
+    given: &Given<'_>,
+    ended: End,
+    reply: &str,
+) -> Result<Memory, Fail> {
     assert!(rt; !room.desk.unsure());
+    let mut link = link_of(rt, alloc, given)?;
     let Ok((lock, mut pass)) = TurnLock::new(alloc, room) else {
         assert!(rt; false, "no memory");
         return Err("no memory")?;
     };
-    for (link, row) in links.iter_mut().zip(rows) {
-        let ended = serve_link(rt, alloc, &lock, &mut pass, link);
-        assert_eq!(rt; ended, row.ended, "{}", row.given.text);
-        assert!(rt;
-            link.sink.bytes() == row.reply.as_bytes(),
-            "{}",
-            row.given.text
-        );
-    }
-    assert!(rt; lock.close(pass).is_ok());
-    Ok(())
+    let found = serve_link(rt, alloc, &lock, &mut pass, &mut link);
+    assert_eq!(rt; found, ended, "{}", given.text);
+    assert!(rt; link.sink.bytes() == reply.as_bytes(), "{}", given.text);
+    let Ok(room) = lock.close(pass) else {
+        assert!(rt; false, "a turn is out");
+        return Err("a turn is out")?;
+    };
+    Ok(room)
 }
 
 #[test]
 fn a_link_ends_as_its_bytes_do(rt: HostRuntime) -> Result<(), Fail> {
-    const HEAD: &str = "POST /messages HTTP/1.1\r\nAuction-Key: k1\r\n";
-    let asked = format!(in rt.alloc(); "{HEAD}Content-Length: 2\r\n\r\n{{}}")?;
-    let cut = format!(in rt.alloc(); "{HEAD}Content-Length: 2\r\n\r\n{{")?;
-    let long = format!(in rt.alloc(); "{HEAD}Content-Length: 4097\r\n\r\n")?;
-    let chunked = format!(in rt.alloc(); "{HEAD}Transfer-Encoding: chunked\r\n\r\n")?;
-    let endless = format!(in rt.alloc(); "{HEAD}\r\n{{}}")?;
-    let closing = format!(in rt.alloc();
-        "{HEAD}Connection: close\r\nContent-Length: 2\r\n\r\n{{}}"
+    let alloc = rt.alloc();
+    let asked = post(alloc, "k1", "{}")?;
+    let closing =
+        "POST /messages HTTP/1.1\r\nAuction-Key: k1\r\nConnection: close\r\nContent-Length: 2\r\n\r\n{}";
+    let misread = reply(alloc, "400 Bad Request", "refused 6 BadShape number\n")?;
+    let misread_last = last_reply(alloc, "400 Bad Request", "refused 6 BadShape number\n")?;
+    let too_long = last_reply(alloc, "413 Payload Too Large", "bad request\n")?;
+    let unknown = last_reply(alloc, "501 Not Implemented", "bad request\n")?;
+    let needed = last_reply(alloc, "411 Length Required", "bad request\n")?;
+    let room = opened(&rt, alloc, Vec::new(alloc))?;
+    let room = ends(&rt, alloc, room, &whole(""), End::EndOfInput, "")?;
+    let room = ends(&rt, alloc, room, &whole(&asked), End::EndOfInput, &misread)?;
+    let room = ends(
+        &rt,
+        alloc,
+        room,
+        &whole("POST /messages HTTP/1.1\r\n"),
+        End::CutShort,
+        "",
     )?;
-    let misread =
-        "HTTP/1.1 400 Bad Request\r\nContent-Type: text/plain\r\nContent-Length: 26\r\n\r\nrefused 6 BadShape number\n";
-    let misread_last = last_reply(rt.alloc(), "400 Bad Request", "refused 6 BadShape number\n")?;
-    let too_long = last_reply(rt.alloc(), "413 Payload Too Large", "bad request\n")?;
-    let unknown = last_reply(rt.alloc(), "501 Not Implemented", "bad request\n")?;
-    let needed = last_reply(rt.alloc(), "411 Length Required", "bad request\n")?;
-    let mut rows = Vec::new(rt.alloc());
-    for (text, ended, reply) in [
-        ("", End::EndOfInput, ""),
-        (asked.as_str(), End::EndOfInput, misread),
-        (cut.as_str(), End::CutShort, ""),
-        (long.as_str(), End::BadRequest(413), too_long.as_str()),
-        (chunked.as_str(), End::BadRequest(501), unknown.as_str()),
-        (endless.as_str(), End::BadRequest(411), needed.as_str()),
-        (closing.as_str(), End::Asked, misread_last.as_str()),
-    ] {
-        rows.push(Row {
-            given: whole(text),
-            ended,
-            reply,
-        })?;
-    }
-    // Its first read fails, or its first write.
-    rows.push(Row {
-        given: Given {
-            failing_reads: &[0],
-            ..whole(&asked)
-        },
-        ended: End::ReadFault,
-        reply: "",
-    })?;
-    rows.push(Row {
-        given: Given {
-            failing_writes: &[0],
-            ..whole(&asked)
-        },
-        ended: End::WriteFault,
-        reply: "",
-    })?;
-    // However the bytes are cut, the reply is the same.
+    let long = whole("POST /messages HTTP/1.1\r\nContent-Length: 4097\r\n\r\n");
+    let room = ends(&rt, alloc, room, &long, End::BadRequest(413), &too_long)?;
+    let chunked = whole("POST /messages HTTP/1.1\r\nTransfer-Encoding: chunked\r\n\r\n");
+    let room = ends(&rt, alloc, room, &chunked, End::BadRequest(501), &unknown)?;
+    let endless = whole("POST /messages HTTP/1.1\r\n\r\n{}");
+    let room = ends(&rt, alloc, room, &endless, End::BadRequest(411), &needed)?;
+    let _ = ends(&rt, alloc, room, &whole(closing), End::Asked, &misread_last)?;
+    Ok(())
+}
+
+#[test]
+fn a_link_ends_at_a_failing_call(rt: HostRuntime) -> Result<(), Fail> {
+    let alloc = rt.alloc();
+    let asked = post(alloc, "k1", "{}")?;
+    let room = opened(&rt, alloc, Vec::new(alloc))?;
+    let failing = Given {
+        failing_reads: &[0],
+        ..whole(&asked)
+    };
+    let room = ends(&rt, alloc, room, &failing, End::ReadFault, "")?;
+    let failing = Given {
+        failing_writes: &[0],
+        ..whole(&asked)
+    };
+    let _ = ends(&rt, alloc, room, &failing, End::WriteFault, "")?;
+    Ok(())
+}
+
+// However the bytes are cut, the reply is the same.
+#[test]
+fn a_request_comes_in_pieces(rt: HostRuntime) -> Result<(), Fail> {
+    let alloc = rt.alloc();
+    let asked = post(alloc, "k1", "{}")?;
+    let misread = reply(alloc, "400 Bad Request", "refused 6 BadShape number\n")?;
+    let mut room = opened(&rt, alloc, Vec::new(alloc))?;
     for piece in 1..asked.len() {
-        rows.push(Row {
-            given: Given {
-                piece,
-                ..whole(&asked)
-            },
-            ended: End::EndOfInput,
-            reply: misread,
-        })?;
+        let given = Given {
+            piece,
+            ..whole(&asked)
+        };
+        room = ends(&rt, alloc, room, &given, End::EndOfInput, &misread)?;
     }
-    let room = opened(&rt, rt.alloc(), Vec::new(rt.alloc()))?;
-    expect_ends(&rt, rt.alloc(), room, &rows)
+    Ok(())
+}
+
+/// Serves two requests on a link that fails, by three reads, beside a link with a bid: the failing one is replied this,
+/// and the other one as ever. So many entries are new.
+fn fails_beside<R: Threads + Wait + Sync + Abort>(
+    rt: &R,
+    alloc: Global,
+    room: Memory,
+    failing_reads: &[u64],
+    failing_writes: &[u64],
+    expected: &str,
+    new: u64,
+) -> Result<Memory, Fail> {
+    let bid = post(alloc, "k1", FIRST_BID)?;
+    let accepted = reply(alloc, "200 OK", "accepted 1 1730700000\n")?;
+    let request = post(alloc, "k2", "{}")?;
+    let text = format!(in alloc; "{request}{request}")?;
+    let failing = Given {
+        failing_reads,
+        failing_writes,
+        ..whole(&text)
+    };
+    let mut gates = Vec::new(alloc);
+    gates.push(gate_of(rt, alloc, &[failing], &[])?)?;
+    gates.push(gate_of(rt, alloc, &[whole(&bid)], &[])?)?;
+    let (room, told) = serve(rt, alloc, room, gates)?;
+    expect(rt, &told, 2, new, &[expected, accepted.as_str()]);
+    Ok(room)
 }
 
 #[test]
 fn a_failing_link_leaves_the_others_whole(rt: HostRuntime) -> Result<(), Fail> {
-    let bid = post(rt.alloc(), "k1", FIRST_BID)?;
-    let accepted = reply(rt.alloc(), "200 OK", "accepted 1 1730700000\n")?;
-    // Two requests, which come by three reads.
-    let request = post(rt.alloc(), "k2", "{}")?;
-    let text = format!(in rt.alloc(); "{request}{request}")?;
-    let misread = reply(rt.alloc(), "400 Bad Request", "refused 6 BadShape number\n")?;
-    let misread_twice = format!(in rt.alloc(); "{misread}{misread}")?;
-    let mut room = opened(&rt, rt.alloc(), Vec::new(rt.alloc()))?;
-    let mut new = 1;
-    for (failing_reads, failing_writes, expected) in [
-        ([0].as_slice(), [].as_slice(), ""),
-        ([1].as_slice(), [].as_slice(), ""),
-        ([2].as_slice(), [].as_slice(), misread.as_str()),
-        ([3].as_slice(), [].as_slice(), misread_twice.as_str()),
-        ([].as_slice(), [0].as_slice(), ""),
-        ([].as_slice(), [1].as_slice(), misread.as_str()),
-    ] {
-        let failing = Given {
-            failing_reads,
-            failing_writes,
-            ..whole(&text)
-        };
-        let mut gates = Vec::new(rt.alloc());
-        gates.push(gate_of(&rt, rt.alloc(), &[failing], &[])?)?;
-        gates.push(gate_of(&rt, rt.alloc(), &[whole(&bid)], &[])?)?;
-        let (after, told) = serve(&rt, rt.alloc(), room, gates)?;
-        room = after;
-        expect(&rt, &told, 2, new, &[expected, accepted.as_str()]);
-        new = 0;
-    }
+    let alloc = rt.alloc();
+    let misread = reply(alloc, "400 Bad Request", "refused 6 BadShape number\n")?;
+    let misread_twice = format!(in alloc; "{misread}{misread}")?;
+    let room = opened(&rt, alloc, Vec::new(alloc))?;
+    let room = fails_beside(&rt, alloc, room, &[0], &[], "", 1)?;
+    let room = fails_beside(&rt, alloc, room, &[1], &[], "", 0)?;
+    let room = fails_beside(&rt, alloc, room, &[2], &[], &misread, 0)?;
+    let room = fails_beside(&rt, alloc, room, &[3], &[], &misread_twice, 0)?;
+    let room = fails_beside(&rt, alloc, room, &[], &[0], "", 0)?;
+    let _ = fails_beside(&rt, alloc, room, &[], &[1], &misread, 0)?;
     Ok(())
 }
 
@@ -521,10 +519,12 @@ fn a_dealer_learns_nothing_of_the_others(rt: HostRuntime) -> Result<(), Fail> {
     let bids = other_bids(rt.alloc(), 1000)?;
     let alone = opened(&rt, rt.alloc(), Vec::new(rt.alloc()))?;
     let (_, told) = serve_texts(&rt, rt.alloc(), alone, &[text.as_str()])?;
-    assert_eq!(rt; (told.accepted, told.replies.len()), (1, 1));
+    assert_eq!(rt; told.accepted, 1);
     let beside = opened(&rt, rt.alloc(), Vec::new(rt.alloc()))?;
     let (_, both) = serve_texts(&rt, rt.alloc(), beside, &[text.as_str(), bids.as_str()])?;
-    assert_eq!(rt; (both.accepted, both.replies.len()), (1001, 2));
+    assert_eq!(rt; both.accepted, 1001);
+    assert_eq!(rt; told.replies.len(), 1);
+    assert_eq!(rt; both.replies.len(), 2);
     assert_eq!(rt; told.replies[0].as_str(), both.replies[0].as_str());
     Ok(())
 }
