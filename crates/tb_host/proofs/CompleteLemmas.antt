@@ -7,7 +7,7 @@ use Rattle.std.specs.Prelude.{Some, Bool}
 use Rattle.std.specs.Str.Lines.{lines}
 use Rattle.tb_host.specs.BookLines.{Spells}
 use Rattle.tb_host.specs.Told.{WhereTold}
-use Rattle.tb_host.specs.Books.{Adds, AreEntries, Book, IsBadFirst, IsBadLine, IsBadNext, IsEntry, HasBadLine, HasBook, IsFront, empty_book}
+use Rattle.tb_host.specs.Books.{Adds, AreEntries, Book, IsBadFirst, IsBadNext, IsEntry, HasBadLine, HasBook, IsFront, empty_book}
 use Rattle.tb_host.specs.LineEnds.{most_lines}
 use Rattle.tb_host.specs.AwardRun.{AwardEnds, Printed, PrintedPrefix}
 use Rattle.tb_host.specs.Endings.{status_of}
@@ -170,6 +170,7 @@ award_complete full ending.DiskFault input input' out out' text ends told book n
 award_complete full (ending.NotAJournal found) input input' out out' text ends told book no_read no_write = absurd ends
 award_complete full (ending.Damaged place) input input' out out' text ends told book no_read no_write = absurd ends
 award_complete full ending.OutOfMemory input input' out out' text ends told book no_read no_write = inr refl
+award_complete full ending.GateFault input input' out out' text ends told book no_read no_write = absurd ends
 
 -- an input outside the grammar is refused
 pub award_refused : (full : Bool) (ended : Ending) (input input' : SourceState) (out out' : SinkState) (text : List ℕ)
@@ -189,3 +190,4 @@ award_refused full ending.DiskFault input input' out out' text ends told bad no_
 award_refused full (ending.NotAJournal found) input input' out out' text ends told bad no_read = absurd ends
 award_refused full (ending.Damaged place) input input' out out' text ends told bad no_read = absurd ends
 award_refused full ending.OutOfMemory input input' out out' text ends told bad no_read = inr refl
+award_refused full ending.GateFault input input' out out' text ends told bad no_read = absurd ends

@@ -1,29 +1,5 @@
 -- What `run` does to its disk.
-use Rattle.std.proofs.Common.{
-  ◌≡◌,
-  ℕ,
-  ◌+◌,
-  ◌≤◌,
-  List,
-  [],
-  ◌∷◌,
-  ◌++◌,
-  length,
-  take,
-  Option,
-  Some,
-  None,
-  ◌⊎◌,
-  inl,
-  inr,
-  sym,
-  subst,
-  ap,
-  ◌∙◌,
-  refl,
-  arith,
-  append-nil,
-}
+use Rattle.std.proofs.Common.{◌≡◌, ℕ, List, [], ◌++◌, length, take, Option, Some, None, ◌⊎◌, inl, inr, sym, subst, ap, ◌∙◌, refl, arith, append-nil}
 use Rattle.std.specs.Prelude.{Ok, Err, IfSome}
 use Rattle.std.proofs.Math.Seq.{take-append_seam}
 use Rattle.std.proofs.lemmas.List.{length-append}
@@ -38,8 +14,8 @@ use Rattle.tb_message.specs.declared.message.Entry.{Entry}
 use Rattle.tb_history.specs.Legal.{IsLegal}
 use Rattle.tb_history.proofs.HistoryLemmas.{IsLegal-front}
 use Rattle.tb_desk.specs.Desks.{IsBeginning}
-use Rattle.tb_desk.specs.Replay.{Answer, IsExact, LeavesRefused}
-use Rattle.tb_desk.specs.Stands.{CrashesLeave, StandsForEither, StandsForHistory, payloads_of}
+use Rattle.tb_desk.specs.Replay.{IsExact, LeavesRefused}
+use Rattle.tb_desk.specs.Stands.{CrashesLeave, StandsForHistory, payloads_of}
 use Rattle.tb_desk.specs.declared.fault.OpenFault.{OpenFault}
 use Rattle.tb_desk.specs.declared.fault.OpenFault.TheVariants as fault
 use Rattle.tb_host.specs.DiskRun.{CrashesKeep, HasGrown, Keeps, StandsStill, Stays, Unopened}

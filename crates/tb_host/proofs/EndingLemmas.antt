@@ -1,5 +1,5 @@
 -- Statuses and the endings that they are of.
-use Rattle.std.proofs.Common.{◌≡◌, ◌≢◌, ◌<◌, ◌≤◌, ◌⊎◌, ℕ, List, Some, None, inl, inr, sym, ◌∙◌, refl, arith}
+use Rattle.std.proofs.Common.{◌≡◌, ◌≢◌, ◌<◌, ◌≤◌, ◌⊎◌, ℕ, inl, inr, refl, arith}
 use Rattle.tb_desk.specs.declared.fault.OpenFault.{OpenFault}
 use Rattle.tb_desk.specs.declared.fault.OpenFault.TheVariants as fault
 use Rattle.tb_host.specs.Endings.{IsUnopened, ending_of, status_of}
@@ -17,6 +17,7 @@ done-at_0 ending.DiskFault is = absurd (omega (arith, is))
 done-at_0 (ending.NotAJournal found) is = absurd (omega (arith, is))
 done-at_0 (ending.Damaged place) is = absurd (omega (arith, is))
 done-at_0 ending.OutOfMemory is = absurd (omega (arith, is))
+done-at_0 ending.GateFault is = absurd (omega (arith, is))
 
 -- 2 that of words outside the command set
 pub usage-at_2 : (ended : Ending) → status_of ended ≡ 2 → ended ≡ ending.Usage
@@ -29,6 +30,7 @@ usage-at_2 ending.DiskFault is = absurd (omega (arith, is))
 usage-at_2 (ending.NotAJournal found) is = absurd (omega (arith, is))
 usage-at_2 (ending.Damaged place) is = absurd (omega (arith, is))
 usage-at_2 ending.OutOfMemory is = absurd (omega (arith, is))
+usage-at_2 ending.GateFault is = absurd (omega (arith, is))
 
 -- 3 that of a line outside the grammar
 pub bad-at_3 : (ended : Ending) → status_of ended ≡ 3 → (number : ℕ) × (ended ≡ ending.BadInput number)
@@ -41,6 +43,7 @@ bad-at_3 ending.DiskFault is = absurd (omega (arith, is))
 bad-at_3 (ending.NotAJournal found) is = absurd (omega (arith, is))
 bad-at_3 (ending.Damaged place) is = absurd (omega (arith, is))
 bad-at_3 ending.OutOfMemory is = absurd (omega (arith, is))
+bad-at_3 ending.GateFault is = absurd (omega (arith, is))
 
 -- 4 that of a failed read
 pub read-at_4 : (ended : Ending) → status_of ended ≡ 4 → ended ≡ ending.ReadFault
@@ -53,6 +56,7 @@ read-at_4 ending.DiskFault is = absurd (omega (arith, is))
 read-at_4 (ending.NotAJournal found) is = absurd (omega (arith, is))
 read-at_4 (ending.Damaged place) is = absurd (omega (arith, is))
 read-at_4 ending.OutOfMemory is = absurd (omega (arith, is))
+read-at_4 ending.GateFault is = absurd (omega (arith, is))
 
 -- 5 that of a failed write
 pub write-at_5 : (ended : Ending) → status_of ended ≡ 5 → ended ≡ ending.WriteFault
@@ -65,6 +69,7 @@ write-at_5 ending.DiskFault is = absurd (omega (arith, is))
 write-at_5 (ending.NotAJournal found) is = absurd (omega (arith, is))
 write-at_5 (ending.Damaged place) is = absurd (omega (arith, is))
 write-at_5 ending.OutOfMemory is = absurd (omega (arith, is))
+write-at_5 ending.GateFault is = absurd (omega (arith, is))
 
 -- 6 that of a disk that failed while it was opened
 pub disk-at_6 : (ended : Ending) → status_of ended ≡ 6 → ended ≡ ending.DiskFault
@@ -77,6 +82,7 @@ disk-at_6 ending.DiskFault is = refl
 disk-at_6 (ending.NotAJournal found) is = absurd (omega (arith, is))
 disk-at_6 (ending.Damaged place) is = absurd (omega (arith, is))
 disk-at_6 ending.OutOfMemory is = absurd (omega (arith, is))
+disk-at_6 ending.GateFault is = absurd (omega (arith, is))
 
 -- 9 that of want of memory
 pub memory-at_9 : (ended : Ending) → status_of ended ≡ 9 → ended ≡ ending.OutOfMemory
@@ -89,6 +95,20 @@ memory-at_9 ending.DiskFault is = absurd (omega (arith, is))
 memory-at_9 (ending.NotAJournal found) is = absurd (omega (arith, is))
 memory-at_9 (ending.Damaged place) is = absurd (omega (arith, is))
 memory-at_9 ending.OutOfMemory is = refl
+memory-at_9 ending.GateFault is = absurd (omega (arith, is))
+
+-- 10 that of a gate that failed
+pub gate-at_10 : (ended : Ending) → status_of ended ≡ 10 → ended ≡ ending.GateFault
+gate-at_10 ending.Done is = absurd (omega (arith, is))
+gate-at_10 ending.Usage is = absurd (omega (arith, is))
+gate-at_10 (ending.BadInput number) is = absurd (omega (arith, is))
+gate-at_10 ending.ReadFault is = absurd (omega (arith, is))
+gate-at_10 ending.WriteFault is = absurd (omega (arith, is))
+gate-at_10 ending.DiskFault is = absurd (omega (arith, is))
+gate-at_10 (ending.NotAJournal found) is = absurd (omega (arith, is))
+gate-at_10 (ending.Damaged place) is = absurd (omega (arith, is))
+gate-at_10 ending.OutOfMemory is = absurd (omega (arith, is))
+gate-at_10 ending.GateFault is = refl
 
 -- 6, 7 and 8 are those of a disk that wasn't opened
 pub unopened-at : (ended : Ending) → 6 ≤ status_of ended → status_of ended ≤ 8 → IsUnopened ended
@@ -101,13 +121,14 @@ unopened-at ending.DiskFault least most = tt
 unopened-at (ending.NotAJournal found) least most = tt
 unopened-at (ending.Damaged place) least most = tt
 unopened-at ending.OutOfMemory least most = absurd (omega (arith, least, most))
+unopened-at ending.GateFault least most = absurd (omega (arith, least, most))
 
 -- there is no other status
 pub other-at : (ended : Ending)
     → status_of ended ≢ 0
     → status_of ended ≢ 2
     → (status_of ended < 3) ⊎ (8 < status_of ended)
-    → status_of ended ≡ 9
+    → (status_of ended ≡ 9) ⊎ (status_of ended ≡ 10)
 other-at ending.Done done usage far = absurd (done refl)
 other-at ending.Usage done usage far = absurd (usage refl)
 other-at (ending.BadInput number) done usage (inl low) = absurd (omega (arith, low))
@@ -122,7 +143,8 @@ other-at (ending.NotAJournal found) done usage (inl low) = absurd (omega (arith,
 other-at (ending.NotAJournal found) done usage (inr high) = absurd (omega (arith, high))
 other-at (ending.Damaged place) done usage (inl low) = absurd (omega (arith, low))
 other-at (ending.Damaged place) done usage (inr high) = absurd (omega (arith, high))
-other-at ending.OutOfMemory done usage far = refl
+other-at ending.OutOfMemory done usage far = inl refl
+other-at ending.GateFault done usage far = inr refl
 
 -- a disk that wasn't opened ends no command at another status than 6 to 9
 pub status-unopened : (why : OpenFault) → 6 ≤ status_of (ending_of why)
@@ -144,3 +166,10 @@ disk-unopened fault.DiskFault is = refl
 disk-unopened (fault.NotAJournal found) is = absurd (cc)
 disk-unopened (fault.Damaged place) is = absurd (cc)
 disk-unopened fault.OutOfMemory is = absurd (cc)
+
+-- a disk that wasn't opened isn't a gate that failed
+pub gate-unopened : (why : OpenFault) → ending_of why ≢ ending.GateFault
+gate-unopened fault.DiskFault is = absurd (cc)
+gate-unopened (fault.NotAJournal found) is = absurd (cc)
+gate-unopened (fault.Damaged place) is = absurd (cc)
+gate-unopened fault.OutOfMemory is = absurd (cc)

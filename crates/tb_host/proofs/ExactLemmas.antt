@@ -1,29 +1,11 @@
 -- The file decides whether a disk is opened.
-use Rattle.std.proofs.Common.{
-  ◌≡◌,
-  ◌≢◌,
-  ◌⊎◌,
-  ℕ,
-  ◌<◌,
-  List,
-  Option,
-  Some,
-  None,
-  inl,
-  inr,
-  sym,
-  subst,
-  ap,
-  ◌∙◌,
-  refl,
-  arith,
-}
+use Rattle.std.proofs.Common.{◌≡◌, ◌⊎◌, List, Option, Some, None, inl, inr, subst, ap, ◌∙◌, refl}
 use Rattle.std.specs.Prelude.{Ok, Err, IfSome}
 use Rattle.tb_link.specs.Counts.{Rose}
 use Rattle.tb_disk.specs.Disks.{DiskState}
 use Rattle.tb_disk.specs.Past.{Past, contents_of}
 use Rattle.tb_message.specs.declared.message.Entry.{Entry}
-use Rattle.tb_desk.specs.Replay.{Answer, IsExact, IsTrueOf, SpeaksOfFile}
+use Rattle.tb_desk.specs.Replay.{IsExact, IsTrueOf, SpeaksOfFile}
 use Rattle.tb_desk.specs.declared.fault.OpenFault.{OpenFault}
 use Rattle.tb_desk.specs.declared.fault.OpenFault.TheVariants as fault
 use Rattle.tb_host.specs.DiskRun.{Unopened}
@@ -32,7 +14,6 @@ use Rattle.tb_host.specs.HostRun.{HasHistory}
 use Rattle.tb_host.specs.RunEnds.{Devices, EndsOnDisk, NotBegun}
 use Rattle.tb_host.specs.Standings.{Standing}
 use Rattle.tb_host.specs.declared.ending.Ending.{Ending}
-use Rattle.tb_host.specs.declared.ending.Ending.TheVariants as ending
 use Rattle.tb_link.specs.Sources.{SourceState}
 
 -- a history speaks of the file
@@ -40,7 +21,7 @@ speaks-history : (history : List Entry) → SpeaksOfFile (Ok history)
 speaks-history history = ((λ is. (cc)), (λ is. (cc)))
 
 -- what is known of a past that is told
-known : (P : Past → Type 0) (found : Option Past) (past : Past) → found ≡ Some past → IfSome found P → P past
+pub known : (P : Past → Type 0) (found : Option Past) (past : Past) → found ≡ Some past → IfSome found P → P past
 known P found past is holds = subst (λ (p : Option Past). IfSome p P) is holds
 
 -- a file that stands for a legal history isn't refused
@@ -57,7 +38,7 @@ refused-not why old new stands unopened speaks =
     cc
 
 -- a file that is to be refused isn't opened
-opened-not : (why : OpenFault) (past : Past) (history : List Entry)
+pub opened-not : (why : OpenFault) (past : Past) (history : List Entry)
     → IsTrueOf (contents_of past) (Err why)
     → SpeaksOfFile (Err why)
     → IsExact (contents_of past) (Ok history)
@@ -67,7 +48,7 @@ opened-not why past history is_true speaks exact =
     cc
 
 -- and it is refused for this reason, unless the disk fails or memory runs out
-reasons-one : (why given : OpenFault) (past : Past) (old new : DiskState)
+pub reasons-one : (why given : OpenFault) (past : Past) (old new : DiskState)
     → old.past ≡ Some past
     → IsTrueOf (contents_of past) (Err why)
     → SpeaksOfFile (Err why)
@@ -111,7 +92,7 @@ disk-refused_file Holds ended input input' old new past why (inr not_begun) told
     the_status (inr memory) = inr (ap status_of (not_begun.ended_is ∙ ap ending_of memory))
 
 -- a disk that stands for a legal history is opened, unless it fails or memory runs out
-opened-of : (why : OpenFault) (old new : DiskState)
+pub opened-of : (why : OpenFault) (old new : DiskState)
     → HasHistory old
     → Unopened why old new
     → ¬ (Rose old.faults new.faults)

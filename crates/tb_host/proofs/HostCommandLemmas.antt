@@ -1,5 +1,5 @@
 -- What a command did is what the words ask.
-use Rattle.std.proofs.Common.{◌≡◌, ◌≢◌, ◌⊎◌, ◌<◌, ℕ, List, Bool, inl, inr, subst, sym, ap, ◌∙◌, refl, arith}
+use Rattle.std.proofs.Common.{◌≡◌, ◌≢◌, ◌⊎◌, ℕ, List, Bool, inl, inr, subst, sym, refl, arith}
 use Rattle.std.specs.Prelude.{Option}
 use Rattle.tb_link.specs.Counts.{Rose}
 use Rattle.tb_link.specs.Sources.{SourceState}
@@ -12,15 +12,15 @@ use Rattle.tb_host.specs.AwardRun.{AwardEnds}
 use Rattle.tb_host.specs.Commands.{OpenDisk}
 use Rattle.tb_host.specs.Endings.{IsUnopened, status_of}
 use Rattle.tb_host.specs.HostRun.{EndsAs, HasHistory, ReadsAlone}
-use Rattle.tb_host.specs.ReportRun.{Reads, ReadsDesk, ReportEnds, inquiry}
-use Rattle.tb_host.specs.RunEnds.{Devices, EndsOnDisk, NotBegun, RunEnds, ScriptEnds}
+use Rattle.tb_host.specs.ReportRun.{ReadsDesk, ReportEnds, inquiry}
+use Rattle.tb_host.specs.RunEnds.{Devices, EndsOnDisk, NotBegun, ScriptEnds}
 use Rattle.tb_host.specs.Standings.{Standing}
 use Rattle.tb_host.specs.Told.{WhereTold}
 use Rattle.tb_host.specs.TrialRun.{TrialEnds}
 use Rattle.tb_host.specs.declared.ending.Ending.{Ending}
 use Rattle.tb_host.specs.declared.ending.Ending.TheVariants as ending
 use Rattle.tb_host.specs.declared.report_command.Inquiry.{Inquiry}
-use Rattle.tb_host.proofs.EndingLemmas.{disk-unopened, usage-unopened}
+use Rattle.tb_host.proofs.EndingLemmas.{disk-unopened, gate-unopened, usage-unopened}
 use Rattle.tb_host.proofs.ExactLemmas.{memory-not_begun}
 use Rattle.tb_host.proofs.HostLemmas.{on_desk_of}
 
@@ -44,7 +44,7 @@ reads-asked said asked texts before after told are reads are' =
     subst (λ (c : Command). WhereTold told (ReadsAlone c before after)) (one_command texts said asked are are') reads
 
 -- a command on the disk that ended as none does on a desk wasn't begun
-not_begun_of : (Holds : Standing → Standing → Type 0) (ended : Ending) (input input' : SourceState) (old new : Devices)
+pub not_begun_of : (Holds : Standing → Standing → Type 0) (ended : Ending) (input input' : SourceState) (old new : Devices)
     → ((first last : Standing) → ¬ (Holds first last))
     → EndsOnDisk Holds ended input input' old new
     → NotBegun ended input input' old new
@@ -70,6 +70,7 @@ script-not operator (ending.NotAJournal found) input input' out out' first last 
 script-not operator (ending.Damaged place) input input' out out' first last is ends = ends
 script-not operator ending.OutOfMemory input input' out out' first last (inl is) ends = absurd (cc)
 script-not operator ending.OutOfMemory input input' out out' first last (inr none) ends = none
+script-not operator ending.GateFault input input' out out' first last is ends = ends
 
 -- and no report
 report-not : (asked : Inquiry) (ended : Ending) (out out' : SinkState) (first last : Standing)
@@ -87,6 +88,7 @@ report-not asked (ending.NotAJournal found) out out' first last is ends = ends.1
 report-not asked (ending.Damaged place) out out' first last is ends = ends.1
 report-not asked ending.OutOfMemory out out' first last (inl is) ends = absurd (cc)
 report-not asked ending.OutOfMemory out out' first last (inr none) ends = none
+report-not asked ending.GateFault out out' first last is ends = ends.1
 
 -- `award` opens no disk
 award-opens_none : (full : Bool) (ended : Ending) (input input' : SourceState) (out out' : SinkState)
@@ -101,6 +103,7 @@ award-opens_none full ending.DiskFault input input' out out' award none = award
 award-opens_none full (ending.NotAJournal found) input input' out out' award none = award
 award-opens_none full (ending.Damaged place) input input' out out' award none = award
 award-opens_none full ending.OutOfMemory input input' out out' award none = none
+award-opens_none full ending.GateFault input input' out out' award none = none
 
 -- nor does `trial`
 trial-opens_none : (seed count : ℕ) (ended : Ending) (out out' : SinkState)
@@ -115,6 +118,7 @@ trial-opens_none seed count ending.DiskFault out out' trial none = trial
 trial-opens_none seed count (ending.NotAJournal found) out out' trial none = trial
 trial-opens_none seed count (ending.Damaged place) out out' trial none = trial
 trial-opens_none seed count ending.OutOfMemory out out' trial none = none
+trial-opens_none seed count ending.GateFault out out' trial none = none
 
 -- a command that ended as a disk that wasn't opened wasn't begun
 pub unopened-not_begun : (said : Command) (ended : Ending) (input input' : SourceState) (old new : Devices)
@@ -170,6 +174,22 @@ not-usage_at (command.Report operator caller asked csv) input input' old new end
     usage-unopened none.why (sym none.ended_is)
 not-usage_at (command.Trial seed count) input input' old new ends = ends
 
+-- no such command ends as one whose gate failed
+not-gate_at : (said : Command) (input input' : SourceState) (old new : Devices)
+    → ¬ (EndsAs said ending.GateFault input input' old new)
+not-gate_at (command.Award full) input input' old new ends = ends
+not-gate_at (command.Run operator) input input' old new ends =
+    let Holds = ScriptEnds operator ending.GateFault input input' old.out new.out in
+    let none = not_begun_of Holds ending.GateFault input input' old new (λ first last ends. ends) ends in
+    gate-unopened none.why (sym none.ended_is)
+not-gate_at (command.Serve operator port workers links) input input' old new ends = ends
+not-gate_at (command.Import operator caller) input input' old new ends = ends
+not-gate_at (command.Report operator caller asked csv) input input' old new ends =
+    let Holds = ReadsDesk (inquiry operator caller asked csv) ending.GateFault old.out new.out in
+    let none = not_begun_of Holds ending.GateFault input input' old new (λ first last ends. ends.1) ends.ends in
+    gate-unopened none.why (sym none.ended_is)
+not-gate_at (command.Trial seed count) input input' old new ends = ends
+
 -- where a command tells of a read that failed the count of the input has risen
 read-rose_at : (said : Command) (input input' : SourceState) (old new : Devices)
     → EndsAs said ending.ReadFault input input' old new
@@ -214,6 +234,9 @@ module _ (said : Command) (ended : Ending) (input input' : SourceState) (old new
   ends_at : (at : Ending) → ended ≡ at → EndsAs said at input input' old new
   ends_at at is = subst (λ (e : Ending). EndsAs said e input input' old new) is ends
 
+  pub not-gate : ended ≢ ending.GateFault
+  not-gate is = not-gate_at said input input' old new (ends_at ending.GateFault is)
+
   pub not-usage : ended ≢ ending.Usage
   not-usage is = not-usage_at said input input' old new (ends_at ending.Usage is)
 
@@ -240,6 +263,7 @@ reads-complete asked ending.DiskFault out out' first last ends no_write = absurd
 reads-complete asked (ending.NotAJournal found) out out' first last ends no_write = absurd ends.1
 reads-complete asked (ending.Damaged place) out out' first last ends no_write = absurd ends.1
 reads-complete asked ending.OutOfMemory out out' first last ends no_write = inr refl
+reads-complete asked ending.GateFault out out' first last ends no_write = absurd ends.1
 
 pub report-complete : (asked : Inquiry) (ended : Ending) (input input' : SourceState) (old new : Devices)
     → ReportEnds asked ended input input' old new

@@ -1,5 +1,5 @@
 -- What the program's status says of the command.
-use Rattle.std.proofs.Common.{◌≡◌, ◌≢◌, ◌<◌, ◌≤◌, ◌⊎◌, ℕ, List, inl, inr, ap, sym, subst, ◌∙◌, refl, arith}
+use Rattle.std.proofs.Common.{◌≡◌, ◌≢◌, ◌<◌, ◌⊎◌, ℕ, List, inl, inr, ap, subst, refl, arith}
 use Rattle.std.specs.Prelude.{Bool}
 use Rattle.std.specs.Str.Lines.{lines}
 use Rattle.tb_link.specs.Sources.{SourceState}
@@ -58,6 +58,7 @@ award-silent full ending.DiskFault input input' out out' ends done wrote = absur
 award-silent full (ending.NotAJournal found) input input' out out' ends done wrote = absurd ends
 award-silent full (ending.Damaged place) input input' out out' ends done wrote = absurd ends
 award-silent full ending.OutOfMemory input input' out out' ends done wrote = ends
+award-silent full ending.GateFault input input' out out' ends done wrote = absurd ends
 
 -- below 6 a command on the disk ended on a desk
 pub on_desk_of : (Holds : Standing → Standing → Type 0) (ended : Ending) (input input' : SourceState)

@@ -34,3 +34,8 @@ mod HostCommandLemmas
 mod TrialLemmas
 mod AnswerLemmas
 mod ReportLemmas
+mod OneHistoryLemmas
+mod HeadlineLemmas
+mod ServeLemmas
+pub mod ServeWordLemmas
+mod ServeHostLemmas

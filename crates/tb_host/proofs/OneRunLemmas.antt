@@ -1,5 +1,5 @@
 -- Lines have one run from a history.
-use Rattle.std.proofs.Common.{◌≡◌, ◌≢◌, ℕ, List, [], ◌∷◌, ◌++◌, sym, subst, ap, ◌∙◌, refl, arith}
+use Rattle.std.proofs.Common.{◌≡◌, ◌≢◌, ℕ, List, [], ◌∷◌, ◌++◌, sym, subst, ap, ◌∙◌, arith}
 use Rattle.std.specs.Prelude.{Option, Some, None, Result, Ok, Err}
 use Rattle.std.specs.Fmt.{decimal}
 use Rattle.tb_units.specs.Bytes.{blank}
@@ -11,7 +11,6 @@ use Rattle.tb_desk.specs.declared.reply.Reply.TheVariants as turned
 use Rattle.tb_terms.specs.declared.announcement.Announcement.{Announcement}
 use Rattle.tb_terms.specs.declared.cusip.Cusip.{Cusip}
 use Rattle.tb_terms.specs.declared.refusal.Refusal.{Refusal}
-use Rattle.tb_terms.specs.declared.refusal.Refusal.TheVariants as refusal
 use Rattle.tb_message.specs.Keys.{key_of}
 use Rattle.tb_message.specs.Requests.{AnswerOf, FaultOf, request_in}
 use Rattle.tb_message.specs.declared.key.Key.{Key}
@@ -32,12 +31,10 @@ use Rattle.tb_history.specs.Holdings.{bidding_in}
 use Rattle.tb_history.specs.Roster.{registrations}
 use Rattle.tb_history.specs.declared.reading.Reading.{Reading}
 use Rattle.tb_history.specs.declared.reading.Reading.TheVariants as reading
-use Rattle.tb_history.specs.declared.readings.AwardLine.{AwardLine}
-use Rattle.tb_history.specs.declared.readings.Results.{Results}
 use Rattle.tb_history.proofs.ReadingLemmas.{AreResults-one, AreAwardLines-one, AreHoldingLines-one, ArePaidLines-one}
 use Rattle.std.specs.List.{after_first, before_first}
 use Rattle.tb_host.specs.Fields.{is_blank}
-use Rattle.tb_host.specs.Replies.{Asks, IsAnswered, IsReply, IsTold, asked_by, reading_text, refusal_of, refused}
+use Rattle.tb_host.specs.Replies.{Asks, IsAnswered, IsReply, IsTold, asked_by, reading_text, refusal_of}
 use Rattle.tb_host.specs.ScriptLines.{SpellsAsk}
 use Rattle.tb_desk.specs.Desks.{replies_of}
 use Rattle.tb_host.specs.ScriptRun.{IsActedOn, IsRun}

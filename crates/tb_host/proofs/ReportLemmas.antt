@@ -1,17 +1,15 @@
 -- How a report ends.
-use Rattle.std.proofs.Common.{◌≡◌, ℕ, List, [], Option, Some, None, true, false, Bool, inl, inr, sym, subst, refl, append-nil}
-use Rattle.std.specs.Prelude.{Result, Ok, Err, IfOk}
+use Rattle.std.proofs.Common.{◌≡◌, ℕ, List, Option, Some, None, inr, refl}
 use Rattle.tb_link.specs.Sources.{SourceState}
 use Rattle.tb_link.specs.Sinks.{SinkState}
 use Rattle.tb_disk.specs.Disks.{DiskState}
-use Rattle.tb_units.specs.declared.memory.OutOfMemory.{OutOfMemory}
 use Rattle.tb_terms.specs.declared.refusal.Refusal.{Refusal}
 use Rattle.tb_desk.specs.declared.fault.OpenFault.TheVariants as fault
 use Rattle.tb_message.specs.declared.message.Entry.{Entry}
 use Rattle.tb_history.specs.Readings.{IsReading}
 use Rattle.tb_history.specs.declared.reading.Reading.{Reading}
-use Rattle.tb_host.specs.ReportRun.{IsAnswerTo, IsShown, ReportEnds, printed}
-use Rattle.tb_host.specs.RunEnds.{Devices, NotBegun}
+use Rattle.tb_host.specs.ReportRun.{IsShown, ReportEnds, printed}
+use Rattle.tb_host.specs.RunEnds.{NotBegun}
 use Rattle.tb_host.specs.declared.ending.Ending.TheVariants as ending
 use Rattle.tb_host.specs.declared.report_command.Inquiry.{Inquiry}
 use Rattle.tb_host.proofs.DiskLemmas.{Unopened-untouched}

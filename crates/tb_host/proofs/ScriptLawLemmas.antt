@@ -1,26 +1,5 @@
 -- Lines begin with one script, or leave the grammar of scripts at one line.
-use Rattle.std.proofs.Common.{
-  ◌≡◌,
-  ◌≢◌,
-  ℕ,
-  ◌+◌,
-  ◌<◌,
-  ◌≤◌,
-  List,
-  [],
-  ◌∷◌,
-  ◌++◌,
-  length,
-  sym,
-  subst,
-  ap,
-  ◌∙◌,
-  refl,
-  arith,
-  ◌⊎◌,
-  inl,
-  inr,
-}
+use Rattle.std.proofs.Common.{◌≡◌, ℕ, ◌+◌, ◌<◌, ◌≤◌, List, [], ◌∷◌, ◌++◌, length, sym, subst, ◌∙◌, refl, arith, ◌⊎◌, inl, inr}
 use Rattle.std.specs.Prelude.{Some, codes}
 use Rattle.std.specs.List.{AllByRecursion, position_or_len}
 use Rattle.std.specs.Fmt.{decimal}
@@ -36,7 +15,7 @@ use Rattle.tb_host.specs.HostRun.{HasHistory}
 use Rattle.tb_host.specs.LineEnds.{most_lines}
 use Rattle.tb_host.specs.RunEnds.{Devices, RunEnds, ScriptEnds}
 use Rattle.tb_host.specs.ScriptLines.{IsAsk, IsEnd}
-use Rattle.tb_host.specs.Scripts.{BeginsWithScript, HasScript, LeavesScript, MayStand, StopsBehind}
+use Rattle.tb_host.specs.Scripts.{BeginsWithScript, HasScript, LeavesScript, MayStand}
 use Rattle.tb_host.specs.Standings.{Standing}
 use Rattle.tb_host.specs.declared.ending.Ending.{Ending}
 use Rattle.tb_host.specs.declared.ending.Ending.TheVariants as ending
@@ -126,6 +105,8 @@ script-complete operator
     absurd ends
 script-complete operator ending.OutOfMemory input input' out out' first last text ends told script no_read no_write =
     inr refl
+script-complete operator ending.GateFault input input' out out' first last text ends told script no_read no_write =
+    absurd ends
 
 pub run-complete : (operator : List ℕ) (ended : Ending) (input input' : SourceState) (old new : Devices) (text : List ℕ)
     → RunEnds operator ended input input' old new
@@ -176,6 +157,9 @@ script-refused operator (ending.Damaged place) input input' out out' first last 
 script-refused operator ending.OutOfMemory input input' out out' first last text number ends told leaves no_read
     no_write =
     inr refl
+script-refused operator ending.GateFault input input' out out' first last text number ends told leaves no_read
+    no_write =
+    absurd ends
 
 pub run-refused : (operator : List ℕ) (ended : Ending) (input input' : SourceState) (old new : Devices) (text : List ℕ)
     (number : ℕ)

@@ -1,27 +1,5 @@
 -- Acting on a script, from line to line.
-use Rattle.std.proofs.Common.{
-  ◌≡◌,
-  ◌≢◌,
-  ℕ,
-  ◌+◌,
-  ◌<◌,
-  ◌≤◌,
-  List,
-  [],
-  ◌∷◌,
-  ◌++◌,
-  length,
-  sym,
-  subst,
-  ap,
-  ◌∙◌,
-  refl,
-  arith,
-  append_assoc,
-  append-nil,
-  inl,
-  inr,
-}
+use Rattle.std.proofs.Common.{◌≡◌, ℕ, ◌+◌, ◌<◌, ◌≤◌, List, [], ◌∷◌, ◌++◌, length, sym, subst, ap, ◌∙◌, refl, arith, append_assoc, append-nil, inl, inr}
 use Rattle.std.specs.Prelude.{Option, Some, None, position}
 use Rattle.std.specs.List.{AllByRecursion}
 use Rattle.std.specs.Str.Lines.{lines}
@@ -392,6 +370,7 @@ module _ (operator : List ℕ) (count : ℕ) (source : SourceState) (out : SinkS
   ScriptEnds-here (ending.NotAJournal found) few ends = absurd ends
   ScriptEnds-here (ending.Damaged place) few ends = absurd ends
   ScriptEnds-here ending.OutOfMemory few ends = LeftOff-here ends
+  ScriptEnds-here ending.GateFault few ends = absurd ends
 
   -- the history begins with the first one, whatever the next line did
   pub HasGrown-end : (result : Option Ending) → NextEnds operator (count + 1) result now new → HasGrown first new.stands
@@ -405,6 +384,7 @@ module _ (operator : List ℕ) (count : ℕ) (source : SourceState) (out : SinkS
   HasGrown-end (Some (ending.NotAJournal found)) ends = absurd ends
   HasGrown-end (Some (ending.Damaged place)) ends = absurd ends
   HasGrown-end (Some ending.OutOfMemory) ends = grown_as ends.0
+  HasGrown-end (Some ending.GateFault) ends = absurd ends
 
   -- where it ends the script no fault was passed over
   pub no_fault-end : NextEnds operator (count + 1) (Some ending.Done) now new

@@ -1,8 +1,8 @@
 -- The words of a line of a script.
-use Rattle.std.proofs.Common.{◌≡◌, ◌≢◌, ℕ, ◌+◌, ◌-◌, ◌<◌, ◌≤◌, ◌^◌, List, [], ◌∷◌, ◌++◌, length, take, drop, get_or, Bool, true, false, cond, sym, subst, ap, ◌∙◌, refl, arith, inl, inr, add-one}
-use Rattle.std.specs.Prelude.{Option, Some, None, IfSome, IfNone, codes, ◌==◌, ◌&&◌, nat_lt, bytes_eq}
+use Rattle.std.proofs.Common.{◌≡◌, ◌≢◌, ℕ, ◌+◌, ◌-◌, ◌<◌, ◌≤◌, ◌^◌, List, [], ◌∷◌, ◌++◌, length, take, drop, get_or, Bool, true, false, sym, subst, ap, ◌∙◌, refl, arith, inl, inr}
+use Rattle.std.specs.Prelude.{Option, Some, None, IfNone, codes, ◌==◌, ◌&&◌, nat_lt, bytes_eq}
 use Rattle.std.specs.Option.{option_map}
-use Rattle.std.specs.List.{All, AllPass, list_all, position_or_len, before_first, after_first}
+use Rattle.std.specs.List.{All, list_all, position_or_len, before_first, after_first}
 use Rattle.std.specs.Str.{IsAscii, IsUtf8}
 use Rattle.std.specs.Str.Parse.{AllDigits}
 use Rattle.std.specs.Fmt.{decimal}

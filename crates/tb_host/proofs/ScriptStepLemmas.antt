@@ -1,28 +1,6 @@
 -- The next line of a script.
-use Rattle.std.proofs.Common.{
-  ◌≡◌,
-  ℕ,
-  ◌<◌,
-  ◌≤◌,
-  List,
-  [],
-  ◌∷◌,
-  ◌++◌,
-  ◌-◌,
-  length,
-  take,
-  drop,
-  sym,
-  subst,
-  ap,
-  ◌∙◌,
-  refl,
-  arith,
-  inl,
-  inr,
-  ⊎_elim,
-}
-use Rattle.std.specs.Prelude.{Option, Some, None, codes}
+use Rattle.std.proofs.Common.{◌≡◌, ℕ, ◌<◌, List, ◌∷◌, ◌-◌, length, take, drop, sym, subst, ap, ◌∙◌, arith, inl, inr}
+use Rattle.std.specs.Prelude.{Option, Some, None}
 use Rattle.std.specs.Str.Lines.{lines}
 use Rattle.std.proofs.lemmas.List.{length-drop, take_all}
 use Rattle.tb_link.specs.Sinks.{SinkState, Takes, FailsToTake}
@@ -32,7 +10,7 @@ use Rattle.tb_host.specs.LineEnds.{longest_line}
 use Rattle.tb_host.specs.Lines.{Finds, FindsWhereTold, ahead}
 use Rattle.tb_host.specs.Reads.{ReadsNoMore}
 use Rattle.tb_host.specs.Replies.{IsAnswered}
-use Rattle.tb_host.specs.ScriptLines.{IsAsk, IsEnd, SpellsFrom}
+use Rattle.tb_host.specs.ScriptLines.{SpellsFrom}
 use Rattle.tb_host.specs.ScriptSteps.{Acts, ActsInVain, IsNext, LineEnds, NextEnds, NoneStands, RunState}
 use Rattle.tb_host.specs.Scripts.{MayStand}
 use Rattle.tb_host.specs.Standings.{Standing}
@@ -172,3 +150,4 @@ NextEnds-line operator number (Some ending.WriteFault) line old new found reads 
   holds = ends;
 }
 NextEnds-line operator number (Some ending.OutOfMemory) line old new found reads no_fault ends = ends
+NextEnds-line operator number (Some ending.GateFault) line old new found reads no_fault ends = absurd ends

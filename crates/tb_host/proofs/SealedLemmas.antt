@@ -1,5 +1,5 @@
 -- Replies are sealed: they are those on the sender's own part of the history.
-use Rattle.std.proofs.Common.{◌≡◌, ◌≢◌, ℕ, List, [], Option, Some, None, sym, subst, ap, ◌∙◌, refl}
+use Rattle.std.proofs.Common.{◌≡◌, ◌≢◌, ℕ, List, [], Option, Some, None, subst, ap, ◌∙◌, refl}
 use Rattle.std.specs.Prelude.{Result, Ok, Err, true, false}
 use Rattle.tb_units.specs.declared.moment.Moment.{Moment}
 use Rattle.tb_terms.specs.declared.refusal.Refusal.{Refusal}
@@ -8,7 +8,6 @@ use Rattle.tb_message.specs.declared.message.Message.{Message}
 use Rattle.tb_message.specs.declared.query.Query.{Query}
 use Rattle.tb_message.specs.declared.query.Request.{Request}
 use Rattle.tb_message.specs.declared.query.Request.TheVariants as request
-use Rattle.tb_message.specs.declared.verdict.Verdict.{Verdict}
 use Rattle.tb_history.specs.Answer.{asks_on, query_refusal}
 use Rattle.tb_history.specs.Legal.{IsLegal, running}
 use Rattle.tb_history.specs.OwnPart.{moves_par, own_part}
@@ -26,7 +25,7 @@ use Rattle.tb_host.specs.Turns.{MakesTurn, told, turn_text, unavailable}
 use Rattle.tb_host.proofs.TurnLemmas.{Gave-sure, said-is}
 
 -- the verdict on a message that moves no par
-verdict-own : (history : List Entry) (caller : List ℕ) (moment other : Moment) (number : ℕ) (message : Message)
+pub verdict-own : (history : List Entry) (caller : List ℕ) (moment other : Moment) (number : ℕ) (message : Message)
     → IsLegal history
     → moves_par message ≡ false
     → running history moment ≡ running (own_part caller history) other

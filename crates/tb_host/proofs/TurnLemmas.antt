@@ -1,29 +1,5 @@
 -- What one turn of the desk makes of the history.
-use Rattle.std.proofs.Common.{
-  ◌≡◌,
-  ◌≢◌,
-  ℕ,
-  ◌<◌,
-  ◌≤◌,
-  List,
-  [],
-  ◌∷◌,
-  ◌++◌,
-  Option,
-  Some,
-  None,
-  ◌⊎◌,
-  inl,
-  inr,
-  sym,
-  subst,
-  ap,
-  ◌∙◌,
-  refl,
-  arith,
-  append_assoc,
-  append-nil,
-}
+use Rattle.std.proofs.Common.{◌≡◌, ◌≢◌, ℕ, ◌≤◌, List, [], ◌∷◌, ◌++◌, Some, None, ◌⊎◌, inl, inr, sym, subst, ap, ◌∙◌, refl, arith, append_assoc, append-nil}
 use Rattle.tb_link.specs.Counts.{last_count, NeverFalls, Rose}
 use Rattle.tb_disk.specs.Disks.{DiskState}
 use Rattle.tb_units.specs.declared.moment.Moment.{Moment}
@@ -33,7 +9,7 @@ use Rattle.tb_message.specs.declared.verdict.Verdict.{Verdict}
 use Rattle.tb_history.specs.Legal.{running}
 use Rattle.tb_history.specs.Verdict.{verdict_on}
 use Rattle.tb_desk.specs.Desks.{replies_of}
-use Rattle.tb_desk.specs.Turn.{Asked, Held, IsAnswered, IsDoubted, IsStuck, IsTurn, Replies, Turns, group, verdicts}
+use Rattle.tb_desk.specs.Turn.{Asked, Held, IsTurn, Replies, Turns, group, verdicts}
 use Rattle.tb_desk.specs.declared.reply.Reply.{Reply}
 use Rattle.tb_desk.specs.declared.reply.Reply.TheVariants as turned
 use Rattle.tb_host.specs.DiskRun.{HasGrown}

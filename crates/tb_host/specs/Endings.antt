@@ -20,6 +20,7 @@ status_of ending.DiskFault = 6
 status_of (ending.NotAJournal found) = 7
 status_of (ending.Damaged place) = 8
 status_of ending.OutOfMemory = 9
+status_of ending.GateFault = 10
 
 -- the ending where the desk wasn't opened
 abbrev pub ending_of : OpenFault → Ending
@@ -54,6 +55,7 @@ message_of ending.DiskFault = codes "disk fault" ++ line_feed ∷ []
 message_of (ending.NotAJournal found) = codes "not a journal " ++ hexadecimal found ++ line_feed ∷ []
 message_of (ending.Damaged place) = codes "damaged at " ++ decimal place ++ line_feed ∷ []
 message_of ending.OutOfMemory = codes "out of memory" ++ line_feed ∷ []
+message_of ending.GateFault = codes "gate fault" ++ line_feed ∷ []
 
 -- the sink has taken the message whole, or failed and has taken a prefix of it
 abbrev pub Tells : SinkState → SinkState → List ℕ → Type 0

@@ -30,3 +30,6 @@ pub mod RunEnds
 pub mod ScriptSteps
 pub mod ReportRun
 pub mod HostRun
+pub mod Headline
+pub mod ServeRun
+pub mod ServeWords

@@ -1,5 +1,5 @@
 -- Scripts (our own form): lines that ask, then the line `end`.
-use Rattle.std.specs.Prelude.{◌≡◌, ℕ, ◌+◌, ◌<◌, ◌≤◌, ◌⊎◌, List, [], ◌∷◌, ◌++◌, length}
+use Rattle.std.specs.Prelude.{◌≡◌, ℕ, ◌+◌, ◌<◌, ◌≤◌, ◌⊎◌, List, ◌∷◌, ◌++◌, length}
 use Rattle.std.specs.List.{AllByRecursion}
 use Rattle.tb_host.specs.LineEnds.{most_lines}
 use Rattle.tb_host.specs.Grammars.{LeavesGrammar}

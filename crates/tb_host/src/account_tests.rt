@@ -223,7 +223,7 @@ fn bills_are_settled_moved_and_redeemed(rt: HostRuntime) -> Result<(), Fail> {
     for cases in [WORKED.as_slice(), REOPENED.as_slice()] {
         let text = script(rt.alloc(), "", cases)?;
         let told = replies(rt.alloc(), "", cases)?;
-        let run = run(rt.alloc(), &WORDS, text.as_str(), 4096, &[], &[])?;
+        let run = run(&rt, rt.alloc(), &WORDS, text.as_str(), 4096, &[], &[])?;
         assert_eq!(rt; run.out.bytes(), told.as_str().as_bytes());
         assert_eq!(rt; run.status, 0);
     }
@@ -245,7 +245,7 @@ fn a_roster_of_4096_submitters_is_full(rt: HostRuntime) -> Result<(), Fail> {
     }
     text.push_str("end\n")?;
     told.push_str("refused 51 RosterFull\n")?;
-    let run = run(alloc, &WORDS, text.as_str(), 8192, &[], &[])?;
+    let run = run(&rt, alloc, &WORDS, text.as_str(), 8192, &[], &[])?;
     assert_eq!(rt; run.out.bytes(), told.as_str().as_bytes());
     assert_eq!(rt; run.status, 0);
     Ok(())

@@ -5,7 +5,9 @@ use crate::tests::{Outcome, disk_of, run, run_on};
 use std::alloc::Global;
 use std::process::Abort;
 use std::str;
+use std::sync::Wait;
 use std::test::Fail;
+use std::thread::Threads;
 use tb_disk::MemoryDisk;
 
 /// The journal after the first message of the ordinary auction: the header, an open gate, the length of the record, the
@@ -87,19 +89,24 @@ const MESSAGE_REPLIES: [&str; 5] = [
     "accepted 4 1730737800",
 ];
 
-fn run_script(alloc: Global, text: &str, disk: MemoryDisk) -> Result<Outcome, Fail> {
-    run_on(alloc, &WORDS, text, 4096, &[], &[], disk)
+fn run_script<R: Threads + Wait + Sync>(
+    rt: &R,
+    alloc: Global,
+    text: &str,
+    disk: MemoryDisk,
+) -> Result<Outcome, Fail> {
+    run_on(rt, alloc, &WORDS, text, 4096, &[], &[], disk)
 }
 
 #[test]
 fn a_journal_has_the_bytes_of_its_format(rt: HostRuntime) -> Result<(), Fail> {
     let alloc = rt.alloc();
-    let first = run(alloc, &WORDS, FIRST, 64, &[], &[])?;
+    let first = run(&rt, alloc, &WORDS, FIRST, 64, &[], &[])?;
     assert_eq!(rt; first.out.bytes(), b"accepted 1 1730700000\n".as_slice());
     assert_eq!(rt; first.disk.contents(), ONE_ENTRY);
     for contents in [b"".as_slice(), b"seventeen bytes.."] {
         let disk = disk_of(&rt, alloc, contents, &[], 0)?;
-        let empty = run_script(alloc, "end\n", disk)?;
+        let empty = run_script(&rt, alloc, "end\n", disk)?;
         assert_eq!(rt; empty.status, 0);
         assert_eq!(rt; empty.out.bytes(), b"".as_slice());
         assert_eq!(rt; empty.disk.contents(), EMPTY);
@@ -110,9 +117,9 @@ fn a_journal_has_the_bytes_of_its_format(rt: HostRuntime) -> Result<(), Fail> {
 #[test]
 fn a_second_run_goes_on_with_the_history_of_the_first(rt: HostRuntime) -> Result<(), Fail> {
     let alloc = rt.alloc();
-    let first = run(alloc, &WORDS, ORDINARY, 4096, &[], &[])?;
+    let first = run(&rt, alloc, &WORDS, ORDINARY, 4096, &[], &[])?;
     let disk = disk_of(&rt, alloc, first.disk.contents(), &[], 0)?;
-    let second = run_script(alloc, ORDINARY, disk)?;
+    let second = run_script(&rt, alloc, ORDINARY, disk)?;
     assert_eq!(rt; second.status, 0);
     assert_eq!(rt; second.out.bytes(), SECOND_REPLIES.as_bytes());
     assert_eq!(rt; second.disk.contents(), first.disk.contents());
@@ -138,7 +145,7 @@ fn a_file_that_is_no_journal_is_refused_and_stays(rt: HostRuntime) -> Result<(),
     ] {
         // The first read would fail: nothing is read.
         let disk = disk_of(&rt, alloc, contents, &[], 0)?;
-        let refused = run_on(alloc, &WORDS, FIRST, 64, &[0], &[], disk)?;
+        let refused = run_on(&rt, alloc, &WORDS, FIRST, 64, &[0], &[], disk)?;
         assert_eq!(rt; refused.status, status);
         assert_eq!(rt; refused.out.bytes(), b"".as_slice());
         assert_eq!(rt; refused.err.bytes(), told.as_bytes());
@@ -154,21 +161,25 @@ fn a_message_that_meets_a_fault_is_told_so_and_the_run_goes_on(
     let alloc = rt.alloc();
     // The header and the gate fit, the first entry doesn't.
     let disk = MemoryDisk::new(alloc, b"", 40, 10_000, Vec::new(alloc), 0)?;
-    let full = run_script(alloc, FIRST, disk)?;
+    let full = run_script(&rt, alloc, FIRST, disk)?;
     assert_eq!(rt; full.status, 0);
     assert_eq!(rt; full.out.bytes(), b"unavailable DiskFault\n".as_slice());
     assert_eq!(rt; full.err.bytes(), b"".as_slice());
     let disk = disk_of(&rt, alloc, full.disk.contents(), &[], 0)?;
-    let again = run_script(alloc, "1730700000 k1 {}\nend\n", disk)?;
+    let again = run_script(&rt, alloc, "1730700000 k1 {}\nend\n", disk)?;
     assert_eq!(rt; again.out.bytes(), b"refused 1 UnknownKey\n".as_slice());
     Ok(())
 }
 
 // The script where these device calls fail, and once more on what it left: what was accepted stands, with its moment,
 // and everything is accepted in the end.
-fn keeps_what_it_accepted(rt: &impl Abort, alloc: Global, fails: &[u64]) -> Result<(), Fail> {
+fn keeps_what_it_accepted<R: Abort + Threads + Wait + Sync>(
+    rt: &R,
+    alloc: Global,
+    fails: &[u64],
+) -> Result<(), Fail> {
     let disk = disk_of(rt, alloc, b"", fails, 7)?;
-    let first = run_script(alloc, MESSAGES, disk)?;
+    let first = run_script(rt, alloc, MESSAGES, disk)?;
     if first.status == 6 {
         assert_eq!(rt; first.out.bytes(), b"".as_slice());
         assert_eq!(rt; first.err.bytes(), b"disk fault\n".as_slice());
@@ -176,7 +187,7 @@ fn keeps_what_it_accepted(rt: &impl Abort, alloc: Global, fails: &[u64]) -> Resu
         assert_eq!(rt; first.status, 0);
     }
     let disk = disk_of(rt, alloc, first.disk.contents(), &[], 0)?;
-    let second = run_script(alloc, MESSAGES, disk)?;
+    let second = run_script(rt, alloc, MESSAGES, disk)?;
     assert_eq!(rt; second.status, 0);
     let told = text_of(rt, alloc, first.out.bytes())?;
     let told_again = text_of(rt, alloc, second.out.bytes())?;
@@ -228,7 +239,7 @@ fn what_was_accepted_stays_where_all_calls_fail_from_one_on(rt: HostRuntime) -> 
 fn the_next_message_resolves_what_is_in_doubt(rt: HostRuntime) -> Result<(), Fail> {
     let alloc = rt.alloc();
     let once = disk_of(&rt, alloc, b"", &[7], 0)?;
-    let doubted = run_script(alloc, MESSAGES, once)?;
+    let doubted = run_script(&rt, alloc, MESSAGES, once)?;
     let mut want = "unavailable DiskFault\n".to_string(alloc)?;
     for reply in &MESSAGE_REPLIES[1..] {
         want.push_str(reply)?;
@@ -244,7 +255,7 @@ fn award_leaves_the_disk(rt: HostRuntime) -> Result<(), Fail> {
     let alloc = rt.alloc();
     for (words, status) in [(["award"].as_slice(), 3), (["award", "all"].as_slice(), 2)] {
         let disk = disk_of(&rt, alloc, b"kept", &[0], 0)?;
-        let run = run_on(alloc, words, "end\n", 64, &[], &[], disk)?;
+        let run = run_on(&rt, alloc, words, "end\n", 64, &[], &[], disk)?;
         assert_eq!(rt; run.status, status);
         assert_eq!(rt; run.disk.calls(), 0);
         assert_eq!(rt; run.disk.contents(), b"kept".as_slice());

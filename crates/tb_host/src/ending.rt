@@ -24,6 +24,8 @@ pub enum Ending {
     /// At this place the disk has no whole frame, or none whose entries can follow on those before.
     Damaged(u64),
     OutOfMemory,
+    /// A gate failed.
+    GateFault,
 }
 
 impl Ending {
@@ -53,6 +55,7 @@ impl Ending {
             Ending::NotAJournal(_) => 7,
             Ending::Damaged(_) => 8,
             Ending::OutOfMemory => 9,
+            Ending::GateFault => 10,
         }
     }
 
@@ -70,6 +73,7 @@ impl Ending {
             Ending::NotAJournal(found) => not_a_journal(&found),
             Ending::Damaged(place) => damaged(place),
             Ending::OutOfMemory => text(b"out of memory\n"),
+            Ending::GateFault => text(b"gate fault\n"),
         }
     }
 }
@@ -116,7 +120,8 @@ fn damaged(place: u64) -> Short
     message
 }
 
-fn text(bytes: &[u8]) -> Short
+// At most 48 bytes.
+pub(crate) fn text(bytes: &[u8]) -> Short
     requires { length bytes.now ≤ 48 }
     ensures { result ≡ bytes.now }
 {
@@ -125,7 +130,7 @@ fn text(bytes: &[u8]) -> Short
     text
 }
 
-fn push_text(text: &mut Short, bytes: &[u8])
+pub(crate) fn push_text(text: &mut Short, bytes: &[u8])
     requires { length text.old + length bytes.now ≤ 48 }
     ensures { text.new ≡ text.old ++ bytes.now }
 {

@@ -17,6 +17,8 @@ mod host;
 mod input;
 mod laws;
 mod line_end;
+mod plan_words;
+mod planned;
 mod read_line;
 mod reply;
 mod report_command;
@@ -27,6 +29,10 @@ mod run_command;
 mod run_tests;
 mod script_line;
 mod sender;
+mod serve_command;
+#[cfg(test)]
+mod serve_tests;
+mod serve_words;
 #[cfg(test)]
 mod tests;
 mod text_book;
@@ -36,3 +42,6 @@ mod word;
 
 pub use host::{Ended, host_main};
 pub use laws::{one_book_or_bad_line, one_run, one_script_or_bad_line, one_text, sealed_replies};
+pub use plan_words::plan;
+pub use planned::Plan;
+pub use serve_words::Serving;

@@ -3,7 +3,9 @@ use crate::run_tests::{ORDINARY, WORDS};
 use crate::tests::{Outcome, disk_of, run, run_on};
 use std::alloc::Global;
 use std::process::Abort;
+use std::sync::Wait;
 use std::test::Fail;
+use std::thread::Threads;
 
 const RESULTS: &str = "auction bill13
 cusip 912797AA5
@@ -38,16 +40,16 @@ end
 "#;
 
 /// What the script leaves is asked, and stays as it is. The writes of these numbers fail.
-fn ask(
-    rt: &impl Abort,
+fn ask<R: Abort + Threads + Wait + Sync>(
+    rt: &R,
     alloc: Global,
     left: &str,
     words: &[&str],
     failing_writes: &[u64],
 ) -> Result<Outcome, Fail> {
-    let ran = run(alloc, &WORDS, left, 4096, &[], &[])?;
+    let ran = run(rt, alloc, &WORDS, left, 4096, &[], &[])?;
     let disk = disk_of(rt, alloc, ran.disk.contents(), &[], 0)?;
-    let report = run_on(alloc, words, "", 1, &[0], failing_writes, disk)?;
+    let report = run_on(rt, alloc, words, "", 1, &[0], failing_writes, disk)?;
     assert_eq!(rt; report.disk.contents(), ran.disk.contents());
     Ok(report)
 }

@@ -193,7 +193,7 @@ fn an_ordinary_auction_goes_from_its_announcement_to_its_awards(
     rt: HostRuntime,
 ) -> Result<(), Fail> {
     for piece in [1, 100, ORDINARY.len()] {
-        let run = run(rt.alloc(), &WORDS, ORDINARY, piece, &[], &[])?;
+        let run = run(&rt, rt.alloc(), &WORDS, ORDINARY, piece, &[], &[])?;
         assert_eq!(rt;
             run.out.bytes(),
             ORDINARY_REPLIES.as_bytes(),
@@ -236,7 +236,7 @@ fn each_line_has_its_reply(rt: HostRuntime) -> Result<(), Fail> {
     ] {
         let text = script(rt.alloc(), OPENED, cases)?;
         let told = replies(rt.alloc(), OPENED_REPLIES, cases)?;
-        let run = run(rt.alloc(), &WORDS, text.as_str(), 4096, &[], &[])?;
+        let run = run(&rt, rt.alloc(), &WORDS, text.as_str(), 4096, &[], &[])?;
         assert_eq!(rt; run.out.bytes(), told.as_str().as_bytes());
         assert_eq!(rt; run.status, 0);
     }
@@ -259,7 +259,7 @@ fn lines_before_a_bad_one_are_acted_on(rt: HostRuntime) -> Result<(), Fail> {
         ("\n1730700000 k1 {\n\n", "bad input at line 3\n"),
     ] {
         let text = format!(in rt.alloc(); "{FIRST}{rest}")?;
-        let run = run(rt.alloc(), &WORDS, text.as_str(), 7, &[], &[])?;
+        let run = run(&rt, rt.alloc(), &WORDS, text.as_str(), 7, &[], &[])?;
         assert_eq!(rt; run.status, 3);
         assert_eq!(rt; run.err.bytes(), told.as_bytes());
         assert!(rt;
@@ -275,7 +275,7 @@ fn a_script_may_be_empty_and_its_last_line_may_lack_the_line_feed(
     rt: HostRuntime,
 ) -> Result<(), Fail> {
     for text in ["end\n", "end", "end\r\nwhat comes behind", "end\nend\n"] {
-        let run = run(rt.alloc(), &["run", "--op=root"], text, 3, &[], &[])?;
+        let run = run(&rt, rt.alloc(), &["run", "--op=root"], text, 3, &[], &[])?;
         assert_eq!(rt; run.status, 0);
         assert_eq!(rt; run.out.bytes(), b"".as_slice());
         assert_eq!(rt; run.err.bytes(), b"".as_slice());
@@ -291,9 +291,10 @@ fn faulty_words_are_told(rt: HostRuntime) -> Result<(), Fail> {
         ["run", "--op", "Root"].as_slice(),
         ["run", "--op", "root", "more"].as_slice(),
         ["serve", "--op", "root"].as_slice(),
-        ["trial", "1", "1"].as_slice(),
+        ["trial", "1", "0"].as_slice(),
+        ["import", "--op", "root", "--key", "k1"].as_slice(),
     ] {
-        let run = run(rt.alloc(), words, "end\n", 3, &[], &[])?;
+        let run = run(&rt, rt.alloc(), words, "end\n", 3, &[], &[])?;
         assert_eq!(rt; run.status, 2);
         assert_eq!(rt; run.out.bytes(), b"".as_slice());
         assert_eq!(rt; run.err.bytes(), b"usage\n".as_slice());
@@ -318,12 +319,12 @@ fn whole_lines_are_acted_on_where_a_read_fails(rt: HostRuntime) -> Result<(), Fa
         (100, "accepted 1 1730700000\nrefused 6 BadShape number\n"),
         (103, "accepted 1 1730700000\nrefused 6 BadShape number\n"),
     ] {
-        let run = run(rt.alloc(), &WORDS, TWO, 1, &[read], &[])?;
+        let run = run(&rt, rt.alloc(), &WORDS, TWO, 1, &[read], &[])?;
         assert_eq!(rt; run.status, 4, "read {read}");
         assert_eq!(rt; run.out.bytes(), out.as_bytes());
         assert_eq!(rt; run.err.bytes(), b"read fault\n".as_slice());
     }
-    let done = run(rt.alloc(), &WORDS, TWO, 1, &[104], &[])?;
+    let done = run(&rt, rt.alloc(), &WORDS, TWO, 1, &[104], &[])?;
     assert_eq!(rt; done.status, 0);
     Ok(())
 }
@@ -331,12 +332,12 @@ fn whole_lines_are_acted_on_where_a_read_fails(rt: HostRuntime) -> Result<(), Fa
 #[test]
 fn a_write_that_fails_ends_the_run(rt: HostRuntime) -> Result<(), Fail> {
     for (write, out) in [(0, ""), (1, "accepted 1 1730700000\n")] {
-        let failed = run(rt.alloc(), &WORDS, TWO, 64, &[], &[write])?;
+        let failed = run(&rt, rt.alloc(), &WORDS, TWO, 64, &[], &[write])?;
         assert_eq!(rt; failed.status, 5);
         assert_eq!(rt; failed.out.bytes(), out.as_bytes());
         assert_eq!(rt; failed.err.bytes(), b"write fault\n".as_slice());
     }
-    let done = run(rt.alloc(), &WORDS, TWO, 64, &[], &[2])?;
+    let done = run(&rt, rt.alloc(), &WORDS, TWO, 64, &[], &[2])?;
     assert_eq!(rt; done.status, 0, "each line has one write");
     Ok(())
 }
@@ -387,7 +388,7 @@ fn replies_are_the_same_where_others_send_a_thousand_bids(rt: HostRuntime) -> Re
     for (others, replies) in [("", ""), (bids.as_str(), accepted.as_str())] {
         let text = format!(in alloc; "{OPENED}{BEFORE}{others}{BEHIND}")?;
         let told = format!(in alloc; "{OPENED_REPLIES}{BEFORE_REPLIES}{replies}{BEHIND_REPLIES}")?;
-        let run = run(alloc, &WORDS, text.as_str(), 8192, &[], &[])?;
+        let run = run(&rt, alloc, &WORDS, text.as_str(), 8192, &[], &[])?;
         assert_eq!(rt; run.out.bytes(), told.as_str().as_bytes());
         assert_eq!(rt; run.status, 0);
     }

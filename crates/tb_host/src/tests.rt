@@ -2,7 +2,9 @@
 use super::*;
 use std::alloc::Global;
 use std::process::Abort;
+use std::sync::Wait;
 use std::test::Fail;
+use std::thread::Threads;
 use tb_disk::MemoryDisk;
 use tb_gates::{ListClock, ListGate};
 use tb_link::{TextSink, TextSource};
@@ -148,7 +150,8 @@ pub fn disk_of(
 }
 
 /// Runs the host on an empty disk. The reads and writes of these numbers fail.
-pub fn run(
+pub fn run<R: Threads + Wait + Sync>(
+    rt: &R,
     alloc: Global,
     words: &[&str],
     text: &str,
@@ -158,6 +161,7 @@ pub fn run(
 ) -> Result<Outcome, Fail> {
     let disk = MemoryDisk::new(alloc, b"", 200_000, 1_000_000, Vec::new(alloc), 0)?;
     run_on(
+        rt,
         alloc,
         words,
         text,
@@ -169,7 +173,8 @@ pub fn run(
 }
 
 /// Runs the host on a disk.
-pub fn run_on(
+pub fn run_on<R: Threads + Wait + Sync>(
+    rt: &R,
     alloc: Global,
     words: &[&str],
     text: &str,
@@ -178,9 +183,40 @@ pub fn run_on(
     failing_writes: &[u64],
     disk: MemoryDisk,
 ) -> Result<Outcome, Fail> {
+    let (outcome, _gates) = serve_on(
+        rt,
+        alloc,
+        words,
+        text,
+        piece,
+        failing_reads,
+        failing_writes,
+        disk,
+        Vec::new(alloc),
+    )?;
+    Ok(outcome)
+}
+
+/// Runs the host on a disk and these gates, which are as many as the words say.
+pub fn serve_on<R: Threads + Wait + Sync>(
+    rt: &R,
+    alloc: Global,
+    words: &[&str],
+    text: &str,
+    piece: usize,
+    failing_reads: &[u64],
+    failing_writes: &[u64],
+    disk: MemoryDisk,
+    mut gates: Vec<ListGate>,
+) -> Result<(Outcome, Vec<ListGate>), Fail> {
     let mut owned = Vec::new(alloc);
     for word in words {
         owned.push(word.to_string(alloc)?)?;
+    }
+    let owned = owned.as_slice();
+    let plan = plan(alloc, owned)?;
+    if gates.len() != plan.workers as usize {
+        return Err("other gates")?;
     }
     let mut input = TextSource::new(
         text.as_bytes().to_vec(alloc)?,
@@ -190,17 +226,17 @@ pub fn run_on(
     let mut out = TextSink::new(alloc, ROOM, failing_writes.to_vec(alloc)?)?;
     let mut err = TextSink::new(alloc, ROOM, Vec::new(alloc))?;
     let mut spare = MemoryDisk::new(alloc, b"spare", 5, 0, Vec::new(alloc), 0)?;
-    let mut gates: Vec<ListGate> = Vec::new(alloc);
     let clock = ListClock::new(Vec::from_array(alloc, [NOON])?);
     let ended = host_main(
-        alloc, &owned, &mut input, &mut out, &mut err, disk, &mut spare, &mut gates, clock,
+        rt, alloc, owned, &mut input, &mut out, &mut err, disk, &mut spare, &mut gates, clock,
     );
-    Ok(Outcome {
+    let outcome = Outcome {
         status: ended.status,
         out,
         err,
         disk: ended.disk,
-    })
+    };
+    Ok((outcome, gates))
 }
 
 #[test]
@@ -210,7 +246,7 @@ fn the_text_is_printed_however_the_book_is_cut_into_pieces(rt: HostRuntime) -> R
         (["award", "full"].as_slice(), FULL_TEXT),
     ] {
         for piece in [1, 2, 7, BOOK.len()] {
-            let run = run(rt.alloc(), words, BOOK, piece, &[], &[])?;
+            let run = run(&rt, rt.alloc(), words, BOOK, piece, &[], &[])?;
             assert_eq!(rt; run.status, 0, "pieces of {piece}");
             assert_eq!(rt; run.out.bytes(), text.as_bytes());
             assert_eq!(rt; run.err.bytes(), b"".as_slice());
@@ -222,7 +258,7 @@ fn the_text_is_printed_however_the_book_is_cut_into_pieces(rt: HostRuntime) -> R
 #[test]
 fn worked_books_have_their_texts(rt: HostRuntime) -> Result<(), Fail> {
     for (book, text) in &WORKED {
-        let run = run(rt.alloc(), &["award", "full"], book, 64, &[], &[])?;
+        let run = run(&rt, rt.alloc(), &["award", "full"], book, 64, &[], &[])?;
         assert_eq!(rt; run.status, 0);
         assert_eq!(rt; run.out.bytes(), text.as_bytes());
     }
@@ -231,10 +267,18 @@ fn worked_books_have_their_texts(rt: HostRuntime) -> Result<(), Fail> {
 
 #[test]
 fn nobody_gets_an_award_where_nothing_is_recognised(rt: HostRuntime) -> Result<(), Fail> {
-    let alone = run(rt.alloc(), &["award"], POSITION_ALONE, 7, &[], &[])?;
+    let alone = run(&rt, rt.alloc(), &["award"], POSITION_ALONE, 7, &[], &[])?;
     assert_eq!(rt; alone.status, 0);
     assert_eq!(rt; alone.out.bytes(), b"no awards\n".as_slice());
-    let full = run(rt.alloc(), &["award", "full"], POSITION_ALONE, 7, &[], &[])?;
+    let full = run(
+        &rt,
+        rt.alloc(),
+        &["award", "full"],
+        POSITION_ALONE,
+        7,
+        &[],
+        &[],
+    )?;
     assert_eq!(rt; full.status, 0);
     assert_eq!(rt; full.out.bytes(), b"no awards\naward z 0 0.00\n".as_slice());
     Ok(())
@@ -246,12 +290,12 @@ fn each_read_that_fails_ends_the_run(rt: HostRuntime) -> Result<(), Fail> {
     let reads = BOOK.len() as u64;
     for words in [["award"].as_slice(), ["award", "full"].as_slice()] {
         for call in 0..reads {
-            let run = run(rt.alloc(), words, BOOK, 1, &[call], &[])?;
+            let run = run(&rt, rt.alloc(), words, BOOK, 1, &[call], &[])?;
             assert_eq!(rt; run.status, 4, "read {call}");
             assert_eq!(rt; run.out.bytes(), b"".as_slice());
             assert_eq!(rt; run.err.bytes(), b"read fault\n".as_slice());
         }
-        let run = run(rt.alloc(), words, BOOK, 1, &[reads], &[])?;
+        let run = run(&rt, rt.alloc(), words, BOOK, 1, &[reads], &[])?;
         assert_eq!(rt; run.status, 0);
     }
     Ok(())
@@ -260,11 +304,11 @@ fn each_read_that_fails_ends_the_run(rt: HostRuntime) -> Result<(), Fail> {
 #[test]
 fn each_write_that_fails_ends_the_run(rt: HostRuntime) -> Result<(), Fail> {
     for words in [["award"].as_slice(), ["award", "full"].as_slice()] {
-        let failed = run(rt.alloc(), words, BOOK, BOOK.len(), &[], &[0])?;
+        let failed = run(&rt, rt.alloc(), words, BOOK, BOOK.len(), &[], &[0])?;
         assert_eq!(rt; failed.status, 5);
         assert_eq!(rt; failed.out.bytes(), b"".as_slice());
         assert_eq!(rt; failed.err.bytes(), b"write fault\n".as_slice());
-        let done = run(rt.alloc(), words, BOOK, BOOK.len(), &[], &[1])?;
+        let done = run(&rt, rt.alloc(), words, BOOK, BOOK.len(), &[], &[1])?;
         assert_eq!(rt; done.status, 0, "there is one write");
     }
     Ok(())
@@ -291,7 +335,7 @@ fn faulty_words_and_books_are_told(rt: HostRuntime) -> Result<(), Fail> {
             "bad input at line 3\n",
         ),
     ] {
-        let run = run(rt.alloc(), words, text, 7, &[], &[])?;
+        let run = run(&rt, rt.alloc(), words, text, 7, &[], &[])?;
         assert_eq!(rt; run.status, status);
         assert_eq!(rt; run.out.bytes(), b"".as_slice());
         assert_eq!(rt; run.err.bytes(), told.as_bytes());
@@ -304,10 +348,10 @@ fn a_trial_prints_its_figures(rt: HostRuntime) -> Result<(), Fail> {
     let words = ["trial", "1", "1"];
     let text = "bids 1\nhigh 5.050\nallotted 100.00\nprice 98.723472\nawarded 27200\n";
     // No read is made.
-    let done = run(rt.alloc(), &words, BOOK, 7, &[0], &[1])?;
+    let done = run(&rt, rt.alloc(), &words, BOOK, 7, &[0], &[1])?;
     assert_eq!(rt; done.status, 0);
     assert_eq!(rt; done.out.bytes(), text.as_bytes());
-    let failed = run(rt.alloc(), &words, BOOK, 7, &[], &[0])?;
+    let failed = run(&rt, rt.alloc(), &words, BOOK, 7, &[], &[0])?;
     assert_eq!(rt; failed.status, 5);
     assert_eq!(rt; failed.out.bytes(), b"".as_slice());
     Ok(())

@@ -1,4 +1,4 @@
-use Rattle.std.proofs.Common.{subst, sym}
+use Rattle.std.proofs.Common.{subst}
 use Rattle.tb_desk.specs.Desks.{replies_of}
 use Rattle.tb_host.specs.Replies.{asked_by}
 use Rattle.tb_host.specs.Standings.{Standing, standing}

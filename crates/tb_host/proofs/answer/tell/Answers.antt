@@ -1,4 +1,4 @@
-use Rattle.std.proofs.Common.{◌≡◌, ap, sym, subst, ◌∙◌}
+use Rattle.std.proofs.Common.{ap, sym, subst, ◌∙◌}
 use Rattle.std.specs.Prelude.{Option, Err}
 use Rattle.tb_terms.specs.declared.refusal.Refusal.{Refusal}
 use Rattle.tb_history.specs.Answer.{query_refusal}

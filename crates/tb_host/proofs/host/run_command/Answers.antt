@@ -1,10 +1,10 @@
-use Rattle.std.proofs.Common.{◌≡◌, ◌∙◌, ap, refl, inr}
-use Rattle.tb_desk.specs.declared.fault.OpenFault.TheVariants as fault
+use Rattle.std.proofs.Common.{inr}
 use Rattle.tb_words.specs.declared.command.Command.TheVariants as command
 use Rattle.tb_words.proofs.OneCommandLemmas.{one_command}
 use Rattle.tb_host.proofs.HostCommandLemmas.{
   disk-rose,
   ends-asked,
+  not-gate,
   not-usage,
   read-rose,
   reads-asked,
@@ -51,6 +51,7 @@ returns-in-Ok g c =
       untouched = λ is. absurd (not-usage said _ _ _ _ _ ends is);
       unread = c.do_command.ensures.unread;
       clock = c.do_command.ensures.clock;
+      no_gate = not-gate said _ _ _ _ _ ends;
     }
 
 pub returns-in-Err-OutOfMemory-clause-run : goal.returns-in-Err-OutOfMemory-clause-run

@@ -1,4 +1,4 @@
-use Rattle.std.proofs.Common.{◌≡◌, Option, ap, subst, sym, ◌∙◌, refl}
+use Rattle.std.proofs.Common.{Option, ap, subst, sym, ◌∙◌}
 use Rattle.std.specs.Prelude.{Err}
 use Rattle.tb_terms.specs.declared.refusal.Refusal.{Refusal}
 use Rattle.tb_history.specs.Answer.{query_refusal}

@@ -1,4 +1,4 @@
-use Rattle.std.proofs.Common.{◌≡◌, inl, inr, subst, sym, ap, refl, [], append-nil}
+use Rattle.std.proofs.Common.{inl, inr, subst, sym, ap, refl, [], append-nil}
 use Rattle.tb_disk.specs.Disks.{DiskState}
 use Rattle.tb_desk.specs.Desks.{IsBeginning}
 use Rattle.tb_desk.specs.Stands.{CrashesLeave}

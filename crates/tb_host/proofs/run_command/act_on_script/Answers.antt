@@ -1,4 +1,4 @@
-use Rattle.std.proofs.Common.{◌≡◌, ◌+◌, ap, subst, ◌∙◌, refl, arith}
+use Rattle.std.proofs.Common.{◌+◌, ap, subst, ◌∙◌, refl, arith}
 use Rattle.std.specs.Prelude.{Option, Some}
 use Rattle.tb_host.specs.ScriptSteps.{NextEnds, RunState}
 use Rattle.tb_host.specs.Standings.{standing}

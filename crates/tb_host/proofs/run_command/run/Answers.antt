@@ -1,5 +1,4 @@
-use Rattle.std.proofs.Common.{◌≡◌, inl, inr, subst, sym, ap, ◌∙◌, refl}
-use Rattle.std.specs.Prelude.{ℕ}
+use Rattle.std.proofs.Common.{inl, inr, subst, sym, ap, ◌∙◌, refl}
 use Rattle.tb_disk.specs.Disks.{DiskState}
 use Rattle.tb_desk.specs.Desks.{IsBeginning}
 use Rattle.tb_desk.specs.Stands.{CrashesLeave}

@@ -1,0 +1,391 @@
+-- What `serve` does follows from what the room's gates were served by.
+use Rattle.std.proofs.Common.{
+  ◌≡◌,
+  ℕ,
+  ◌+◌,
+  ◌≤◌,
+  Bool,
+  true,
+  false,
+  Option,
+  Some,
+  None,
+  is_some,
+  List,
+  [],
+  ◌∷◌,
+  ◌++◌,
+  length,
+  take,
+  drop,
+  map,
+  get_or,
+  ◌⊎◌,
+  inl,
+  inr,
+  refl,
+  sym,
+  subst,
+  ap,
+  ◌∙◌,
+  arith,
+}
+use Rattle.std.specs.Prelude.{All, IfSome, Ok, codes}
+use Rattle.std.specs.Fmt.{decimal}
+use Rattle.std.proofs.Math.Seq.{drop-append_seam}
+use Rattle.std.proofs.lemmas.List.{length-append, length-map}
+use Rattle.tb_units.specs.Bytes.{line_feed}
+use Rattle.tb_link.specs.Counts.{NeverFalls, Rose, last_count}
+use Rattle.tb_link.specs.Sources.{SourceState}
+use Rattle.tb_link.specs.Sinks.{SinkState, Takes, FailsToTake, after_taken}
+use Rattle.tb_disk.specs.Disks.{DiskState}
+use Rattle.tb_disk.specs.Past.{Past, contents_of}
+use Rattle.tb_gates.specs.Clocks.{ClockState}
+use Rattle.tb_gates.specs.Gates.{GateState}
+use Rattle.tb_journal.specs.Journal.{Told}
+use Rattle.tb_journal.specs.Opening.{IsHarmless}
+use Rattle.tb_journal.proofs.ToldLemmas.{Told-weaker}
+use Rattle.tb_message.specs.declared.message.Entry.{Entry}
+use Rattle.tb_history.specs.Legal.{IsLegal}
+use Rattle.tb_desk.specs.Replay.{IsExact, LeavesRefused}
+use Rattle.tb_desk.specs.declared.fault.OpenFault.{OpenFault}
+use Rattle.tb_desk.specs.declared.fault.OpenFault.TheVariants as fault
+use Rattle.tb_desk.proofs.GroupLemmas.{IsLegal-in_range}
+use Rattle.tb_session.specs.declared.room.Room.{Room}
+use Rattle.tb_session.specs.Codes.{Made, fixed_code, moments_code, spelled_all, told_code}
+use Rattle.tb_session.specs.Rooms.{fixed_of}
+use Rattle.tb_session.specs.Serve.{Run, AreRuns, IsHistoryOf, calls_of_gates, links_of_gates, some_failed}
+use Rattle.tb_host.specs.DiskRun.{HasGrown, Unopened}
+use Rattle.tb_host.specs.Endings.{ending_of}
+use Rattle.tb_host.specs.ServeRun.{Handed, HasAdded, LinksEnd, OneRose, OnServed, RoomEnds, RoomServed, ServeEnds, Serves, ToldEnds, WereServed, fixed_at, served_text}
+use Rattle.tb_host.specs.Standings.{Standing, standing}
+use Rattle.tb_host.specs.declared.ending.Ending.{Ending}
+use Rattle.tb_host.specs.declared.ending.Ending.TheVariants as ending
+use Rattle.tb_host.proofs.DiskLemmas.{Unopened-here, Unopened-untouched}
+use Rattle.tb_host.proofs.OneHistoryLemmas.{Begins-spelled, OneHistory-spelled}
+use Rattle.tb_host.proofs.ScriptLemmas.{after_taken-more}
+
+-- a disk tells as much after calls as before
+tells-on : (P : Past → Past → Type 0) (old new : DiskState) → Told old new P → is_some new.past ≡ is_some old.past
+tells-on P old new told = go old.past refl
+  where
+    go : (past : Option Past) → old.past ≡ past → is_some new.past ≡ is_some old.past
+    go None is = ap is_some (told.silent is ∙ sym is)
+    go (Some before) is = (let now = told.told before is in ap is_some now.1 ∙ sym (ap is_some is))
+
+-- the code tells the flag
+flag-one : (one other : Bool) → told_code one ≡ told_code other → one ≡ other
+flag-one true true is = refl
+flag-one false false is = refl
+flag-one true false is = absurd (let bad : ⊥ = omega (arith, is) in bad)
+flag-one false true is = absurd (let bad : ⊥ = omega (arith, is) in bad)
+
+-- a fixed part tells whether the disk tells its contents, and its count of faults
+fixed-same : (name name' : List ℕ) (told told' : Bool) (faults faults' : ℕ) (moments moments' : Option (List ℕ))
+    → fixed_code name told faults moments ≡ fixed_code name' told' faults' moments'
+    → (told ≡ told') × (faults ≡ faults')
+fixed-same name name' told told' faults faults' moments moments' is =
+    let rest : List ℕ = told_code told ∷ faults ∷ moments_code moments in
+    let rest' : List ℕ = told_code told' ∷ faults' ∷ moments_code moments' in
+    let long : length name ≡ length name' = cc in
+    let whole : name ++ rest ≡ name' ++ rest' = cc in
+    let behind : rest ≡ rest' =
+    sym (drop-append_seam name rest)
+    ∙ (ap (λ (l : List ℕ). drop (length name) l) whole
+    ∙ (ap (λ (n : ℕ). drop n (name' ++ rest')) long
+    ∙ drop-append_seam name' rest')) in
+    let flags : told_code told ≡ told_code told' = cc in
+    let counts : faults ≡ faults' = cc in
+    (flag-one told told' flags, counts)
+
+-- what is left of a history by its records
+added-length : (first last : List Entry) (later : List (List ℕ))
+    → spelled_all last ≡ spelled_all first ++ later
+    → length last ≡ length first + length later
+added-length first last later grown =
+    omega (
+      arith,
+      ap (λ (l : List (List ℕ)). length l) grown,
+      length-append (spelled_all first) later,
+      length-map first Rattle.tb_message.specs.Spelling.spelling,
+      length-map last Rattle.tb_message.specs.Spelling.spelling,
+    )
+
+-- how a desk was opened, and the room that it came into
+pub record IsOpenedFrom {D C : Type 0} (disk : D → DiskState) (clock : C → ClockState) (operator : List ℕ)
+    (moments : ClockState) (old : DiskState) (room : Room D C) : Type 0 where
+  pub exact : IfSome old.past (λ past. IsExact (contents_of past) (Ok room.desk.host.history))
+  pub harmless : Told old (disk room.desk.disk) IsHarmless
+  pub legal : IsLegal room.desk.host.history
+  pub sure : room.desk.doubt ≡ []
+  pub unmet : room.desk.faults ≡ 0
+  pub no_fault : (disk room.desk.disk).faults ≡ old.faults
+  pub same : room.desk.opened ≡ room.desk.disk
+  pub operator_is : room.operator ≡ operator
+  pub clock_is : clock room.clock ≡ moments
+
+-- The desk was opened, and its disk handed back as it was.
+pub Unopened-left : (old mid : DiskState) → Told old mid IsHarmless → mid.faults ≡ old.faults
+    → Unopened fault.OutOfMemory old mid
+Unopened-left old mid harmless no_fault =
+    Unopened-here fault.OutOfMemory old mid (Unopened-untouched old).is_true harmless
+    (Told-weaker IsHarmless (LeavesRefused fault.OutOfMemory) old mid (λ before now is. tt) harmless)
+    (λ is. absurd (let bad : ⊥ = cc in bad))
+    (record { never_falls = omega (arith, no_fault); bounded = λ few. omega (arith, no_fault, few) })
+
+module _ {D C G K : Type 0} (disk : D → DiskState) (clock : C → ClockState) (gate : G → GateState K)
+    (source : K → SourceState) (sink : K → SinkState) where
+  -- the room's fixed part is that of what `serve` was handed
+  fixed-is : (operator : List ℕ) (moments : ClockState) (old : DiskState) (room : Room D C)
+      → IsOpenedFrom disk clock operator moments old room
+      → fixed_of disk clock room ≡ fixed_at operator old moments
+  fixed-is operator moments old room opened =
+      let tells : is_some (disk room.desk.opened).past ≡ is_some old.past =
+      ap (λ (d : D). is_some (disk d).past) opened.same
+      ∙ tells-on IsHarmless old (disk room.desk.disk) opened.harmless in
+      let faults : (disk room.desk.opened).faults ≡ old.faults =
+      ap (λ (d : D). (disk d).faults) opened.same ∙ opened.no_fault in
+      let moment : (clock room.clock).moments ≡ moments.moments = ap (λ (c : ClockState). c.moments) opened.clock_is in
+      ap (λ (n : List ℕ). fixed_code n (is_some (disk room.desk.opened).past) (disk room.desk.opened).faults
+      (clock room.clock).moments) opened.operator_is
+      ∙ (ap (λ (t : Bool). fixed_code operator t (disk room.desk.opened).faults (clock room.clock).moments) tells
+      ∙ (ap (λ (n : ℕ). fixed_code operator (is_some old.past) n (clock room.clock).moments) faults
+      ∙ ap (λ (m : Option (List ℕ)). fixed_code operator (is_some old.past) old.faults m) moment))
+
+  -- Where the desk was opened and its room's gates were served, links were served.
+  pub Serves-room : (operator : List ℕ) (moments : ClockState) (ended : Ending) (old mid new : Handed G) (room : Room D C)
+      → IsOpenedFrom disk clock operator moments old.disk room
+      → mid.disk ≡ disk room.desk.disk
+      → mid.gates ≡ old.gates
+      → mid.out ≡ old.out
+      → RoomServed disk clock gate source sink room ended mid new
+      → OnServed gate source sink operator moments old new
+      (λ first last runs. (accepted : ℕ) × HasAdded first last accepted
+      × LinksEnd ended old.out new.out runs accepted)
+  Serves-room operator moments ended old mid new room opened disk_is gates_is out_is done = (
+    first,
+    last,
+    done.all.runs,
+    record {
+      opened = record { stood = opened.exact; legal = opened.legal; sure = opened.sure; count = opened.no_fault };
+      grown = grown;
+      stays = done.stays;
+      tells = tells;
+      are_runs = subst (λ (olds : List G). AreRuns gate source sink (fixed_at operator old.disk moments) olds new.gates
+          done.all.runs) gates_is (subst (λ (f : List ℕ). AreRuns gate source sink f mid.gates new.gates done.all.runs)
+          fixed done.all.are_runs);
+      one = OneHistory-spelled (fixed_at operator old.disk moments) first last grown.0 room.desk.faults
+          done.after.desk.faults (calls_of_gates done.all.runs) opened.legal done.stays.legal done.stays.accepted
+          grown.1 history;
+      counts = record {
+        met = done.after.desk.faults;
+        each = λ k d within. ((history.counts k d within).1, (history.counts k d within).2);
+        within = subst (λ (n : ℕ). (n + done.after.desk.faults ≤ new.disk.faults) ⊎ (new.disk.faults ≡ last_count))
+            faults done.counted;
+      };
+    },
+    (
+      done.accepted,
+      added-length first.history last.history history.later history.grown
+          ∙ ap (λ (n : ℕ). length first.history + n) (sym done.all.accepted_is),
+      subst (λ (out : SinkState). LinksEnd ended out new.out done.all.runs done.accepted) out_is told,
+    ),
+  )
+    where
+      first : Standing
+      first = standing (disk room.desk.disk) room.desk
+
+      last : Standing
+      last = standing new.disk done.after.desk
+
+      fixed : fixed_of disk clock room ≡ fixed_at operator old.disk moments
+      fixed = fixed-is operator moments old.disk room opened
+
+      raw : IsHistoryOf (fixed_of disk clock room) (spelled_all first.history) (spelled_all last.history)
+          (spelled_all last.doubt) room.desk.faults done.after.desk.faults (calls_of_gates done.all.runs)
+      raw = done.all.history
+
+      history : IsHistoryOf (fixed_at operator old.disk moments) (spelled_all first.history) (spelled_all last.history)
+          (spelled_all last.doubt) room.desk.faults done.after.desk.faults (calls_of_gates done.all.runs)
+      history = record {
+        later = raw.later;
+        grown = raw.grown;
+        entries = raw.entries;
+        doubted = raw.doubted;
+        answered = subst (λ (f : List ℕ). All (λ (m : Made). Rattle.tb_session.specs.Codes.IsAnswered f m.history m.called
+            m.before m.after) (calls_of_gates done.all.runs)) fixed raw.answered;
+        begins = raw.begins;
+        prefixes = raw.prefixes;
+        accepted = raw.accepted;
+        counts = raw.counts;
+      }
+
+      grown : HasGrown first last
+      grown = Begins-spelled first.history last.history (IsLegal-in_range first.history opened.legal)
+          (IsLegal-in_range last.history done.stays.legal) (history.later, history.grown)
+
+      told : LinksEnd ended mid.out new.out done.all.runs done.accepted
+      told = subst (λ (b : Bool). ToldEnds b ended mid.out new.out (served_text (links_of_gates done.all.runs)
+          done.accepted)) done.all.failed_is
+          (subst (λ (n : ℕ). ToldEnds done.failed ended mid.out new.out (served_text n done.accepted)) done.all.served_is
+          done.ends)
+
+      kept : (is_some (disk done.after.desk.opened).past ≡ is_some (disk room.desk.opened).past)
+          × ((disk done.after.desk.opened).faults ≡ (disk room.desk.opened).faults)
+      kept = fixed-same done.after.operator room.operator (is_some (disk done.after.desk.opened).past)
+          (is_some (disk room.desk.opened).past) (disk done.after.desk.opened).faults (disk room.desk.opened).faults
+          (clock done.after.clock).moments (clock room.clock).moments done.all.fixed
+
+      tells : is_some new.disk.past ≡ is_some old.disk.past
+      tells =
+          tells-on _ (disk done.after.desk.opened) new.disk done.since
+          ∙ (kept.0 ∙ (ap (λ (d : D). is_some (disk d).past) opened.same
+          ∙ tells-on IsHarmless old.disk (disk room.desk.disk) opened.harmless))
+
+      faults : (disk done.after.desk.opened).faults ≡ old.disk.faults
+      faults = kept.1 ∙ (ap (λ (d : D). (disk d).faults) opened.same ∙ opened.no_fault)
+
+  -- what follows wherever links were served
+  pub served-part : (operator : List ℕ) (moments : ClockState) (ended : Ending) (old new : Handed G)
+      (Q : Standing → Standing → List (Run K) → Type 0)
+      → ((first last : Standing) (runs : List (Run K))
+      → Serves gate source sink operator moments old new first last runs → Q first last runs)
+      → ServeEnds gate source sink operator moments ended old new
+      → WereServed ended
+      → OnServed gate source sink operator moments old new Q
+  served-part operator moments ended old new Q follows (inl served) were = (
+    served.0,
+    served.1,
+    served.2,
+    served.3,
+    follows served.0 served.1 served.2 served.3,
+  )
+  served-part operator moments ended old new Q follows (inr unserved) were =
+      absurd (never unserved.why (subst WereServed unserved.ended_is were))
+    where
+      never : (why : OpenFault) → WereServed (ending_of why) → ⊥
+      never fault.DiskFault were = were
+      never (fault.NotAJournal found) were = were
+      never (fault.Damaged place) were = were
+      never fault.OutOfMemory were = were
+
+  -- Where the desk was opened, the command ends as its room does.
+  pub ServeEnds-room : (operator : List ℕ) (moments : ClockState) (ended : Ending) (old mid new : Handed G) (room : Room D C)
+      → IsOpenedFrom disk clock operator moments old.disk room
+      → mid.disk ≡ disk room.desk.disk
+      → mid.gates ≡ old.gates
+      → mid.out ≡ old.out
+      → RoomEnds disk clock gate source sink room ended mid new
+      → ServeEnds gate source sink operator moments ended old new
+  ServeEnds-room operator moments ended old mid new room opened disk_is gates_is out_is (inl done) =
+      inl (Serves-room operator moments ended old mid new room opened disk_is gates_is out_is done)
+  ServeEnds-room operator moments ended old mid new room opened disk_is gates_is out_is (inr (ended_is, same)) =
+      inr (record {
+        why = fault.OutOfMemory;
+        ended_is = ended_is;
+        unopened = subst (λ (d : DiskState). Unopened fault.OutOfMemory old.disk d)
+            (sym (ap (λ (h : Handed G). h.disk) same ∙ disk_is))
+            (Unopened-left old.disk (disk room.desk.disk) opened.harmless opened.no_fault);
+        untaken = ap (λ (h : Handed G). h.gates) same ∙ gates_is;
+        silent = ap (λ (h : Handed G). h.out) same ∙ out_is;
+      })
+
+module _ {G K : Type 0} (gate : G → GateState K) (source : K → SourceState) (sink : K → SinkState) where
+  -- where a gate failed, the count of faults of one of them has risen
+  pub OneRose-runs : (fixed : List ℕ) (olds news : List G) (runs : List (Run K))
+      → AreRuns gate source sink fixed olds news runs
+      → some_failed runs ≡ true
+      → OneRose gate olds news
+  OneRose-runs fixed [] [] [] are failed = absurd (let bad : ⊥ = cc in bad)
+  OneRose-runs fixed (old ∷ olds) (new ∷ news) (run ∷ runs) are failed =
+      which run.failed refl (λ later. OneRose-runs fixed olds news runs are.1 later)
+    where
+      which : (b : Bool) → run.failed ≡ b → (some_failed runs ≡ true → OneRose gate olds news)
+          → OneRose gate (old ∷ olds) (new ∷ news)
+      which true is others = inl (are.0.fault is)
+      which false is others =
+          let later : some_failed (run ∷ runs) ≡ some_failed runs = rw is refl in
+          inr (others (sym later ∙ failed))
+  OneRose-runs fixed [] (new ∷ news) runs are failed = absurd are
+  OneRose-runs fixed [] [] (run ∷ runs) are failed = absurd are
+  OneRose-runs fixed (old ∷ olds) [] runs are failed = absurd are
+  OneRose-runs fixed (old ∷ olds) (new ∷ news) [] are failed = absurd are
+
+-- ---- the lines that are printed
+
+-- one piece was taken, and then another
+pub Takes-both : (old mid new : SinkState) (one other : List ℕ)
+    → Takes old mid one
+    → Takes mid new other
+    → Takes old new (one ++ other)
+Takes-both old mid new one other first then = record {
+  taken = then.taken ∙ (ap (λ (t : Option (List ℕ)). after_taken t other) first.taken
+      ∙ after_taken-more old.taken one other);
+  no_fault = then.no_fault ∙ first.no_fault;
+}
+
+-- the first failed
+pub Fails-first : (old new : SinkState) (one other : List ℕ)
+    → FailsToTake old new one
+    → FailsToTake old new (one ++ other)
+Fails-first old new one other fails = record {
+  prefix = (
+    fails.prefix.0,
+    fails.prefix.1 ++ other,
+    ap (λ (l : List ℕ). l ++ other) fails.prefix.2
+        ∙ Rattle.std.proofs.Common.append_assoc fails.prefix.0 fails.prefix.1 other,
+    fails.prefix.3,
+  );
+  rose = fails.rose;
+  count = fails.count;
+}
+
+-- the first was taken, and the second failed
+pub Fails-second : (old mid new : SinkState) (one other : List ℕ)
+    → Takes old mid one
+    → FailsToTake mid new other
+    → FailsToTake old new (one ++ other)
+Fails-second old mid new one other first fails = record {
+  prefix = (
+    one ++ fails.prefix.0,
+    fails.prefix.1,
+    ap (λ (l : List ℕ). one ++ l) fails.prefix.2
+        ∙ sym (Rattle.std.proofs.Common.append_assoc one fails.prefix.0 fails.prefix.1),
+    fails.prefix.3 ∙ (ap (λ (t : Option (List ℕ)). after_taken t fails.prefix.0) first.taken
+        ∙ after_taken-more old.taken one fails.prefix.0),
+  );
+  rose = subst (λ (n : ℕ). Rose n new.faults) first.no_fault fails.rose;
+  count = subst (λ (n : ℕ). NeverFalls n new.faults) first.no_fault fails.count;
+}
+
+-- the first line failed
+pub told-first : (failed : Bool) (served accepted : ℕ) (old new : SinkState)
+    → failed ≡ false
+    → FailsToTake old new (codes "served " ++ decimal served ++ line_feed ∷ [])
+    → ToldEnds failed ending.WriteFault old new (served_text served accepted)
+told-first failed served accepted old new none fails =
+    subst (λ (b : Bool). ToldEnds b ending.WriteFault old new (served_text served accepted)) (sym none)
+    (Fails-first old new (codes "served " ++ decimal served ++ line_feed ∷ [])
+    (codes "accepted " ++ decimal accepted ++ line_feed ∷ []) fails)
+
+-- the second did
+pub told-second : (failed : Bool) (served accepted : ℕ) (old mid new : SinkState)
+    → failed ≡ false
+    → Takes old mid (codes "served " ++ decimal served ++ line_feed ∷ [])
+    → FailsToTake mid new (codes "accepted " ++ decimal accepted ++ line_feed ∷ [])
+    → ToldEnds failed ending.WriteFault old new (served_text served accepted)
+told-second failed served accepted old mid new none takes fails =
+    subst (λ (b : Bool). ToldEnds b ending.WriteFault old new (served_text served accepted)) (sym none)
+    (Fails-second old mid new (codes "served " ++ decimal served ++ line_feed ∷ [])
+    (codes "accepted " ++ decimal accepted ++ line_feed ∷ []) takes fails)
+
+-- both lines were written
+pub told-both : (failed : Bool) (served accepted : ℕ) (old mid new : SinkState)
+    → failed ≡ false
+    → Takes old mid (codes "served " ++ decimal served ++ line_feed ∷ [])
+    → Takes mid new (codes "accepted " ++ decimal accepted ++ line_feed ∷ [])
+    → ToldEnds failed ending.Done old new (served_text served accepted)
+told-both failed served accepted old mid new none takes then =
+    subst (λ (b : Bool). ToldEnds b ending.Done old new (served_text served accepted)) (sym none)
+    (Takes-both old mid new (codes "served " ++ decimal served ++ line_feed ∷ [])
+    (codes "accepted " ++ decimal accepted ++ line_feed ∷ []) takes then)

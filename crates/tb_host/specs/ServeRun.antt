@@ -1,0 +1,134 @@
+-- What the command `serve` does: links are answered from one desk on a disk, by a worker for each gate.
+use Rattle.std.specs.Prelude.{◌≡◌, ◌⊎◌, ℕ, ◌+◌, ◌≤◌, List, [], ◌∷◌, ◌++◌, length, codes, is_some, Bool, true, false, All}
+use Rattle.std.specs.Fmt.{decimal}
+use Rattle.tb_units.specs.Bytes.{line_feed}
+use Rattle.tb_link.specs.Counts.{Rose, last_count}
+use Rattle.tb_link.specs.Sources.{SourceState}
+use Rattle.tb_link.specs.Sinks.{SinkState, Takes, FailsToTake}
+use Rattle.tb_disk.specs.Disks.{DiskState}
+use Rattle.tb_gates.specs.Clocks.{ClockState}
+use Rattle.tb_gates.specs.Gates.{GateState}
+use Rattle.tb_desk.specs.declared.fault.OpenFault.{OpenFault}
+use Rattle.tb_desk.specs.Desks.{IsBeginning}
+use Rattle.tb_desk.specs.Stands.{CrashesLeave}
+use Rattle.tb_session.specs.declared.room.Room.{Room}
+use Rattle.tb_session.specs.Codes.{Made, fixed_code}
+use Rattle.tb_session.specs.Serve.{Run, AreRuns, ServesAll, calls_of_gates, links_of_gates, some_failed}
+use Rattle.tb_host.specs.DiskRun.{Opened, HasGrown, Stays, Unopened}
+use Rattle.tb_host.specs.Endings.{ending_of}
+use Rattle.tb_host.specs.Headline.{OneHistory}
+use Rattle.tb_host.specs.Standings.{Standing, standing}
+use Rattle.tb_host.specs.declared.ending.Ending.{Ending}
+use Rattle.tb_host.specs.declared.ending.Ending.TheVariants as ending
+
+-- what is printed: so many links were served, and so many entries were added
+abbrev pub served_text : ℕ → ℕ → List ℕ
+served_text served accepted =
+    (codes "served " ++ decimal served ++ line_feed ∷ []) ++ (codes "accepted " ++ decimal accepted ++ line_feed ∷ [])
+
+-- what stays fixed while links are served: the operator's name; whether the disk tells its contents, and its count of
+-- faults; and the moments that the clock may give
+abbrev pub fixed_at : List ℕ → DiskState → ClockState → List ℕ
+fixed_at operator disk clock = fixed_code operator (is_some disk.past) disk.faults clock.moments
+
+-- what `serve` is handed and hands back
+pub record Handed (G : Type 0) : Type 0 where
+  pub disk : DiskState
+  pub gates : List G
+  pub out : SinkState
+
+-- The calls met faults of the disk between these two counts, which lie no further apart than the disk's counts do, unless
+-- that stands at its last value.
+pub record CountsOf (old new : DiskState) (made : List Made) : Type 0 where
+  pub met : ℕ
+  pub each : All (λ m. (m.before ≤ m.after) × (m.after ≤ met)) made
+  pub within : (old.faults + met ≤ new.faults) ⊎ (new.faults ≡ last_count)
+
+-- where a gate failed that is how it ends; else the two lines were written, or the output failed and has taken a part of
+-- them
+abbrev pub ToldEnds : Bool → Ending → SinkState → SinkState → List ℕ → Type 0
+ToldEnds true ended out out' text = (ended ≡ ending.GateFault) × (out' ≡ out)
+ToldEnds false ending.Done out out' text = Takes out out' text
+ToldEnds false ending.WriteFault out out' text = FailsToTake out out' text
+ToldEnds false ended out out' text = ⊥
+
+-- links were served: all of them, or until a gate failed; or all were, and the output failed
+abbrev pub WereServed : Ending → Type 0
+WereServed ending.Done = Unit {0}
+WereServed ending.WriteFault = Unit {0}
+WereServed ending.GateFault = Unit {0}
+WereServed ended = ⊥
+
+-- no link was taken and nothing written; the desk wasn't opened, or there was no memory for the lock or the workers
+pub record Unserved {G : Type 0} (ended : Ending) (old new : Handed G) : Type 0 where
+  pub why : OpenFault
+  pub ended_is : ended ≡ ending_of why
+  pub unopened : Unopened why old.disk new.disk
+  pub untaken : new.gates ≡ old.gates
+  pub silent : new.out ≡ old.out
+
+-- how `serve` ends once links were served
+abbrev pub LinksEnd : {K : Type 0} → Ending → SinkState → SinkState → List (Run K) → ℕ → Type 0
+LinksEnd ended out out' runs accepted =
+    ToldEnds (some_failed runs) ended out out' (served_text (links_of_gates runs) accepted)
+
+-- so many entries were added: the last history is so much longer than the first
+abbrev pub HasAdded : Standing → Standing → ℕ → Type 0
+HasAdded first last accepted = length last.history ≡ length first.history + accepted
+
+-- the statuses at which links were served
+abbrev pub Served : ℕ → Type 0
+Served status = (status ≡ 0) ⊎ (status ≡ 5) ⊎ (status ≡ 10)
+
+module _ {G K : Type 0} (gate : G → GateState K) (source : K → SourceState) (sink : K → SinkState) where
+  -- The desk was opened on the disk, and the disk handed back keeps the last history. These runs are what became of the
+  -- gates' links, and one history stands behind all their calls.
+  pub record Serves (operator : List ℕ) (clock : ClockState) (old new : Handed G) (first last : Standing)
+      (runs : List (Run K)) : Type 0 where
+    pub opened : Opened old.disk first
+    pub grown : HasGrown first last
+    pub stays : Stays last new.disk
+    pub tells : is_some new.disk.past ≡ is_some old.disk.past
+    pub are_runs : AreRuns gate source sink (fixed_at operator old.disk clock) old.gates new.gates runs
+    pub one : OneHistory (fixed_at operator old.disk clock) first last grown.0 (calls_of_gates runs)
+    pub counts : CountsOf old.disk new.disk (calls_of_gates runs)
+
+  -- links were served, and this is so of the first and the last history and of what became of the gates
+  abbrev pub OnServed : List ℕ → ClockState → Handed G → Handed G → (Standing → Standing → List (Run K) → Type 0) → Type 0
+  OnServed operator clock old new Holds =
+      (first : Standing) × (last : Standing) × (runs : List (Run K))
+      × Serves operator clock old new first last runs × Holds first last runs
+
+  -- how the command ends: links were served, or none was taken
+  abbrev pub ServeEnds : List ℕ → ClockState → Ending → Handed G → Handed G → Type 0
+  ServeEnds operator clock ended old new =
+      OnServed operator clock old new
+      (λ first last runs. (accepted : ℕ) × HasAdded first last accepted × LinksEnd ended old.out new.out runs accepted)
+      ⊎ Unserved ended old new
+
+module _ {G K : Type 0} (gate : G → GateState K) where
+  -- the count of faults of one of the gates has risen
+  abbrev pub OneRose : List G → List G → Type 0
+  OneRose [] [] = ⊥
+  OneRose (old ∷ olds) (new ∷ news) = Rose (gate old).faults (gate new).faults ⊎ OneRose olds news
+  OneRose olds news = ⊥
+
+-- ---- a step of it
+
+module _ {D C G K : Type 0} (disk : D → DiskState) (clock : C → ClockState) (gate : G → GateState K)
+    (source : K → SourceState) (sink : K → SinkState) where
+  -- the gates were served from the room, which came back
+  pub record RoomServed (room : Room D C) (ended : Ending) (old new : Handed G) : Type 0 where
+    pub after : Room D C
+    pub served : ℕ
+    pub accepted : ℕ
+    pub failed : Bool
+    pub all : ServesAll disk clock gate source sink room old.gates after new.gates served accepted failed
+    pub stays : Stays (standing new.disk after.desk) new.disk
+    pub since : CrashesLeave (IsBeginning after.desk.host.history after.desk.recovered) (disk after.desk.opened) new.disk
+    pub counted : ((disk after.desk.opened).faults + after.desk.faults ≤ new.disk.faults) ⊎ (new.disk.faults ≡ last_count)
+    pub ends : ToldEnds failed ended old.out new.out (served_text served accepted)
+
+  -- how that ends: so, or for want of memory with nothing done
+  abbrev pub RoomEnds : Room D C → Ending → Handed G → Handed G → Type 0
+  RoomEnds room ended old new = RoomServed room ended old new ⊎ ((ended ≡ ending.OutOfMemory) × (new ≡ old))
