@@ -73,3 +73,15 @@ run-goes operator first last [] replies run = Goes-same first last run.1
 run-goes operator first last (line ∷ lines) replies run =
     Goes-both first run.1 last (line-goes operator first run.1 line run.0 run.3)
     (run-goes operator run.1 last lines run.2 run.4)
+
+-- the history alone
+pub HasGrown-same : (old new : Standing) → new ≡ old → HasGrown old new
+HasGrown-same old new same = (Goes-same old new same).grown
+
+pub HasGrown-both : (old mid new : Standing) → HasGrown old mid → HasGrown mid new → HasGrown old new
+HasGrown-both old mid new one other = (
+  one.0 ++ other.0,
+  other.1
+      ∙ (ap (λ (h : List Entry). h ++ other.0) one.1
+      ∙ append_assoc old.history one.0 other.0),
+)

@@ -36,6 +36,11 @@ mod AnswerLemmas
 mod ReportLemmas
 mod OneHistoryLemmas
 mod HeadlineLemmas
+mod WriteLemmas
 mod ServeLemmas
 pub mod ServeWordLemmas
 mod ServeHostLemmas
+mod TableLemmas
+mod RowLemmas
+mod ImportLemmas
+mod ImportEndLemmas

@@ -1,43 +1,13 @@
 -- What `serve` does follows from what the room's gates were served by.
-use Rattle.std.proofs.Common.{
-  ◌≡◌,
-  ℕ,
-  ◌+◌,
-  ◌≤◌,
-  Bool,
-  true,
-  false,
-  Option,
-  Some,
-  None,
-  is_some,
-  List,
-  [],
-  ◌∷◌,
-  ◌++◌,
-  length,
-  take,
-  drop,
-  map,
-  get_or,
-  ◌⊎◌,
-  inl,
-  inr,
-  refl,
-  sym,
-  subst,
-  ap,
-  ◌∙◌,
-  arith,
-}
+use Rattle.std.proofs.Common.{◌≡◌, ℕ, ◌+◌, ◌≤◌, Bool, true, false, Option, Some, None, is_some, List, [], ◌∷◌, ◌++◌, length, drop, ◌⊎◌, inl, inr, refl, sym, subst, ap, ◌∙◌, arith}
 use Rattle.std.specs.Prelude.{All, IfSome, Ok, codes}
 use Rattle.std.specs.Fmt.{decimal}
 use Rattle.std.proofs.Math.Seq.{drop-append_seam}
 use Rattle.std.proofs.lemmas.List.{length-append, length-map}
 use Rattle.tb_units.specs.Bytes.{line_feed}
-use Rattle.tb_link.specs.Counts.{NeverFalls, Rose, last_count}
+use Rattle.tb_link.specs.Counts.{last_count}
 use Rattle.tb_link.specs.Sources.{SourceState}
-use Rattle.tb_link.specs.Sinks.{SinkState, Takes, FailsToTake, after_taken}
+use Rattle.tb_link.specs.Sinks.{SinkState, Takes, FailsToTake}
 use Rattle.tb_disk.specs.Disks.{DiskState}
 use Rattle.tb_disk.specs.Past.{Past, contents_of}
 use Rattle.tb_gates.specs.Clocks.{ClockState}
@@ -63,7 +33,7 @@ use Rattle.tb_host.specs.declared.ending.Ending.{Ending}
 use Rattle.tb_host.specs.declared.ending.Ending.TheVariants as ending
 use Rattle.tb_host.proofs.DiskLemmas.{Unopened-here, Unopened-untouched}
 use Rattle.tb_host.proofs.OneHistoryLemmas.{Begins-spelled, OneHistory-spelled}
-use Rattle.tb_host.proofs.ScriptLemmas.{after_taken-more}
+use Rattle.tb_host.proofs.WriteLemmas.{Fails-first, Fails-second, Takes-both}
 
 -- a disk tells as much after calls as before
 tells-on : (P : Past → Past → Type 0) (old new : DiskState) → Told old new P → is_some new.past ≡ is_some old.past
@@ -312,51 +282,6 @@ module _ {G K : Type 0} (gate : G → GateState K) (source : K → SourceState) 
   OneRose-runs fixed (old ∷ olds) (new ∷ news) [] are failed = absurd are
 
 -- ---- the lines that are printed
-
--- one piece was taken, and then another
-pub Takes-both : (old mid new : SinkState) (one other : List ℕ)
-    → Takes old mid one
-    → Takes mid new other
-    → Takes old new (one ++ other)
-Takes-both old mid new one other first then = record {
-  taken = then.taken ∙ (ap (λ (t : Option (List ℕ)). after_taken t other) first.taken
-      ∙ after_taken-more old.taken one other);
-  no_fault = then.no_fault ∙ first.no_fault;
-}
-
--- the first failed
-pub Fails-first : (old new : SinkState) (one other : List ℕ)
-    → FailsToTake old new one
-    → FailsToTake old new (one ++ other)
-Fails-first old new one other fails = record {
-  prefix = (
-    fails.prefix.0,
-    fails.prefix.1 ++ other,
-    ap (λ (l : List ℕ). l ++ other) fails.prefix.2
-        ∙ Rattle.std.proofs.Common.append_assoc fails.prefix.0 fails.prefix.1 other,
-    fails.prefix.3,
-  );
-  rose = fails.rose;
-  count = fails.count;
-}
-
--- the first was taken, and the second failed
-pub Fails-second : (old mid new : SinkState) (one other : List ℕ)
-    → Takes old mid one
-    → FailsToTake mid new other
-    → FailsToTake old new (one ++ other)
-Fails-second old mid new one other first fails = record {
-  prefix = (
-    one ++ fails.prefix.0,
-    fails.prefix.1,
-    ap (λ (l : List ℕ). one ++ l) fails.prefix.2
-        ∙ sym (Rattle.std.proofs.Common.append_assoc one fails.prefix.0 fails.prefix.1),
-    fails.prefix.3 ∙ (ap (λ (t : Option (List ℕ)). after_taken t fails.prefix.0) first.taken
-        ∙ after_taken-more old.taken one fails.prefix.0),
-  );
-  rose = subst (λ (n : ℕ). Rose n new.faults) first.no_fault fails.rose;
-  count = subst (λ (n : ℕ). NeverFalls n new.faults) first.no_fault fails.count;
-}
 
 -- the first line failed
 pub told-first : (failed : Bool) (served accepted : ℕ) (old new : SinkState)

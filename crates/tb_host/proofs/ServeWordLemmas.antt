@@ -5,8 +5,9 @@ use Rattle.tb_words.specs.Commands as all
 use Rattle.tb_words.specs.declared.command.Command as declared
 use Rattle.tb_words.specs.declared.command.Command.TheVariants as every
 use Rattle.tb_words.proofs.OneCommandLemmas.{one_command}
-use Rattle.tb_host.specs.Commands.{AreAward, AreReport, AreRun, AreTrial}
+use Rattle.tb_host.specs.Commands.{AreAward, AreImport, AreReport, AreRun, AreTrial}
 use Rattle.tb_host.specs.declared.report_command.Inquiry.{Inquiry}
+use Rattle.tb_host.specs.declared.sender.Sender.{Sender}
 use Rattle.tb_host.specs.ServeWords.{AreServe, BeginWithServe, command_of, plan_of}
 use Rattle.tb_host.specs.declared.serve_words.Serving.{Serving}
 
@@ -38,6 +39,15 @@ serve-not_report asked inquiry words serve report =
     let other : declared.Command =
     every.Report inquiry.sender.operator inquiry.sender.key inquiry.query inquiry.csv in
     let same : command_of asked ≡ other = one_command words (command_of asked) other serve report in
+    absurd (let bad : ⊥ = cc in bad)
+
+-- nor `import`
+pub serve-not_import : (asked : Serving) (sender : Sender) (words : List (List ℕ))
+    → AreServe asked words
+    → ¬ (AreImport sender words)
+serve-not_import asked sender words serve import =
+    let other : declared.Command = every.Import sender.operator sender.key in
+    let same : command_of asked ≡ other = one_command words (command_of asked) other serve import in
     absurd (let bad : ⊥ = cc in bad)
 
 -- nor `trial`

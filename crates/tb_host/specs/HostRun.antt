@@ -11,6 +11,7 @@ use Rattle.tb_desk.specs.declared.fault.OpenFault.{OpenFault}
 use Rattle.tb_host.specs.DiskRun.{Unopened}
 use Rattle.tb_host.specs.AwardRun.{AwardEnds}
 use Rattle.tb_host.specs.Reads.{ReadsBookAlone, ReadsScriptAlone}
+use Rattle.tb_host.specs.ImportRun.{ImportEnds}
 use Rattle.tb_host.specs.ReportRun.{ReportEnds, inquiry}
 use Rattle.tb_host.specs.RunEnds.{Devices, RunEnds}
 use Rattle.tb_host.specs.TrialRun.{TrialEnds}
@@ -21,20 +22,23 @@ use Rattle.tb_host.specs.Endings.{status_of, ending_of, message_of, bad_input_me
 use Rattle.tb_host.specs.declared.ending.Ending.{Ending}
 use Rattle.tb_host.specs.declared.ending.Ending.TheVariants as ending
 
--- how a command ends, of those that there are so far
-abbrev pub EndsAs : Command → Ending → SourceState → SourceState → Devices → Devices → Type 0
-EndsAs (command.Award full) ended input input' old new = AwardEnds full ended input input' old.out new.out
-EndsAs (command.Run operator) ended input input' old new = RunEnds operator ended input input' old new
-EndsAs (command.Report operator caller asked csv) ended input input' old new =
+-- how a command ends, of those that there are so far, where the clock may give these moments
+abbrev pub EndsAs : Command → Option (List ℕ) → Ending → SourceState → SourceState → Devices → Devices → Type 0
+EndsAs (command.Award full) moments ended input input' old new = AwardEnds full ended input input' old.out new.out
+EndsAs (command.Run operator) moments ended input input' old new = RunEnds operator ended input input' old new
+EndsAs (command.Import operator caller) moments ended input input' old new =
+    ImportEnds (record { operator = operator; key = caller }) moments ended input input' old new
+EndsAs (command.Report operator caller asked csv) moments ended input input' old new =
     ReportEnds (inquiry operator caller asked csv) ended input input' old new
-EndsAs (command.Trial seed count) ended input input' old new = TrialEnds seed count ended old.out new.out
-EndsAs other ended input input' old new = ⊥
+EndsAs (command.Trial seed count) moments ended input input' old new = TrialEnds seed count ended old.out new.out
+EndsAs other moments ended input input' old new = ⊥
 
 -- a text was read up to the line that ends what the command reads, and nothing behind that; a report and a trial read nothing
 abbrev pub ReadsAlone : Command → ℕ → ℕ → List ℕ → Type 0
 ReadsAlone (command.Award full) before after text = ReadsBookAlone before after text
 ReadsAlone (command.Run operator) before after text = ReadsScriptAlone before after text
-ReadsAlone other before after text = after ≡ before
+ReadsAlone (command.Report operator caller asked csv) before after text = after ≡ before
+ReadsAlone other before after text = Unit {0}
 
 -- where all was done nothing is told, and else the message of the ending
 abbrev pub Reports : Ending → SinkState → SinkState → Type 0

@@ -29,6 +29,9 @@ pub mod DiskRun
 pub mod RunEnds
 pub mod ScriptSteps
 pub mod ReportRun
+pub mod ImportRun
+pub mod ImportSteps
+pub mod TableInput
 pub mod HostRun
 pub mod Headline
 pub mod ServeRun

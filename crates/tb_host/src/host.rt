@@ -8,11 +8,13 @@ ghost use Rattle.tb_desk.specs.declared.fault.OpenFault.{OpenFault};
 ghost use Rattle.tb_host.specs.AwardRun.{AwardEnds, Printed, PrintedPrefix};
 ghost use Rattle.tb_host.specs.Told.{WhereTold};
 ghost use Rattle.tb_host.specs.Books.{HasBadLine, HasBook, IsBadLine};
-ghost use Rattle.tb_host.specs.Commands.{AreAward, AreCommand, AreReport, AreRun, AreTrial, IsThere, OpenDisk};
+ghost use Rattle.tb_host.specs.Commands.{AreAward, AreCommand, AreImport, AreReport, AreRun, AreTrial, ServesNoLinks, OpenDisk};
 ghost use Rattle.tb_host.specs.DiskRun.{OnDesk};
 ghost use Rattle.tb_host.specs.Endings.{ending_of, status_of, IsUnopened};
 ghost use Rattle.tb_host.specs.Reads.{ReadsBookAlone, ReadsScriptAlone};
 ghost use Rattle.tb_host.specs.RunEnds.{BrokenOff, CutOff, Finished, LeftOff, NotBegun, RunEnds, Stopped};
+ghost use Rattle.tb_import.specs.Tables.{IsFirstBad, IsTable};
+ghost use Rattle.tb_host.specs.ImportRun.{ImportEnds, SentRow};
 ghost use Rattle.tb_host.specs.ReportRun as spec;
 ghost use Rattle.tb_host.specs.ReportRun.{ReportEnds};
 ghost use Rattle.tb_host.specs.Scripts.{HasScript, LeavesScript};
@@ -31,6 +33,7 @@ ghost use Rattle.tb_words.specs.declared.command.Command.TheVariants as every;
 use crate::award_command::award;
 use crate::command::read_command;
 use crate::ending::Ending;
+use crate::import_command::import;
 use crate::report_command::{Inquiry, report};
 use crate::run_command::run;
 use crate::sender::Sender;
@@ -61,8 +64,8 @@ pub struct Ended<D: Disk> {
 /// it begins with is told. 8: the journal is damaged; the place is told. 9: out of memory. 10: a
 /// gate failed.
 ///
-/// `run`, `report` and `serve` work on the journal that `disk` holds. `serve` alone touches the gates, of which there are as many as
-/// its words say, and reads the clock. No command touches `spare`.
+/// `run`, `import`, `report` and `serve` work on the journal that `disk` holds. `serve` alone touches the gates, of which
+/// there are as many as its words say; it and `import` read the clock. No command touches `spare`.
 pub fn host_main<
     D: Disk + Send + Drop,
     G: Gate + Send + Drop,
@@ -194,6 +197,28 @@ pub fn host_main<
         → SpeaksOfFile (Err why)
         → (¬ (Rose (D.disk disk).faults (D.disk result.disk).faults))
         → (result.status ≡ status_of (ending_of why)) ⊎ (result.status ≡ 9)) }
+
+    // `import` opens the disk, reads and checks the whole input, and then sends its rows, turn by turn.
+    ensures import { (sender : Sender) → AreImport sender (map string_bytes words.now)
+        → EndsWith result.status (E.sink err.old) (E.sink err.new) (λ ended. ImportEnds sender
+        (C.clock clock).moments ended (I.source input.old) (I.source input.new)
+        (record { out = O.sink out.old; disk = D.disk disk })
+        (record { out = O.sink out.new; disk = D.disk result.disk })) }
+    // A table over a disk that stands for a legal history is answered, and an input that is no table is told so, unless
+    // an object failed or memory ran out.
+    ensures import_complete { (sender : Sender) → AreImport sender (map string_bytes words.now)
+        → HasHistory (D.disk disk)
+        → WhereTold (I.source input.old).left (λ text. (rows : List SentRow) → IsTable text rows
+        → (¬ (Rose (I.source input.old).faults (I.source input.new).faults))
+        → (¬ (Rose (O.sink out.old).faults (O.sink out.new).faults))
+        → (¬ (Rose (D.disk disk).faults (D.disk result.disk).faults))
+        → (result.status ≡ 0) ⊎ (result.status ≡ 9)) }
+    ensures import_refused { (sender : Sender) → AreImport sender (map string_bytes words.now)
+        → HasHistory (D.disk disk)
+        → WhereTold (I.source input.old).left (λ text. (number : ℕ) → IsFirstBad text number
+        → (¬ (Rose (I.source input.old).faults (I.source input.new).faults))
+        → (¬ (Rose (D.disk disk).faults (D.disk result.disk).faults))
+        → (result.status ≡ 3) ⊎ (result.status ≡ 9)) }
 
     // `report` answers one query by the history that the file stood for, and that it stands for still. It reads no
     // input.
@@ -336,6 +361,10 @@ fn any_command<
         → RunEnds operator result.0 (I.source input.old) (I.source input.new)
         (record { out = O.sink out.old; disk = D.disk disk })
         (record { out = O.sink out.new; disk = D.disk result.1 }) }
+    ensures import { (sender : Sender) → AreImport sender (map string_bytes words.now)
+        → ImportEnds sender (C.clock clock).moments result.0 (I.source input.old) (I.source input.new)
+        (record { out = O.sink out.old; disk = D.disk disk })
+        (record { out = O.sink out.new; disk = D.disk result.1 }) }
     ensures report { (asked : Inquiry) → AreReport asked (map string_bytes words.now)
         → ReportEnds asked result.0 (I.source input.old) (I.source input.new)
         (record { out = O.sink out.old; disk = D.disk disk })
@@ -397,6 +426,10 @@ fn run_command<D: Disk, C: Clock, I: Source, O: Sink>(
         → RunEnds operator result.0 (I.source input.old) (I.source input.new)
         (record { out = O.sink out.old; disk = D.disk disk })
         (record { out = O.sink out.new; disk = D.disk result.1 }) }
+    ensures import { (sender : Sender) → AreImport sender (map string_bytes words.now)
+        → ImportEnds sender (C.clock clock).moments result.0 (I.source input.old) (I.source input.new)
+        (record { out = O.sink out.old; disk = D.disk disk })
+        (record { out = O.sink out.new; disk = D.disk result.1 }) }
     ensures report { (asked : Inquiry) → AreReport asked (map string_bytes words.now)
         → ReportEnds asked result.0 (I.source input.old) (I.source input.new)
         (record { out = O.sink out.old; disk = D.disk disk })
@@ -422,8 +455,8 @@ fn run_command<D: Disk, C: Clock, I: Source, O: Sink>(
         (ReadsScriptAlone (I.source input.old).reads (I.source input.new).reads) }
     ensures untouched { result.0 ≡ Ending.Usage → (input.new ≡ input.old) × (out.new ≡ out.old) × (result.1 ≡ disk) }
     ensures unread { IsUnopened result.0 → (input.new ≡ input.old) × (out.new ≡ out.old) }
-    // No such command reads the clock, or ends by a gate.
-    ensures clock { result.2 ≡ clock }
+    // `import` alone reads the clock, and none ends by a gate.
+    ensures clock { (¬ ((sender : Sender) × AreImport sender (map string_bytes words.now))) → result.2 ≡ clock }
     ensures no_gate { result.0 ≢ Ending.GateFault }
 {
     match read_command(alloc, words) {
@@ -441,9 +474,9 @@ fn do_command<D: Disk, C: Clock, I: Source, O: Sink>(
     disk: D,
     clock: C,
 ) -> (Ending, D, C)
-    requires there { IsThere command.now }
+    requires links { ServesNoLinks command.now }
     requires in_range { IsInRange command.now }
-    ensures ends { EndsAs command.now result.0 (I.source input.old) (I.source input.new)
+    ensures ends { EndsAs command.now (C.clock clock).moments result.0 (I.source input.old) (I.source input.new)
         (record { out = O.sink out.old; disk = D.disk disk })
         (record { out = O.sink out.new; disk = D.disk result.1 }) }
     ensures award_disk { (full : Bool) → command.now ≡ every.Award full → result.1 ≡ disk }
@@ -454,12 +487,19 @@ fn do_command<D: Disk, C: Clock, I: Source, O: Sink>(
     ensures reads { result.0 ≡ Ending.Done → WhereTold (I.source input.old).left
         (ReadsAlone command.now (I.source input.old).reads (I.source input.new).reads) }
     ensures unread { IsUnopened result.0 → (input.new ≡ input.old) × (out.new ≡ out.old) }
-    ensures clock { result.2 ≡ clock }
+    ensures clock { (¬ ((sender : Sender) × (command.now ≡ every.Import sender.operator sender.key)))
+        → result.2 ≡ clock }
 {
     match command {
         Command::Award { full } => (award(alloc, *full, input, out), disk, clock),
         Command::Run { operator } => {
             let (ending, disk) = run(alloc, operator, input, out, disk);
+            (ending, disk, clock)
+        }
+        Command::Import { operator, key } => {
+            let mut clock = clock;
+            let sender = sender(operator, key);
+            let (ending, disk) = import(alloc, &sender, input, out, disk, &mut clock);
             (ending, disk, clock)
         }
         Command::Report {
@@ -473,20 +513,25 @@ fn do_command<D: Disk, C: Clock, I: Source, O: Sink>(
             (ending, disk, clock)
         }
         Command::Trial { seed, count } => (trial(alloc, *seed, *count, out), disk, clock),
-        // There are no such commands so far.
-        Command::Serve { .. } | Command::Import { .. } => (Ending::Usage, disk, clock),
+        // `any_command` serves links.
+        Command::Serve { .. } => (Ending::Usage, disk, clock),
+    }
+}
+
+fn sender(operator: &Ident, key: &Key) -> Sender
+    ensures { result ≡ record { operator = operator.now; key = key.now } }
+{
+    Sender {
+        operator: *operator,
+        key: *key,
     }
 }
 
 fn inquiry(operator: &Ident, key: &Key, query: &Query, csv: bool) -> Inquiry
     ensures { result ≡ spec.inquiry operator.now key.now query.now csv }
 {
-    let sender = Sender {
-        operator: *operator,
-        key: *key,
-    };
     Inquiry {
-        sender,
+        sender: sender(operator, key),
         query: *query,
         csv,
     }

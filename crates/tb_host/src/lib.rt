@@ -14,6 +14,9 @@ mod disk_tests;
 mod ending;
 mod fields;
 mod host;
+mod import_command;
+#[cfg(test)]
+mod import_tests;
 mod input;
 mod laws;
 mod line_end;
@@ -24,6 +27,7 @@ mod reply;
 mod report_command;
 #[cfg(test)]
 mod report_tests;
+mod row_lines;
 mod run_command;
 #[cfg(test)]
 mod run_tests;
@@ -33,6 +37,7 @@ mod serve_command;
 #[cfg(test)]
 mod serve_tests;
 mod serve_words;
+mod table_input;
 #[cfg(test)]
 mod tests;
 mod text_book;

@@ -292,7 +292,7 @@ fn faulty_words_are_told(rt: HostRuntime) -> Result<(), Fail> {
         ["run", "--op", "root", "more"].as_slice(),
         ["serve", "--op", "root"].as_slice(),
         ["trial", "1", "0"].as_slice(),
-        ["import", "--op", "root", "--key", "k1"].as_slice(),
+        ["import", "--op", "root"].as_slice(),
     ] {
         let run = run(&rt, rt.alloc(), words, "end\n", 3, &[], &[])?;
         assert_eq!(rt; run.status, 2);

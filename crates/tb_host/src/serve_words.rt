@@ -54,7 +54,8 @@ fn said_of(command: &Command) -> Option<Serving>
     }
 }
 
-fn begin_with_serve(words: &[String]) -> bool
+/// The first word is `serve`.
+pub fn begin_with_serve(words: &[String]) -> bool
     ensures { IsTrue result ↔ BeginWithServe (map string_bytes words.now) }
 {
     match words.split_first() {

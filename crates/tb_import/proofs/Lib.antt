@@ -1,3 +1,4 @@
+pub mod CallerLemmas
 pub mod ExportLemmas
 pub mod FieldLemmas
 pub mod OneTableLemmas

@@ -43,6 +43,9 @@ returns-in-Ok-None-clause-usage g c =
       λ outside. usage.1 (λ command. outside (inl command)),
     )
 
+pub returns-in-Ok-None-clause-opens : goal.returns-in-Ok-None-clause-opens
+returns-in-Ok-None-clause-opens g c = λ unopened. inl (c.run_command-ending.ensures.opens unopened)
+
 pub returns-in-Ok-None-clause-serve : goal.returns-in-Ok-None-clause-serve
 returns-in-Ok-None-clause-serve g c = λ asked are.
     absurd (found-none c.in-Ok-None.field-0 _ c.in-Ok-None.field-0-is c.in-Ok-None.ensures.none asked are)

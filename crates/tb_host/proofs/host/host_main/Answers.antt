@@ -4,6 +4,7 @@ use Rattle.tb_host.proofs.CompleteLemmas.{award_complete, award_refused}
 use Rattle.tb_host.proofs.EndingLemmas.{disk-at_6, done-at_0, gate-at_10, other-at, read-at_4, unopened-at, usage-at_2, write-at_5}
 use Rattle.tb_host.proofs.ExactLemmas.{disk-refused_file, told_past}
 use Rattle.tb_host.proofs.HostCommandLemmas.{report-complete}
+use Rattle.tb_host.proofs.ImportEndLemmas.{import-complete, import-refused}
 use Rattle.tb_host.proofs.HostLemmas.{
   award-at_0,
   award-at_3,
@@ -164,7 +165,9 @@ returns-clause-refused_file g c = λ opens.
     told_past _ (g.D.Disk.disk c.args.disk).past (λ past told why is_true speaks no_fault. elim opens [
       | inl run ↦ rw c.status.ensures (disk-refused_file _ c.any_command-ending.result.0 _ _ _ _ past why
           (c.any_command-ending.ensures.run run.0 run.1) told is_true speaks no_fault)
-      | inr report ↦ rw c.status.ensures (disk-refused_file _ c.any_command-ending.result.0 _ _ _ _ past why
+      | inr (inl sent) ↦ rw c.status.ensures (disk-refused_file _ c.any_command-ending.result.0 _ _ _ _ past why
+          (c.any_command-ending.ensures.import sent.0 sent.1) told is_true speaks no_fault)
+      | inr (inr report) ↦ rw c.status.ensures (disk-refused_file _ c.any_command-ending.result.0 _ _ _ _ past why
           (c.any_command-ending.ensures.report report.0 report.1).ends told is_true speaks no_fault)
     ])
 
@@ -287,3 +290,21 @@ pub returns-clause-trial_complete : goal.returns-clause-trial_complete
 returns-clause-trial_complete g c = λ seed count trial no_write.
     rw c.status.ensures (trial-complete seed count c.any_command-ending.result.0 _ _
     (c.any_command-ending.ensures.trial seed count trial) no_write)
+
+pub returns-clause-import : goal.returns-clause-import
+returns-clause-import g c = λ sender are. (
+  c.any_command-ending.result.0,
+  sym c.status.ensures,
+  c.tell.ensures,
+  c.any_command-ending.ensures.import sender are,
+)
+
+pub returns-clause-import_complete : goal.returns-clause-import_complete
+returns-clause-import_complete g c = λ sender are stands text told rows table no_read no_write no_fault.
+    rw c.status.ensures (import-complete sender _ c.any_command-ending.result.0 _ _ _ _ text rows
+    (c.any_command-ending.ensures.import sender are) stands told table no_read no_write no_fault)
+
+pub returns-clause-import_refused : goal.returns-clause-import_refused
+returns-clause-import_refused g c = λ sender are stands text told number bad no_read no_fault.
+    rw c.status.ensures (import-refused sender _ c.any_command-ending.result.0 _ _ _ _ text number
+    (c.any_command-ending.ensures.import sender are) stands told bad no_read no_fault)

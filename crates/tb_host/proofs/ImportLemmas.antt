@@ -1,0 +1,283 @@
+-- Rows that are sent run by run.
+use Rattle.std.proofs.Common.{◌≡◌, ◌≢◌, ℕ, ◌≤◌, List, [], ◌∷◌, ◌++◌, length, take, drop, Option, Some, None, Bool, true, false, true≢false, eqb-true, inl, inr, sym, subst, ap, ◌∙◌, refl, arith, append_assoc, append-nil}
+use Rattle.std.specs.Prelude.{◌==◌, min}
+use Rattle.std.proofs.lemmas.List.{drop_min, nil_from_length, take_min}
+use Rattle.std.proofs.lemmas.List.Elements.{All-drop, All-take}
+use Rattle.tb_link.specs.Counts.{NeverFalls, Rose}
+use Rattle.tb_link.specs.Sinks.{SinkState, Takes}
+use Rattle.tb_disk.specs.Disks.{DiskState}
+use Rattle.tb_units.specs.declared.moment.Moment.{Moment}
+use Rattle.tb_terms.specs.declared.refusal.Refusal.TheVariants as refusal
+use Rattle.tb_message.specs.declared.verdict.Verdict.{Verdict}
+use Rattle.tb_history.specs.Answer.{caller_of}
+use Rattle.tb_history.specs.Legal.{running}
+use Rattle.tb_history.specs.Roster.{registrations}
+use Rattle.tb_desk.specs.Desks.{Tells}
+use Rattle.tb_core.specs.House.{IsBid}
+use Rattle.tb_message.specs.Spelling.{IsNumbered}
+use Rattle.tb_desk.specs.Turn.{AreBids, AreNumbered, Asked, Replies, Turns, verdicts}
+use Rattle.tb_desk.specs.declared.reply.GroupReply.{GroupReply}
+use Rattle.tb_desk.specs.declared.reply.GroupReply.TheVariants as group
+use Rattle.tb_desk.proofs.JudgeLemmas.{verdicts_on-length}
+use Rattle.tb_host.specs.DiskRun.{HasGrown}
+use Rattle.tb_host.specs.ImportRun.{AreSent, BeginWithRuns, HasSentRuns, IsImport, MayGive, SentRow, group_text, longest_run, same_lines}
+use Rattle.tb_host.specs.ImportSteps.{AreAsMany, GroupEnds, RowsEnd, SendsRuns}
+use Rattle.tb_host.specs.Standings.{Standing, held_at}
+use Rattle.tb_host.specs.Replies.{refused}
+use Rattle.tb_host.specs.Turns.{MakesTurn}
+use Rattle.tb_host.specs.declared.ending.Ending.{Ending}
+use Rattle.tb_host.specs.declared.ending.Ending.TheVariants as ending
+use Rattle.tb_host.specs.declared.sender.Sender.{Sender}
+use Rattle.tb_host.proofs.GrownLemmas.{HasGrown-both, HasGrown-same}
+use Rattle.tb_host.proofs.TurnLemmas.{HasGrown-turn, MakesTurn-of}
+use Rattle.tb_host.proofs.ScriptLemmas.{after_taken-nothing}
+use Rattle.tb_host.proofs.WriteLemmas.{Fails-second, Takes-both}
+
+-- runs behind runs
+pub BeginWithRuns-append : (runs more : List (List SentRow)) (rows mid rest : List SentRow)
+    → BeginWithRuns runs rows mid
+    → BeginWithRuns more mid rest
+    → BeginWithRuns (runs ++ more) rows rest
+BeginWithRuns-append [] more rows mid rest first second =
+    subst (λ (r : List SentRow). BeginWithRuns more r rest) first second
+BeginWithRuns-append (run ∷ runs) more rows mid rest first second =
+    (first.0, first.1, BeginWithRuns-append runs more (drop longest_run rows) mid rest first.2 second)
+
+module _ (sender : Sender) (moments : Option (List ℕ)) where
+  -- what they are answered stands behind what was answered before
+  pub IsImport-append : (first mid last : Standing) (runs more : List (List SentRow)) (text text' : List ℕ)
+      → IsImport sender moments first runs text mid
+      → IsImport sender moments mid more text' last
+      → IsImport sender moments first (runs ++ more) (text ++ text') last
+  IsImport-append first mid last [] more text text' one other =
+      subst (λ (t : List ℕ). IsImport sender moments first more (t ++ text') last) (sym one.0)
+      (subst (λ (s : Standing). IsImport sender moments s more text' last) one.1 other)
+  IsImport-append first mid last (run ∷ runs) more text text' one other = (
+    one.0,
+    one.1,
+    one.2,
+    one.3 ++ text',
+    one.4,
+    one.5,
+    IsImport-append one.2 mid last runs more one.3 text' one.6 other,
+    ap (λ (t : List ℕ). t ++ text') one.7 ∙ append_assoc one.1 one.3 text',
+  )
+
+  -- rows that are sent keep the history
+  sent-grown : (caller : Option (List ℕ)) (moment : Moment) (run : List SentRow) (old new : Standing) (text : List ℕ)
+      → AreSent caller moment run old text new
+      → HasGrown old new
+  sent-grown None moment run old new text sent = HasGrown-same old new sent.1
+  sent-grown (Some caller) moment run old new text sent =
+      HasGrown-turn (record { submitter = caller; moment = moment; messages = run }) old new sent.0 sent.1
+
+  pub import-grown : (runs : List (List SentRow)) (first last : Standing) (text : List ℕ)
+      → IsImport sender moments first runs text last
+      → HasGrown first last
+  import-grown [] first last text sent = HasGrown-same first last sent.1
+  import-grown (run ∷ runs) first last text sent =
+      HasGrown-both first sent.2 last
+      (sent-grown (caller_of (registrations first.history) sender.operator sender.key) sent.0 run first sent.2 sent.1
+      sent.5)
+      (import-grown runs sent.2 last sent.3 sent.6)
+
+  -- no run was sent so far
+  pub HasSentRuns-start : (rows : List SentRow) (first : Standing) → HasSentRuns sender moments rows first first [] rows
+  HasSentRuns-start rows first = record { runs = []; begin = refl; sent = (refl, refl) }
+
+  -- one more was sent
+  pub HasSentRuns-more : (rows rest run : List SentRow) (first mid last : Standing) (text text' : List ℕ)
+      → HasSentRuns sender moments rows first mid text rest
+      → 1 ≤ length rest
+      → run ≡ take longest_run rest
+      → IsImport sender moments mid (run ∷ []) text' last
+      → HasSentRuns sender moments rows first last (text ++ text') (drop longest_run rest)
+  HasSentRuns-more rows rest run first mid last text text' so_far some is more = record {
+    runs = so_far.runs ++ run ∷ [];
+    begin = BeginWithRuns-append so_far.runs (run ∷ []) rows rest (drop longest_run rest) so_far.begin (some, is, refl);
+    sent = IsImport-append first mid last so_far.runs (run ∷ []) text text' so_far.sent more;
+  }
+
+-- what the desk says of a group that it was given
+pub record AnswersGroup (gate : ℕ) (disk : DiskState) (asked : Asked) (old new : Standing) (answer : GroupReply)
+    (places : List (Option Verdict)) (replies : Replies) : Type 0
+  where
+    pub tells : Tells answer places replies
+    pub turns : Turns gate disk asked (held_at old) (held_at new) replies
+    pub count : NeverFalls old.faults new.faults
+    pub fault : answer ≡ group.DiskFault → Rose old.faults new.faults
+    pub no_fault : answer ≢ group.DiskFault → new.faults ≡ old.faults
+
+-- so it made a turn
+pub MakesTurn-group : (gate : ℕ) (disk : DiskState) (asked : Asked) (old new : Standing) (answer : GroupReply)
+    (places : List (Option Verdict)) (replies : Replies)
+    → AnswersGroup gate disk asked old new answer places replies
+    → MakesTurn asked old new replies
+MakesTurn-group gate disk asked old new group.Verdicts places (Some given) says =
+    MakesTurn-of gate disk asked old new (Some given) says.turns says.count (λ is. absurd (cc))
+    (λ some. says.no_fault (λ is. absurd (cc)))
+MakesTurn-group gate disk asked old new group.Verdicts places None says = absurd says.tells
+MakesTurn-group gate disk asked old new group.DiskFault places (Some given) says = absurd says.tells
+MakesTurn-group gate disk asked old new group.DiskFault places None says =
+    MakesTurn-of gate disk asked old new None says.turns says.count (λ is. says.fault refl)
+    (λ some. absurd (some refl))
+
+-- it has as many verdicts as messages
+pub AreAsMany-turn : (asked : Asked) (old new : Standing) (replies : Replies)
+    → MakesTurn asked old new replies
+    → AreAsMany asked.messages replies
+AreAsMany-turn asked old new None turn = tt
+AreAsMany-turn asked old new (Some given) turn = elim turn.way [
+  | inl stuck ↦ absurd (let none : Some given ≡ None = stuck.failed in cc)
+  | inr (inl answered) ↦ (
+      let same : Some given ≡ Some (verdicts turn.at asked) = answered.given in
+      let is : given ≡ verdicts turn.at asked = cc in
+      ap length is ∙ verdicts_on-length turn.at asked.submitter (running turn.at asked.moment) asked.messages)
+  | inr (inr doubted) ↦ absurd (let none : Some given ≡ None = doubted.failed in cc)
+]
+
+-- a run that was sent is an import of one run
+pub IsImport-one : (sender : Sender) (moments : Option (List ℕ)) (moment : Moment) (run : List SentRow)
+    (old new : Standing) (lines : List ℕ)
+    → MayGive moments moment
+    → AreSent (caller_of (registrations old.history) sender.operator sender.key) moment run old lines new
+    → IsImport sender moments old (run ∷ []) lines new
+IsImport-one sender moments moment run old new lines may sent =
+    (moment, lines, new, [], may, sent, (refl, refl), sym (append-nil lines))
+
+-- where the key is nobody's each row is refused
+pub AreSent-nobody : (caller : Option (List ℕ)) (moment : Moment) (run : List SentRow) (stands : Standing)
+    (text : List ℕ)
+    → caller ≡ None
+    → text ≡ same_lines (refused refusal.UnknownKey) run
+    → AreSent caller moment run stands text stands
+AreSent-nobody None moment run stands text is lines = (lines, refl)
+AreSent-nobody (Some name) moment run stands text is lines = absurd (cc)
+
+-- and a caller's rows made a turn
+pub AreSent-caller : (caller : Option (List ℕ)) (name : List ℕ) (moment : Moment) (run : List SentRow)
+    (old new : Standing) (text : List ℕ) (replies : Replies)
+    → caller ≡ Some name
+    → MakesTurn (record { submitter = name; moment = moment; messages = run }) old new replies
+    → text ≡ group_text run replies
+    → AreSent caller moment run old text new
+AreSent-caller caller name moment run old new text replies is turn lines =
+    subst (λ (who : Option (List ℕ)). AreSent who moment run old text new) (sym is) (replies, turn, lines)
+
+-- where the rows that are left aren't empty there is one
+pub some-left : (rest : List SentRow) (empty : Bool)
+    → empty ≡ (length rest == 0)
+    → empty ≡ false
+    → 1 ≤ length rest
+some-left [] empty is some = absurd (true≢false (sym is ∙ some))
+some-left (row ∷ rows) empty is some = omega arith
+
+-- else there is none
+pub none-left : (rest : List SentRow) (empty : Bool) → empty ≡ (length rest == 0) → empty ≡ true → rest ≡ []
+none-left rest empty is none = nil_from_length rest (eqb-true (length rest) 0 (sym is ∙ none))
+
+-- a run is split off
+pub split-run : (rest run others : List SentRow) (most : ℕ)
+    → most ≡ min longest_run (length rest)
+    → run ≡ take most rest
+    → others ≡ drop most rest
+    → (run ≡ take longest_run rest) × (others ≡ drop longest_run rest)
+split-run rest run others most is front back = (
+  front ∙ (ap (λ (n : ℕ). take n rest) is ∙ take_min longest_run rest),
+  back ∙ (ap (λ (n : ℕ). drop n rest) is ∙ drop_min longest_run rest),
+)
+
+-- the rows that are left can be sent as those before them
+pub left-sendable : (rest others : List SentRow)
+    → others ≡ drop longest_run rest
+    → AreBids rest × AreNumbered rest
+    → AreBids others × AreNumbered others
+left-sendable rest others is sendable = (
+  subst AreBids (sym is) (All-drop (λ (asked : SentRow). IsBid asked.1) longest_run rest sendable.0),
+  subst AreNumbered (sym is)
+      (All-drop (λ (asked : SentRow). IsNumbered asked.0 asked.1) longest_run rest sendable.1),
+)
+
+-- and so can those of the run
+pub run-sendable : (rest run : List SentRow)
+    → run ≡ take longest_run rest
+    → AreBids rest × AreNumbered rest
+    → AreBids run × AreNumbered run
+run-sendable rest run is sendable = (
+  subst AreBids (sym is) (All-take (λ (asked : SentRow). IsBid asked.1) longest_run rest sendable.0),
+  subst AreNumbered (sym is)
+      (All-take (λ (asked : SentRow). IsNumbered asked.0 asked.1) longest_run rest sendable.1),
+)
+
+-- Rows of which the first were sent, and their text was taken.
+module _ (sender : Sender) (moments : Option (List ℕ)) (rows : List SentRow) (first : Standing) (out : SinkState) where
+  -- none so far
+  pub SendsRuns-start : SendsRuns sender moments rows first first rows (Takes out out)
+  SendsRuns-start = (
+    [],
+    HasSentRuns-start sender moments rows first,
+    record { taken = after_taken-nothing out.taken; no_fault = refl },
+  )
+
+  module _ (mid last : Standing) (rest run : List SentRow) (now new : SinkState)
+      (so_far : SendsRuns sender moments rows first mid rest (Takes out now))
+      (some : 1 ≤ length rest)
+      (is : run ≡ take longest_run rest) where
+    -- one run more
+    pub SendsRuns-next : (result : Option Ending)
+        → ((ended : Ending) → result ≡ Some ended → ⊥)
+        → GroupEnds sender moments run result now new mid last
+        → SendsRuns sender moments rows first last (drop longest_run rest) (Takes out new)
+    SendsRuns-next None on ends = (
+      so_far.0 ++ ends.0,
+      HasSentRuns-more sender moments rows rest run first mid last so_far.0 ends.0 so_far.1 some is ends.1,
+      Takes-both out now new so_far.0 ends.0 so_far.2 ends.2,
+    )
+    SendsRuns-next (Some ended) on ends = absurd (on ended refl)
+
+    -- or the output failed
+    RowsEnd-write : GroupEnds sender moments run (Some ending.WriteFault) now new mid last
+        → RowsEnd sender moments rows ending.WriteFault out new first last
+    RowsEnd-write ends = (
+      drop longest_run rest,
+      (
+        so_far.0 ++ ends.0,
+        HasSentRuns-more sender moments rows rest run first mid last so_far.0 ends.0 so_far.1 some is ends.1,
+        Fails-second out now new so_far.0 ends.0 so_far.2 ends.2,
+      ),
+    )
+
+    -- or memory ran out
+    RowsEnd-memory : GroupEnds sender moments run (Some ending.OutOfMemory) now new mid last
+        → RowsEnd sender moments rows ending.OutOfMemory out new first last
+    RowsEnd-memory ends = (
+      rest,
+      (
+        so_far.0,
+        subst (λ (s : Standing). HasSentRuns sender moments rows first s so_far.0 rest) (sym ends.0) so_far.1,
+        subst (λ (o : SinkState). Takes out o so_far.0) (sym ends.1) so_far.2,
+      ),
+    )
+
+    -- so the import ends in one of these ways
+    pub RowsEnd-here : (ended : Ending)
+        → GroupEnds sender moments run (Some ended) now new mid last
+        → RowsEnd sender moments rows ended out new first last
+    RowsEnd-here ending.Done ends = absurd ends
+    RowsEnd-here ending.Usage ends = ends
+    RowsEnd-here (ending.BadInput number) ends = ends
+    RowsEnd-here ending.ReadFault ends = ends
+    RowsEnd-here ending.WriteFault ends = RowsEnd-write ends
+    RowsEnd-here ending.DiskFault ends = ends
+    RowsEnd-here (ending.NotAJournal found) ends = ends
+    RowsEnd-here (ending.Damaged place) ends = ends
+    RowsEnd-here ending.OutOfMemory ends = RowsEnd-memory ends
+    RowsEnd-here ending.GateFault ends = ends
+
+  -- all were sent
+  pub RowsEnd-done : (last : Standing) (rest : List SentRow) (now : SinkState)
+      → SendsRuns sender moments rows first last rest (Takes out now)
+      → rest ≡ []
+      → RowsEnd sender moments rows ending.Done out now first last
+  RowsEnd-done last rest now so_far none =
+      subst (λ (r : List SentRow). SendsRuns sender moments rows first last r (Takes out now)) none so_far

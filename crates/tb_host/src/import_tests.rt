@@ -1,0 +1,141 @@
+//! `import` over what a script left. The texts and bytes are worked out by hand from the formats and the rules.
+use crate::run_tests::WORDS;
+use crate::tests::{Outcome, disk_of, run, run_on};
+use std::alloc::Global;
+use std::process::Abort;
+use std::sync::Wait;
+use std::test::Fail;
+use std::thread::Threads;
+
+const IMPORT: [&str; 5] = ["import", "--key", "k1", "--op", "root"];
+
+/// An auction that is open.
+const OPEN: &str =
+    r#"1730690000 op:root {"number":1,"kind":"register","submitter":"dealer1","key":"k1"}
+1730690000 op:root {"number":2,"kind":"enrol","bidder":"fund1","submitter":"dealer1"}
+1730690000 op:root {"number":3,"kind":"announce","auction":"bill13","cusip":"912797AA5","offering":76000000000,"minimum":100,"ceiling":10000000,"floor":1000000000,"threshold":26600000000,"date":"2024-11-04","nc_close":"11:00","c_close":"11:30","issue":"2024-11-07","maturity":"2025-02-06"}
+end
+"#;
+
+const TWO: &str =
+    "number,auction,bidder,rate,amount\n7,bill13,fund1,4.300,100\n8,bill13,fund1,4.305,100\n";
+
+/// The journal of the open auction.
+fn opened<R: Threads + Wait + Sync>(rt: &R, alloc: Global) -> Result<Outcome, Fail> {
+    run(rt, alloc, &WORDS, OPEN, 4096, &[], &[])
+}
+
+/// Imports a table over the open auction. The reads, writes and calls of the disk of these numbers fail.
+fn import<R: Abort + Threads + Wait + Sync>(
+    rt: &R,
+    alloc: Global,
+    words: &[&str],
+    table: &str,
+    failing_reads: &[u64],
+    failing_writes: &[u64],
+    failing_calls: &[u64],
+) -> Result<Outcome, Fail> {
+    let left = opened(rt, alloc)?;
+    let disk = disk_of(rt, alloc, left.disk.contents(), failing_calls, 0)?;
+    run_on(
+        rt,
+        alloc,
+        words,
+        table,
+        64,
+        failing_reads,
+        failing_writes,
+        disk,
+    )
+}
+
+#[test]
+fn rows_are_sent_once_each_at_the_moment_of_the_clock(rt: HostRuntime) -> Result<(), Fail> {
+    let table = "number,auction,bidder,rate,amount\n\
+        7,bill13,fund1,4.300,100\n\
+        7,bill13,fund1,4.300,100\n\
+        8,bill13,fund1,,100\n";
+    let sent = import(&rt, rt.alloc(), &IMPORT, table, &[], &[], &[])?;
+    assert_eq!(rt; sent.status, 0);
+    assert_eq!(rt;
+        sent.out.bytes(),
+        b"7 accepted 7 1730700000\n8 refused 19 MixedBids\n".as_slice()
+    );
+    let nobody = ["import", "--key=k2", "--op=root"];
+    let unknown = import(&rt, rt.alloc(), &nobody, TWO, &[], &[], &[])?;
+    assert_eq!(rt; unknown.status, 0);
+    assert_eq!(rt;
+        unknown.out.bytes(),
+        b"7 refused 1 UnknownKey\n8 refused 1 UnknownKey\n".as_slice()
+    );
+    Ok(())
+}
+
+#[test]
+fn rows_of_one_turn_stand_under_one_gate(rt: HostRuntime) -> Result<(), Fail> {
+    let opened = opened(&rt, rt.alloc())?;
+    let before = opened.disk.contents();
+    let sent = import(&rt, rt.alloc(), &IMPORT, TWO, &[], &[], &[])?;
+    assert_eq!(rt; sent.status, 0);
+    assert_eq!(rt;
+        sent.out.bytes(),
+        b"7 accepted 7 1730700000\n8 accepted 8 1730700000\n".as_slice()
+    );
+    let journal = sent.disk.contents();
+    assert_eq!(rt; journal.len(), before.len() + 97);
+    // In place of the closed gate come an open one and the length of the two records.
+    let (_, front) = before.split_last().ok_or("no bytes")?;
+    let mut grown = front.to_vec(rt.alloc())?;
+    grown.extend_from_slice(b"\x01\0\0\0\x5c")?;
+    assert!(rt; journal.starts_with(grown.as_slice()));
+    // Of the four calls that add the two bids the third opens their gate, and the fourth syncs it. The two stand together or
+    // not at all, so they are told the same when they are sent again.
+    for behind in [2, 1] {
+        let call = sent.disk.calls().saturating_sub(behind);
+        let failed = import(&rt, rt.alloc(), &IMPORT, TWO, &[], &[], &[call])?;
+        assert_eq!(rt; failed.status, 0);
+        assert_eq!(rt;
+            failed.out.bytes(),
+            b"7 unavailable DiskFault\n8 unavailable DiskFault\n".as_slice()
+        );
+        let disk = disk_of(&rt, rt.alloc(), failed.disk.contents(), &[], 0)?;
+        let again = run_on(&rt, rt.alloc(), &IMPORT, TWO, 64, &[], &[], disk)?;
+        assert_eq!(rt; again.out.bytes(), sent.out.bytes());
+        assert_eq!(rt; again.disk.contents(), journal);
+    }
+    Ok(())
+}
+
+#[test]
+fn nothing_is_sent_of_a_table_that_is_not_whole_and_good(rt: HostRuntime) -> Result<(), Fail> {
+    let before = opened(&rt, rt.alloc())?;
+    let bad = "number,auction,bidder,rate,amount\n7,bill13,fund1,4.300,100\n8,bill13,fund1,100\n";
+    let refused = import(&rt, rt.alloc(), &IMPORT, bad, &[], &[], &[])?;
+    assert_eq!(rt; refused.status, 3);
+    assert_eq!(rt; refused.err.bytes(), b"bad input at line 3\n".as_slice());
+    assert_eq!(rt; refused.out.bytes(), b"".as_slice());
+    assert_eq!(rt; refused.disk.contents(), before.disk.contents());
+    let cut = import(&rt, rt.alloc(), &IMPORT, TWO, &[1], &[], &[])?;
+    assert_eq!(rt; cut.status, 4);
+    assert_eq!(rt; cut.out.bytes(), b"".as_slice());
+    assert_eq!(rt; cut.disk.contents(), before.disk.contents());
+    Ok(())
+}
+
+#[test]
+fn what_64_rows_are_answered_is_written_before_the_next_are_sent(
+    rt: HostRuntime,
+) -> Result<(), Fail> {
+    let mut table = "number,auction,bidder,rate,amount\n".to_string(rt.alloc())?;
+    for number in 101..166u64 {
+        let row = format!(in rt.alloc(); "{number},bill13,fund1,4.300,100\n")?;
+        table.push_str(&row)?;
+    }
+    let sent = import(&rt, rt.alloc(), &IMPORT, &table, &[], &[1], &[])?;
+    assert_eq!(rt; sent.status, 5);
+    assert_eq!(rt;
+        sent.out.bytes().len(),
+        64 * "101 accepted 101 1730700000\n".len()
+    );
+    Ok(())
+}

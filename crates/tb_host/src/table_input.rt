@@ -1,0 +1,70 @@
+//! A table of bids, read whole from the input.
+ghost use Rattle.std.specs.Prelude.{◌≡◌, ◌+◌, ◌<◌, ◌≤◌, ◌++◌, ℕ, List, [], Ok, true, false, length, vec_len, IfOk, IfSome, OnOk, OnErr, IsErrOf};
+ghost use Rattle.tb_link.specs.Counts.{NeverFalls, Rose};
+ghost use Rattle.tb_link.specs.Sources.{before_left};
+ghost use Rattle.tb_host.specs.TableInput.{AnswersInput, HasText};
+
+use crate::ending::Ending;
+use crate::input::InputFault;
+use std::alloc::Global;
+use tb_import::{ImportFault, read_bids};
+use tb_link::{Failed, Source};
+use tb_message::Message;
+
+// Bytes of a table, at most.
+const MOST_BYTES: usize = 134_217_728;
+
+const PIECE: usize = 8192;
+
+/// Reads the whole input, and the rows of the table that it is: each row once, in the order in which they were first
+/// seen.
+pub fn read_table<I: Source>(alloc: Global, input: &mut I) -> Result<Vec<(u64, Message)>, Ending>
+    ensures { AnswersInput (I.source input.old) (I.source input.new) result }
+{
+    match read_text(alloc, input) {
+        Ok(text) => match read_bids(alloc, &text) {
+            Ok(rows) => Ok(rows),
+            Err(ImportFault::BadRecord(record)) => Err(Ending::BadInput(record)),
+            Err(ImportFault::OutOfMemory) => Err(Ending::OutOfMemory),
+        },
+        Err(InputFault::Read) => Err(Ending::ReadFault),
+        Err(InputFault::OutOfMemory) => Err(Ending::OutOfMemory),
+    }
+}
+
+// The whole input, or more of it than a table may have.
+fn read_text<I: Source>(alloc: Global, input: &mut I) -> Result<Vec<u8>, InputFault>
+    ensures text { IfOk result (λ text. HasText text.items (I.source input.old) (I.source input.new)) }
+    ensures no_fault { OnOk result ((I.source input.new).faults ≡ (I.source input.old).faults) }
+    ensures fault { IsErrOf result InputFault.Read → Rose (I.source input.old).faults (I.source input.new).faults }
+{
+    let mut text = Vec::new(alloc);
+    while text.len() <= MOST_BYTES {
+        if !read_piece(input, &mut text)? {
+            return Ok(text);
+        }
+    }
+    Ok(text)
+}
+
+// Reads a piece behind the text: true where the input gave some bytes, false at its end.
+fn read_piece<I: Source>(input: &mut I, text: &mut Vec<u8>) -> Result<bool, InputFault>
+    ensures piece { OnOk result ((piece : List ℕ) × (text.new.items ≡ text.old.items ++ piece)
+        × ((I.source input.old).left ≡ before_left piece (I.source input.new).left)) }
+    ensures more { result ≡ Ok true → vec_len text.old < vec_len text.new }
+    ensures end { result ≡ Ok false → (text.new.items ≡ text.old.items)
+        × IfSome (I.source input.old).left (λ left. left ≡ [])
+        × ((I.source input.new).left ≡ (I.source input.old).left) }
+    ensures no_fault { OnOk result ((I.source input.new).faults ≡ (I.source input.old).faults) }
+    ensures fault { IsErrOf result InputFault.Read → Rose (I.source input.old).faults (I.source input.new).faults }
+{
+    let mut piece = [0; PIECE];
+    let count = match input.read(&mut piece) {
+        Ok(count) => count,
+        Err(Failed) => return Err(InputFault::Read),
+    };
+    match text.extend_from_slice(&piece[..count]) {
+        Ok(()) => Ok(count > 0),
+        Err(_) => Err(InputFault::OutOfMemory),
+    }
+}
