@@ -244,7 +244,7 @@ module _ {G K : Type 0} (gate : G → GateState K) (source : K → SourceState)
       → (status_of ended ≡ status_of (ending_of why)) ⊎ (status_of ended ≡ 9)
   serve-refused_file past why (inl served) told is_true speaks no_fault =
       absurd (opened-not why past served.0.history is_true speaks
-      (known (λ past. IsExact (contents_of past) (Ok served.0.history)) old.disk.past past told served.3.opened.stood))
+      (known (λ past. IsExact (contents_of past) (Ok served.0.history)) old.disk.past past told served.3.keeps.opened.stood))
   serve-refused_file past why (inr unserved) told is_true speaks no_fault =
       the_status (reasons-one why unserved.why past old.disk new.disk told is_true speaks unserved.unopened no_fault)
     where

@@ -1,8 +1,7 @@
 -- What `serve` does follows from what the room's gates were served by.
-use Rattle.std.proofs.Common.{◌≡◌, ℕ, ◌+◌, ◌≤◌, Bool, true, false, Option, Some, None, is_some, List, [], ◌∷◌, ◌++◌, length, drop, ◌⊎◌, inl, inr, refl, sym, subst, ap, ◌∙◌, arith}
+use Rattle.std.proofs.Common.{◌≡◌, ℕ, ◌+◌, ◌≤◌, Bool, true, false, Option, Some, None, is_some, List, [], ◌∷◌, ◌++◌, length, ◌⊎◌, inl, inr, refl, sym, subst, ap, ◌∙◌, arith}
 use Rattle.std.specs.Prelude.{All, IfSome, Ok, codes}
 use Rattle.std.specs.Fmt.{decimal}
-use Rattle.std.proofs.Math.Seq.{drop-append_seam}
 use Rattle.std.proofs.lemmas.List.{length-append, length-map}
 use Rattle.tb_units.specs.Bytes.{line_feed}
 use Rattle.tb_link.specs.Counts.{last_count}
@@ -17,21 +16,23 @@ use Rattle.tb_journal.specs.Opening.{IsHarmless}
 use Rattle.tb_journal.proofs.ToldLemmas.{Told-weaker}
 use Rattle.tb_message.specs.declared.message.Entry.{Entry}
 use Rattle.tb_history.specs.Legal.{IsLegal}
+use Rattle.tb_desk.specs.Desks.{IsBeginning}
 use Rattle.tb_desk.specs.Replay.{IsExact, LeavesRefused}
+use Rattle.tb_desk.specs.Stands.{CrashesLeave}
 use Rattle.tb_desk.specs.declared.fault.OpenFault.{OpenFault}
 use Rattle.tb_desk.specs.declared.fault.OpenFault.TheVariants as fault
 use Rattle.tb_desk.proofs.GroupLemmas.{IsLegal-in_range}
 use Rattle.tb_session.specs.declared.room.Room.{Room}
-use Rattle.tb_session.specs.Codes.{Made, fixed_code, moments_code, spelled_all, told_code}
-use Rattle.tb_session.specs.Rooms.{fixed_of}
+use Rattle.tb_session.specs.Codes.{Made, fixed_code, spelled_all}
+use Rattle.tb_session.specs.Rooms.{house_of}
 use Rattle.tb_session.specs.Serve.{Run, AreRuns, IsHistoryOf, calls_of_gates, links_of_gates, some_failed}
-use Rattle.tb_host.specs.DiskRun.{HasGrown, Unopened}
+use Rattle.tb_host.specs.DiskRun.{CrashesKeep, HasGrown, Unopened}
 use Rattle.tb_host.specs.Endings.{ending_of}
 use Rattle.tb_host.specs.ServeRun.{Handed, HasAdded, LinksEnd, OneRose, OnServed, RoomEnds, RoomServed, ServeEnds, Serves, ToldEnds, WereServed, fixed_at, served_text}
 use Rattle.tb_host.specs.Standings.{Standing, standing}
 use Rattle.tb_host.specs.declared.ending.Ending.{Ending}
 use Rattle.tb_host.specs.declared.ending.Ending.TheVariants as ending
-use Rattle.tb_host.proofs.DiskLemmas.{Unopened-here, Unopened-untouched}
+use Rattle.tb_host.proofs.DiskLemmas.{CrashesKeep-here, Unopened-here, Unopened-untouched}
 use Rattle.tb_host.proofs.OneHistoryLemmas.{Begins-spelled, OneHistory-spelled}
 use Rattle.tb_host.proofs.WriteLemmas.{Fails-first, Fails-second, Takes-both}
 
@@ -42,31 +43,6 @@ tells-on P old new told = go old.past refl
     go : (past : Option Past) → old.past ≡ past → is_some new.past ≡ is_some old.past
     go None is = ap is_some (told.silent is ∙ sym is)
     go (Some before) is = (let now = told.told before is in ap is_some now.1 ∙ sym (ap is_some is))
-
--- the code tells the flag
-flag-one : (one other : Bool) → told_code one ≡ told_code other → one ≡ other
-flag-one true true is = refl
-flag-one false false is = refl
-flag-one true false is = absurd (let bad : ⊥ = omega (arith, is) in bad)
-flag-one false true is = absurd (let bad : ⊥ = omega (arith, is) in bad)
-
--- a fixed part tells whether the disk tells its contents, and its count of faults
-fixed-same : (name name' : List ℕ) (told told' : Bool) (faults faults' : ℕ) (moments moments' : Option (List ℕ))
-    → fixed_code name told faults moments ≡ fixed_code name' told' faults' moments'
-    → (told ≡ told') × (faults ≡ faults')
-fixed-same name name' told told' faults faults' moments moments' is =
-    let rest : List ℕ = told_code told ∷ faults ∷ moments_code moments in
-    let rest' : List ℕ = told_code told' ∷ faults' ∷ moments_code moments' in
-    let long : length name ≡ length name' = cc in
-    let whole : name ++ rest ≡ name' ++ rest' = cc in
-    let behind : rest ≡ rest' =
-    sym (drop-append_seam name rest)
-    ∙ (ap (λ (l : List ℕ). drop (length name) l) whole
-    ∙ (ap (λ (n : ℕ). drop n (name' ++ rest')) long
-    ∙ drop-append_seam name' rest')) in
-    let flags : told_code told ≡ told_code told' = cc in
-    let counts : faults ≡ faults' = cc in
-    (flag-one told told' flags, counts)
 
 -- what is left of a history by its records
 added-length : (first last : List Entry) (later : List (List ℕ))
@@ -87,6 +63,7 @@ pub record IsOpenedFrom {D C : Type 0} (disk : D → DiskState) (clock : C → C
   pub exact : IfSome old.past (λ past. IsExact (contents_of past) (Ok room.desk.host.history))
   pub harmless : Told old (disk room.desk.disk) IsHarmless
   pub legal : IsLegal room.desk.host.history
+  pub recovered : room.desk.recovered ≡ length room.desk.host.history
   pub sure : room.desk.doubt ≡ []
   pub unmet : room.desk.faults ≡ 0
   pub no_fault : (disk room.desk.disk).faults ≡ old.faults
@@ -108,7 +85,7 @@ module _ {D C G K : Type 0} (disk : D → DiskState) (clock : C → ClockState) 
   -- the room's fixed part is that of what `serve` was handed
   fixed-is : (operator : List ℕ) (moments : ClockState) (old : DiskState) (room : Room D C)
       → IsOpenedFrom disk clock operator moments old room
-      → fixed_of disk clock room ≡ fixed_at operator old moments
+      → house_of disk clock room ≡ fixed_at operator old moments
   fixed-is operator moments old room opened =
       let tells : is_some (disk room.desk.opened).past ≡ is_some old.past =
       ap (λ (d : D). is_some (disk d).past) opened.same
@@ -137,9 +114,12 @@ module _ {D C G K : Type 0} (disk : D → DiskState) (clock : C → ClockState) 
     last,
     done.all.runs,
     record {
-      opened = record { stood = opened.exact; legal = opened.legal; sure = opened.sure; count = opened.no_fault };
-      grown = grown;
-      stays = done.stays;
+      keeps = record {
+        opened = record { stood = opened.exact; legal = opened.legal; sure = opened.sure; count = opened.no_fault };
+        grown = grown;
+        stays = done.stays;
+        since = since;
+      };
       tells = tells;
       are_runs = subst (λ (olds : List G). AreRuns gate source sink (fixed_at operator old.disk moments) olds new.gates
           done.all.runs) gates_is (subst (λ (f : List ℕ). AreRuns gate source sink f mid.gates new.gates done.all.runs)
@@ -168,10 +148,10 @@ module _ {D C G K : Type 0} (disk : D → DiskState) (clock : C → ClockState) 
       last : Standing
       last = standing new.disk done.after.desk
 
-      fixed : fixed_of disk clock room ≡ fixed_at operator old.disk moments
+      fixed : house_of disk clock room ≡ fixed_at operator old.disk moments
       fixed = fixed-is operator moments old.disk room opened
 
-      raw : IsHistoryOf (fixed_of disk clock room) (spelled_all first.history) (spelled_all last.history)
+      raw : IsHistoryOf (house_of disk clock room) (spelled_all first.history) (spelled_all last.history)
           (spelled_all last.doubt) room.desk.faults done.after.desk.faults (calls_of_gates done.all.runs)
       raw = done.all.history
 
@@ -200,20 +180,24 @@ module _ {D C G K : Type 0} (disk : D → DiskState) (clock : C → ClockState) 
           (subst (λ (n : ℕ). ToldEnds done.failed ended mid.out new.out (served_text n done.accepted)) done.all.served_is
           done.ends)
 
-      kept : (is_some (disk done.after.desk.opened).past ≡ is_some (disk room.desk.opened).past)
-          × ((disk done.after.desk.opened).faults ≡ (disk room.desk.opened).faults)
-      kept = fixed-same done.after.operator room.operator (is_some (disk done.after.desk.opened).past)
-          (is_some (disk room.desk.opened).past) (disk done.after.desk.opened).faults (disk room.desk.opened).faults
-          (clock done.after.clock).moments (clock room.clock).moments done.all.fixed
+      -- the room that came back was opened on the disk that the opening left
+      same : disk done.after.desk.opened ≡ disk room.desk.disk
+      same = done.all.same.opened ∙ ap disk opened.same
 
       tells : is_some new.disk.past ≡ is_some old.disk.past
       tells =
           tells-on _ (disk done.after.desk.opened) new.disk done.since
-          ∙ (kept.0 ∙ (ap (λ (d : D). is_some (disk d).past) opened.same
-          ∙ tells-on IsHarmless old.disk (disk room.desk.disk) opened.harmless))
+          ∙ (ap (λ (d : DiskState). is_some d.past) same
+          ∙ tells-on IsHarmless old.disk (disk room.desk.disk) opened.harmless)
 
       faults : (disk done.after.desk.opened).faults ≡ old.disk.faults
-      faults = kept.1 ∙ (ap (λ (d : D). (disk d).faults) opened.same ∙ opened.no_fault)
+      faults = ap (λ (d : DiskState). d.faults) same ∙ opened.no_fault
+
+      since : CrashesKeep old.disk new.disk first last
+      since = CrashesKeep-here old.disk (disk room.desk.disk) new.disk first last done.after.desk.recovered opened.exact
+          opened.legal grown (done.all.same.recovered ∙ opened.recovered) opened.harmless
+          (subst (λ (d : DiskState). CrashesLeave (IsBeginning last.history done.after.desk.recovered) d new.disk) same
+          done.since)
 
   -- what follows wherever links were served
   pub served-part : (operator : List ℕ) (moments : ClockState) (ended : Ending) (old new : Handed G)

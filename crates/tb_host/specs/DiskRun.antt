@@ -1,4 +1,4 @@
--- What `run` does to its disk.
+-- What `run` and `serve` do to their disk.
 use Rattle.std.specs.Prelude.{◌≡◌, ◌⊎◌, List, [], ◌++◌, length, Ok, Err, IfSome}
 use Rattle.tb_link.specs.Counts.{Rose, NeverFalls}
 use Rattle.tb_disk.specs.Disks.{DiskState}

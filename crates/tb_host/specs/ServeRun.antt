@@ -14,7 +14,7 @@ use Rattle.tb_desk.specs.Stands.{CrashesLeave}
 use Rattle.tb_session.specs.declared.room.Room.{Room}
 use Rattle.tb_session.specs.Codes.{Made, fixed_code}
 use Rattle.tb_session.specs.Serve.{Run, AreRuns, ServesAll, calls_of_gates, links_of_gates, some_failed}
-use Rattle.tb_host.specs.DiskRun.{Opened, HasGrown, Stays, Unopened}
+use Rattle.tb_host.specs.DiskRun.{Keeps, Stays, Unopened}
 use Rattle.tb_host.specs.Endings.{ending_of}
 use Rattle.tb_host.specs.Headline.{OneHistory}
 use Rattle.tb_host.specs.Standings.{Standing, standing}
@@ -81,16 +81,14 @@ abbrev pub Served : ℕ → Type 0
 Served status = (status ≡ 0) ⊎ (status ≡ 5) ⊎ (status ≡ 10)
 
 module _ {G K : Type 0} (gate : G → GateState K) (source : K → SourceState) (sink : K → SinkState) where
-  -- The desk was opened on the disk, and the disk handed back keeps the last history. These runs are what became of the
-  -- gates' links, and one history stands behind all their calls.
+  -- The desk was opened on the disk, the disk handed back keeps the last history, and so did every crash on the way. These
+  -- runs are what became of the gates' links, and one history stands behind all their calls.
   pub record Serves (operator : List ℕ) (clock : ClockState) (old new : Handed G) (first last : Standing)
       (runs : List (Run K)) : Type 0 where
-    pub opened : Opened old.disk first
-    pub grown : HasGrown first last
-    pub stays : Stays last new.disk
+    pub keeps : Keeps old.disk new.disk first last
     pub tells : is_some new.disk.past ≡ is_some old.disk.past
     pub are_runs : AreRuns gate source sink (fixed_at operator old.disk clock) old.gates new.gates runs
-    pub one : OneHistory (fixed_at operator old.disk clock) first last grown.0 (calls_of_gates runs)
+    pub one : OneHistory (fixed_at operator old.disk clock) first last keeps.grown.0 (calls_of_gates runs)
     pub counts : CountsOf old.disk new.disk (calls_of_gates runs)
 
   -- links were served, and this is so of the first and the last history and of what became of the gates

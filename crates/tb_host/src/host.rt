@@ -9,7 +9,7 @@ ghost use Rattle.tb_host.specs.AwardRun.{AwardEnds, Printed, PrintedPrefix};
 ghost use Rattle.tb_host.specs.Told.{WhereTold};
 ghost use Rattle.tb_host.specs.Books.{HasBadLine, HasBook, IsBadLine};
 ghost use Rattle.tb_host.specs.Commands.{AreAward, AreCommand, AreImport, AreReport, AreRun, AreTrial, ServesNoLinks, OpenDisk};
-ghost use Rattle.tb_host.specs.DiskRun.{OnDesk};
+ghost use Rattle.tb_host.specs.DiskRun.{CrashesKeep, OnDesk};
 ghost use Rattle.tb_host.specs.Endings.{ending_of, status_of, IsUnopened};
 ghost use Rattle.tb_host.specs.Reads.{ReadsBookAlone, ReadsScriptAlone};
 ghost use Rattle.tb_host.specs.RunEnds.{BrokenOff, CutOff, Finished, LeftOff, NotBegun, RunEnds, Stopped};
@@ -258,12 +258,14 @@ pub fn host_main<
         (record { disk = D.disk result.disk; gates = gates.new.items; out = O.sink out.new })
         (λ first last runs. (more : List Entry) × OneHistory (fixed_at asked.operator (D.disk disk) (C.clock clock))
         first last more (calls_of_gates runs)) }
-    // recovery keeps every acknowledged message, once;
+    // recovery keeps every acknowledged message, once; and every crash while links were served left what one before it
+    // could leave, or a beginning of the last history that has all that the disk stood for, or that and one group;
     ensures serve_keeps { Served result.status → (asked : Serving) → AreServe asked (map string_bytes words.now)
         → OnServed G.gate G.Conn.source G.Conn.sink asked.operator (C.clock clock)
         (record { disk = D.disk disk; gates = gates.old.items; out = O.sink out.old })
         (record { disk = D.disk result.disk; gates = gates.new.items; out = O.sink out.new })
-        (λ first last runs. KeepsAcknowledged (D.disk result.disk) (calls_of_gates runs)) }
+        (λ first last runs. KeepsAcknowledged (D.disk result.disk) (calls_of_gates runs)
+        × CrashesKeep (D.disk disk) (D.disk result.disk) first last) }
     // the published awards and price are the circular's rule on the bids accepted before closing;
     ensures serve_by_the_rule { Served result.status → (asked : Serving) → AreServe asked (map string_bytes words.now)
         → OnServed G.gate G.Conn.source G.Conn.sink asked.operator (C.clock clock)

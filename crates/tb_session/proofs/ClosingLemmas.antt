@@ -21,8 +21,10 @@ use Rattle.tb_session.specs.declared.called.Outcome.TheVariants as outcome
 use Rattle.tb_session.specs.declared.room.Room.{Room}
 use Rattle.tb_session.specs.Codes.{Made, call_of, kind_at, outcome_code, entry_of, spelled_all}
 use Rattle.tb_session.specs.CodeLaws.{entry-code, get_or-map}
-use Rattle.tb_session.specs.Rooms.{room_means}
+use Rattle.tb_session.specs.Rooms.{room_means, house_of}
 use Rattle.tb_session.specs.Serve.{calls_of_gates, MayHaveMade, ServesAll, Turns}
+use Rattle.tb_session.proofs.OpeningLemmas.{same-start, operator-house, moments-house}
+use Rattle.tb_session.proofs.HouseLemmas.{IsAnswered-house, AreRuns-house}
 
 -- what holds of all elements of a mapped list
 all-unmapped : {A B : Type 0} (P : B → Type 0) (f : A → B) (xs : List A) → All P (map f xs) → All (λ x. P (f x)) xs
@@ -115,13 +117,15 @@ module _ {D C G K : Type 0} (disk : D → DiskState) (clock : C → ClockState) 
       → ServesAll disk clock gate source sink room olds after news served accepted failed
   serves_all accepted is = record {
     runs = turns.runs;
-    are_runs = turns.are_runs;
+    are_runs = AreRuns-house _ (house_of disk clock room) (operator-house disk clock room) (moments-house disk clock room)
+        gate source sink olds news turns.runs turns.are_runs;
     history = record {
       later = only.later;
       grown = grown;
       entries = λ k d within. any_made _ (only.entries k d within);
       doubted = λ k d within. any_made _ (only.doubt k d within);
-      answered = turns.answered;
+      answered = λ k d within. IsAnswered-house _ (house_of disk clock room) (operator-house disk clock room)
+          (moments-house disk clock room) _ _ _ _ (turns.answered k d within);
       begins = turns.begin;
       prefixes = λ k d within. (stand k d within).prefix;
       accepted = λ k d within e is. one_accepted (get_or calls k d) e is (stand k d within);
@@ -131,5 +135,5 @@ module _ {D C G K : Type 0} (disk : D → DiskState) (clock : C → ClockState) 
     served_is = turns.counted;
     accepted_is = omega (arith, is, longer);
     failed_is = turns.failed_is;
-    fixed = closes.fixed ∙ turns.same.fixed;
+    same = same-start disk clock room after (closes.fixed ∙ turns.same.fixed);
   }

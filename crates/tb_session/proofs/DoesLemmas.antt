@@ -25,7 +25,8 @@ use Rattle.tb_core.specs.declared.refused.QueryRefused.{QueryRefused}
 use Rattle.tb_core.specs.declared.refused.QueryRefused.TheVariants as core
 use Rattle.tb_gates.specs.Clocks.{ClockState}
 use Rattle.tb_lock.specs.Turns.{IsReadBetween}
-use Rattle.tb_desk.specs.Turn.{Held, Asked, IsTurn, Turns, added_by as added_as, added as added_on, group}
+use Rattle.tb_desk.specs.Turn.{Held, Asked, IsOneOf, IsTurn, Turns, added_by as added_as, added as added_on, group}
+use Rattle.tb_desk.specs.Stands.{CrashesLeave}
 use Rattle.tb_desk.specs.Desks.{CountsFault, held}
 use Rattle.tb_session.specs.declared.answer.Answer.{Answer}
 use Rattle.tb_session.specs.declared.answer.Answer.TheVariants as answer
@@ -396,7 +397,7 @@ does-lack_query operator old faults k query legal =
     refl refl legal tt
 
 -- what is held by two desks with one history and one group in doubt is the same
-held-same : (old mid : Held) → mid.history ≡ old.history → mid.doubt ≡ old.doubt → mid ≡ old
+pub held-same : (old mid : Held) → mid.history ≡ old.history → mid.doubt ≡ old.doubt → mid ≡ old
 held-same old mid history doubt = λ i. record { history = history i; doubt = doubt i }
 
 -- a call does what it does from the desk that made room for it
@@ -487,10 +488,12 @@ pub calls-fault : {D C : Type 0} (disk : D → DiskState) (clock : C → ClockSt
     (why : Refusal)
     → IsLegal room.desk.host.history
     → IsFaultOf asked why
+    → CrashesLeave (IsOneOf (held room.desk) (held room.desk)) (disk room.desk.disk) (disk room.desk.disk)
     → Calls disk clock room room (fault_call k asked) (fault_for (caller_on room.operator room.desk.host.history k) why)
-calls-fault disk clock room k asked why legal is = record {
+calls-fault disk clock room k asked why legal is still = record {
   does = does-fault room.operator (held room.desk) room.desk.faults k asked why legal is;
   reads = refl;
-  same = record { operator = refl; opened = refl };
+  same = record { operator = refl; opened = refl; recovered = refl };
   printable = fault-told (caller_on room.operator room.desk.host.history k) why;
+  crash = still;
 }

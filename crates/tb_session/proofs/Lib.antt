@@ -2,8 +2,10 @@ pub mod CallerLemmas
 pub mod UnknownLemmas
 pub mod DoesLemmas
 pub mod OneCode
+pub mod OpeningLemmas
 pub mod GainLemmas
 pub mod TurnLemmas
+pub mod CrashLemmas
 pub mod InboxLemmas
 pub mod ReceiveLemmas
 pub mod ReplyLemmas
@@ -17,6 +19,7 @@ pub mod AnswerLemmas
 pub mod WorkLemmas
 pub mod Shares
 pub mod ServeLemmas
+pub mod HouseLemmas
 pub mod ClosingLemmas
 pub mod HireLemmas
 pub mod Crosses

@@ -50,7 +50,7 @@ split-same (x ∷ a) (y ∷ b) r s long is =
     (cc, both.1)
 
 -- two texts behind their lengths
-sized-same : (a b r s : List ℕ) → sized a ++ r ≡ sized b ++ s → (a ≡ b) × (r ≡ s)
+pub sized-same : (a b r s : List ℕ) → sized a ++ r ≡ sized b ++ s → (a ≡ b) × (r ≡ s)
 sized-same a b r s is =
     let long : length a ≡ length b = cc in
     let rest : a ++ r ≡ b ++ s = cc in

@@ -1,10 +1,9 @@
 -- A turn of the room: what the lock has to be shown at its end, and what the pass gains by it.
 use Rattle.std.proofs.Common.{◌≡◌, ℕ, ◌+◌, ◌≤◌, min, List, [], ◌∷◌, ◌++◌, length, Some, None, refl, sym, ap, ◌∙◌, subst, inl, inr, ⊎_elim, arith, append_assoc, length-append}
-use Rattle.std.specs.Prelude.{Bool, Option, Contains, All, Any, IfSome, is_some}
+use Rattle.std.specs.Prelude.{Option, Contains, All, Any, IfSome}
 use Rattle.std.proofs.lemmas.Bool.{cases_lt}
 use Rattle.std.proofs.lemmas.List.{append-nil, map-append, length-map}
 use Rattle.std.proofs.lemmas.List.Elements.{All-nil, All-cons, All-push, All-head, All-tail}
-use Rattle.std.proofs.Math.Seq.{drop-append_seam}
 use Rattle.tb_units.specs.declared.moment.Moment.{Moment}
 use Rattle.tb_link.specs.Counts.{last_count}
 use Rattle.tb_disk.specs.Disks.{DiskState}
@@ -25,11 +24,13 @@ use Rattle.tb_session.specs.declared.called.Outcome.TheVariants as outcome
 use Rattle.tb_session.specs.declared.room.Room.{Room}
 use Rattle.tb_session.specs.declared.turn.Turn.{Turn}
 use Rattle.tb_session.specs.Calls.{ComesOut, IsAnswerBy}
-use Rattle.tb_session.specs.Codes.{spelled_all, code_of, kind_at, kind_in, entry_in, entry_of, outcome_code, moment_at, moment_code, moments_in, moments_at, told_code, fixed_code, MayGiveMoment, IsAnswered, Made, call_of, IsAnswerOf}
-use Rattle.tb_session.specs.CodeLaws.{entry-code, operator-fixed}
+use Rattle.tb_session.specs.Codes.{spelled_all, code_of, kind_at, kind_in, entry_in, entry_of, outcome_code, moment_at, moment_code, MayGiveMoment, IsAnswered, Made, call_of, IsAnswerOf}
+use Rattle.tb_session.specs.CodeLaws.{entry-code}
+use Rattle.tb_session.specs.Openings.{lock_code}
 use Rattle.tb_session.specs.Rooms.{room_means, fixed_of}
 use Rattle.tb_session.specs.Gains.{left_by, Follows, AreInOrder, Gains, GainsOne}
 use Rattle.tb_session.specs.Turned.{added_by, before_of, Reads, told_of, Calls}
+use Rattle.tb_session.proofs.OpeningLemmas.{operator-locked, moments-locked}
 
 -- lists of entries, one behind the other
 pub spelled-append : (xs ys : List Entry) → spelled_all (xs ++ ys) ≡ spelled_all xs ++ spelled_all ys
@@ -96,21 +97,14 @@ reads-timed (Some moment) a b reads seconds is =
     let same : moment.seconds ≡ seconds = cc in
     (sym same ∙ sym reads.reading, read-between a.readings b.readings reads.readings)
 
--- the moments in a fixed part
-moments-fixed : (name : List ℕ) (told : Bool) (faults : ℕ) (moments : Option (List ℕ))
-    → moments_in (fixed_code name told faults moments) ≡ moments
-moments-fixed name told faults None =
-    ap (λ (l : List ℕ). moments_at l) (drop-append_seam name (told_code told ∷ faults ∷ 0 ∷ []))
-moments-fixed name told faults (Some moments) =
-    ap (λ (l : List ℕ). moments_at l) (drop-append_seam name (told_code told ∷ faults ∷ 1 ∷ moments))
-
 -- and it is one that the clock may give
-reads-given : (name : List ℕ) (told : Bool) (faults : ℕ) (m : Option Moment) (a b : ClockState)
-    → Reads m a b → (moment : Moment) → m ≡ Some moment → MayGiveMoment (fixed_code name told faults a.moments) moment
-reads-given name told faults None a b reads moment is = absurd (let bad : ⊥ = cc in bad)
-reads-given name told faults (Some given_one) a b reads moment is =
+reads-given : (name : List ℕ) (opened : DiskState) (recovered : ℕ) (m : Option Moment) (a b : ClockState)
+    → Reads m a b → (moment : Moment) → m ≡ Some moment
+    → MayGiveMoment (lock_code name opened recovered a.moments) moment
+reads-given name opened recovered None a b reads moment is = absurd (let bad : ⊥ = cc in bad)
+reads-given name opened recovered (Some given_one) a b reads moment is =
     subst (λ (o : Option (List ℕ)). IfSome o (λ moments. Contains moments moment.seconds))
-    (sym (moments-fixed name told faults a.moments))
+    (sym (moments-locked name opened recovered a.moments))
     (subst (λ (m : Moment). IfSome a.moments (λ moments. Contains moments m.seconds)) (same-some given_one moment is)
     reads.told)
 
@@ -143,14 +137,14 @@ module _ {D C : Type 0} (disk : D → DiskState) (clock : C → ClockState) (v0 
 
   fixed_same : fixed_of disk clock new ≡ v.fixed
   fixed_same =
-      ap (λ (name : List ℕ). fixed_code name (is_some (disk new.desk.opened).past) (disk new.desk.opened).faults
-      (clock new.clock).moments) called.same.operator
-      ∙ (ap (λ (opened : D). fixed_code old.operator (is_some (disk opened).past) (disk opened).faults
-      (clock new.clock).moments) called.same.opened
-      ∙ (ap (λ (moments : Option (List ℕ)). fixed_code old.operator (is_some (disk old.desk.opened).past)
-      (disk old.desk.opened).faults moments)
+      ap (λ (name : List ℕ). lock_code name (disk new.desk.opened) new.desk.recovered (clock new.clock).moments)
+      called.same.operator
+      ∙ (ap (λ (opened : D). lock_code old.operator (disk opened) new.desk.recovered (clock new.clock).moments)
+      called.same.opened
+      ∙ (ap (λ (n : ℕ). lock_code old.operator (disk old.desk.opened) n (clock new.clock).moments) called.same.recovered
+      ∙ (ap (λ (moments : Option (List ℕ)). lock_code old.operator (disk old.desk.opened) old.desk.recovered moments)
       (reads-moments t.called.moment (clock old.clock) (clock new.clock) called.reads)
-      ∙ fixed_old))
+      ∙ fixed_old)))
 
   -- the histories
   at_begins : IsPrefix (spelled_all at) (spelled_all new.desk.host.history)
@@ -175,11 +169,10 @@ module _ {D C : Type 0} (disk : D → DiskState) (clock : C → ClockState) (v0 
     in_range = called.does.in_range;
     comes_out = subst (λ (name : List ℕ). ComesOut name at t.called t.called.outcome
         old.desk.faults new.desk.faults)
-        (sym (operator-fixed old.operator (is_some (disk old.desk.opened).past) (disk old.desk.opened).faults
-        (clock old.clock).moments)) called.does.comes_out;
+        (sym (operator-locked old.operator (disk old.desk.opened) old.desk.recovered (clock old.clock).moments)) called.does.comes_out;
     given = called.does.given;
-    timed = reads-given old.operator (is_some (disk old.desk.opened).past) (disk old.desk.opened).faults t.called.moment
-        (clock old.clock) (clock new.clock) called.reads;
+    timed = reads-given old.operator (disk old.desk.opened) old.desk.recovered t.called.moment (clock old.clock)
+        (clock new.clock) called.reads;
   }
 
   answered : IsAnswered v.fixed at t.called v.faults_taken new.desk.faults
@@ -325,6 +318,5 @@ module _ {D C : Type 0} (disk : D → DiskState) (clock : C → ClockState) (v0 
     ask_is = ask_is;
     answer_is = subst (λ (f : List ℕ). IsAnswerOf f made t.answer) taken.fixed
         (subst (λ (name : List ℕ). IsAnswerBy name at t.called t.called.outcome t.answer)
-        (sym (operator-fixed old.operator (is_some (disk old.desk.opened).past) (disk old.desk.opened).faults
-        (clock old.clock).moments)) called.does.answer);
+        (sym (operator-locked old.operator (disk old.desk.opened) old.desk.recovered (clock old.clock).moments)) called.does.answer);
   }

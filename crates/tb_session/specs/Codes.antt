@@ -122,10 +122,10 @@ told_code false = 0
 
 abbrev pub moments_code : Option (List ℕ) → List ℕ
 moments_code None = 0 ∷ []
-moments_code (Some moments) = 1 ∷ moments
+moments_code (Some moments) = 1 ∷ sized moments
 
 -- The operator's name behind its length; whether the disk tells its contents, and its count of faults at the end of the
--- opening; and the moments that the clock may give, where it tells them.
+-- opening; and the moments that the clock may give, behind their number, where it tells them.
 abbrev pub fixed_code : List ℕ → Bool → ℕ → Option (List ℕ) → List ℕ
 fixed_code name told faults moments = length name ∷ (name ++ told_code told ∷ faults ∷ moments_code moments)
 
@@ -139,8 +139,9 @@ abbrev pub moments_at : List ℕ → Option (List ℕ)
 moments_at [] = None
 moments_at (told ∷ []) = None
 moments_at (told ∷ faults ∷ []) = None
-moments_at (told ∷ faults ∷ zero ∷ moments) = None
-moments_at (told ∷ faults ∷ suc given ∷ moments) = Some moments
+moments_at (told ∷ faults ∷ zero ∷ others) = None
+moments_at (told ∷ faults ∷ suc given ∷ []) = None
+moments_at (told ∷ faults ∷ suc given ∷ size ∷ others) = Some (take size others)
 
 abbrev pub moments_in : List ℕ → Option (List ℕ)
 moments_in [] = None

@@ -1,9 +1,11 @@
 pub mod Calls
 pub mod Codes
+pub mod Openings
 pub mod CodeLaws
 pub mod Rooms
 pub mod Gains
 pub mod Turned
+pub mod Crashes
 pub mod Replies
 pub mod Inbox
 pub mod Session

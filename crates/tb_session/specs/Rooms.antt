@@ -7,6 +7,7 @@ use Rattle.tb_message.specs.declared.message.Entry.{Entry}
 use Rattle.tb_session.specs.declared.called.Called.{Called}
 use Rattle.tb_session.specs.declared.room.Room.{Room}
 use Rattle.tb_session.specs.Codes.{spelled_all, code_of, kind_in, moment_in, entry_in, fixed_code, IsAnswered}
+use Rattle.tb_session.specs.Openings.{lock_code}
 use Rattle.tb_session.specs.CodeLaws.{repeat-stands}
 
 -- a call with this code was answered on this history
@@ -18,11 +19,25 @@ pub record IsCoded (fixed : List ℕ) (prefix : History) (code : List ℕ) (befo
   pub answered : IsAnswered fixed history called before after
 
 module _ {D C : Type 0} (disk : D → DiskState) (clock : C → ClockState) where
-  -- the operator's name, what the disk was as the opening left it, and the moments of the clock
-  abbrev pub fixed_of : Room D C → List ℕ
-  fixed_of room =
+  -- what calls are answered by: the operator's name, whether the disk tells its contents and its count of faults, as the
+  -- opening left it, and the moments of the clock
+  abbrev pub house_of : Room D C → List ℕ
+  house_of room =
       fixed_code room.operator (is_some (disk room.desk.opened).past) (disk room.desk.opened).faults
       (clock room.clock).moments
+
+  -- that, and the disk as the opening left it, with the number of entries that it recovered
+  abbrev pub fixed_of : Room D C → List ℕ
+  fixed_of room =
+      lock_code room.operator (disk room.desk.opened) room.desk.recovered (clock room.clock).moments
+
+  -- the same operator, the same moments that the clock may give, the same disk as the opening left it, and as many
+  -- entries recovered
+  pub record SameStart (old new : Room D C) : Type 0 where
+    pub operator : new.operator ≡ old.operator
+    pub opened : disk new.desk.opened ≡ disk old.desk.opened
+    pub recovered : new.desk.recovered ≡ old.desk.recovered
+    pub moments : (clock new.clock).moments ≡ (clock old.clock).moments
 
   -- the history, the group in doubt and the count of faults are the desk's
   abbrev pub room_means : Meanings (Room D C)

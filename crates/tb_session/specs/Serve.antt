@@ -19,7 +19,7 @@ use Rattle.tb_session.specs.declared.room.Room.{Room}
 use Rattle.tb_session.specs.declared.worker.Worker.{Worker}
 use Rattle.tb_session.specs.Codes.{Made, call_of, spelled_all, IsAnswered}
 use Rattle.tb_session.specs.Gains.{AreInOrder}
-use Rattle.tb_session.specs.Rooms.{fixed_of}
+use Rattle.tb_session.specs.Rooms.{house_of, SameStart}
 use Rattle.tb_session.specs.Work.{Served, calls_of_links, Passed, IsServed, IsReady, Works}
 
 -- what became of a gate: the links that were served, and whether it failed
@@ -82,15 +82,17 @@ module _ {D C G K : Type 0} (disk : D → DiskState) (clock : C → ClockState) 
   pub record ServesAll (room : Room D C) (olds : List G) (after : Room D C) (news : List G) (served accepted : ℕ)
       (failed : Bool) : Type 0 where
     pub runs : List (Run K)
-    pub are_runs : AreRuns gate source sink (fixed_of disk clock room) olds news runs
-    pub history : IsHistoryOf (fixed_of disk clock room) (spelled_all room.desk.host.history)
+    pub are_runs : AreRuns gate source sink (house_of disk clock room) olds news runs
+    pub history : IsHistoryOf (house_of disk clock room) (spelled_all room.desk.host.history)
         (spelled_all after.desk.host.history) (spelled_all after.desk.doubt) room.desk.faults after.desk.faults
         (calls_of_gates runs)
     -- so many links were served, and the history is so much longer
     pub served_is : served ≡ links_of_gates runs
     pub accepted_is : accepted ≡ length history.later
     pub failed_is : failed ≡ some_failed runs
-    pub fixed : fixed_of disk clock after ≡ fixed_of disk clock room
+    -- the room that came back was opened on this very disk, with as many entries recovered: so by the type of its desk
+    -- each crash since the opening, while workers ran too, left a beginning of its history
+    pub same : SameStart disk clock room after
 
 -- what stays with a pass while others are split from it and joined to it
 pub record SameLock (old new : View) : Type 0 where

@@ -14,7 +14,8 @@ use Rattle.tb_message.specs.Spelling.{IsNumbered}
 use Rattle.tb_history.specs.Legal.{IsLegal}
 use Rattle.tb_report.specs.Readings.{IsPrintable}
 use Rattle.tb_gates.specs.Clocks.{ClockState, ReadsClock}
-use Rattle.tb_desk.specs.Turn.{Held}
+use Rattle.tb_desk.specs.Turn.{Held, IsOneOf}
+use Rattle.tb_desk.specs.Stands.{CrashesLeave}
 use Rattle.tb_desk.specs.Desks.{held}
 use Rattle.tb_session.specs.declared.answer.Answer.{Answer}
 use Rattle.tb_session.specs.declared.answer.Answer.TheVariants as answer
@@ -101,10 +102,11 @@ abbrev pub told_of : Turn → List (List ℕ × ℕ)
 told_of turn = (code_of turn.called, turn.before) ∷ []
 
 module _ {D C : Type 0} (disk : D → DiskState) (clock : C → ClockState) where
-  -- what stays in every call: the operator, and the disk as the opening left it
+  -- what stays in every call: the operator, the disk as the opening left it, and how many entries were recovered
   pub record SameHouse (old new : Room D C) : Type 0 where
     pub operator : new.operator ≡ old.operator
     pub opened : new.desk.opened ≡ old.desk.opened
+    pub recovered : new.desk.recovered ≡ old.desk.recovered
 
   -- the room made this call, and answered so
   pub record Calls (old new : Room D C) (c : Called) (said : Answer) : Type 0 where
@@ -112,3 +114,5 @@ module _ {D C : Type 0} (disk : D → DiskState) (clock : C → ClockState) wher
     pub reads : Reads c.moment (clock old.clock) (clock new.clock)
     pub same : SameHouse old new
     pub printable : CanBeTold said
+    -- each crash during the call left the history before it or after it, with or without the group in doubt then
+    pub crash : CrashesLeave (IsOneOf (held old.desk) (held new.desk)) (disk old.desk.disk) (disk new.desk.disk)

@@ -6,6 +6,8 @@ ghost use Rattle.tb_message.specs.declared.message.Entry.{Entry};
 ghost use Rattle.tb_message.specs.Spelling.{IsNumbered};
 ghost use Rattle.tb_history.specs.Legal.{IsLegal, running};
 ghost use Rattle.tb_desk.specs.Desks.{held};
+ghost use Rattle.tb_desk.specs.Stands.{CrashesLeave};
+ghost use Rattle.tb_desk.specs.Turn.{IsOneOf};
 ghost use Rattle.tb_session.specs.declared.called.Called.{Called};
 ghost use Rattle.tb_session.specs.declared.called.Ask.TheVariants as ask;
 ghost use Rattle.tb_session.specs.Calls.{TellsUnknown, caller_on, fault_for};
@@ -95,6 +97,9 @@ impl<D: Disk, C: Clock> Room<D, C> {
     fn know_desk(&self)
         ensures legal { IsLegal self.now.desk.host.history }
         ensures limited { self.now.desk.faults ≤ last_count }
+        // Where nothing happens a crash leaves the history, or it and what is in doubt.
+        ensures still { CrashesLeave (IsOneOf (held self.now.desk) (held self.now.desk)) (D.disk self.now.desk.disk)
+            (D.disk self.now.desk.disk) }
     {
         let _entries = self.desk.entries();
         let faults = self.desk.faults();
@@ -128,6 +133,9 @@ impl<D: Disk, C: Clock> Room<D, C> {
             called result.1 }
         ensures same { (self.new.operator ≡ self.old.operator) × (self.new.desk.opened ≡ self.old.desk.opened)
             × (self.new.clock ≡ self.old.clock) }
+        ensures recovered { self.new.desk.recovered ≡ self.old.desk.recovered }
+        ensures crash { CrashesLeave (IsOneOf (held self.old.desk) (held self.new.desk)) (D.disk self.old.desk.disk)
+            (D.disk self.new.desk.disk) }
         ensures printable { CanBeTold result.1 }
         ensures unknown { TellsUnknown (caller_on self.old.operator self.old.desk.host.history key.now) result.1 }
     {
@@ -179,6 +187,8 @@ impl<D: Disk, C: Clock> Room<D, C> {
         ensures does { let called = query_call key.now query.now result.0 in
             Does self.now.operator (held self.now.desk) (held self.now.desk) self.now.desk.faults self.now.desk.faults
             called result.1 }
+        ensures crash { CrashesLeave (IsOneOf (held self.now.desk) (held self.now.desk)) (D.disk self.now.desk.disk)
+            (D.disk self.now.desk.disk) }
         ensures printable { CanBeTold result.1 }
         ensures unknown { TellsUnknown (caller_on self.now.operator self.now.desk.host.history key.now) result.1 }
     {

@@ -1,22 +1,38 @@
 //! Laws of sessions and of the numbers that stand for calls and histories under the lock. Each is the contract of a
 //! function that does nothing.
-ghost use Rattle.std.specs.Prelude.{◌≡◌, ℕ, ◌++◌, List, [], All};
+ghost use Rattle.std.specs.Prelude.{◌≡◌, ℕ, ◌++◌, List, [], Option, All};
+ghost use Rattle.tb_disk.specs.Past.{Past};
 ghost use Rattle.tb_message.specs.declared.message.Entry.{Entry};
 ghost use Rattle.tb_message.specs.Spelling.{IsInRange};
+ghost use Rattle.tb_desk.specs.Stands.{CrashesLeave, LeavesEither};
+ghost use Rattle.tb_lock.specs.declared.view.View.{View};
+ghost use Rattle.tb_lock.specs.Turns.{IsTaken};
+ghost use Rattle.tb_session.specs.declared.answer.Answer.{Answer};
 ghost use Rattle.tb_session.specs.declared.called.Called.{Called};
+ghost use Rattle.tb_session.specs.declared.room.Room.{Room};
 ghost use Rattle.tb_gates.specs.Links.{LinkState};
 ghost use Rattle.tb_wire.specs.Cuts.{Cuts, HoldsNone};
 ghost use Rattle.tb_session.specs.Codes.{HasRange, code_of, spelled_all};
+ghost use Rattle.tb_session.specs.Openings.{opening_code};
+ghost use Rattle.tb_session.specs.Rooms.{room_means};
+ghost use Rattle.tb_session.specs.Crashes.{HasSeen, LeavesSeen};
+ghost use Rattle.tb_session.specs.Turned.{Calls};
 ghost use Rattle.tb_session.specs.Session.{IsSession, Session, requests_in};
 
+use tb_disk::Disk;
+use tb_gates::Clock;
+
 /// No two calls have one code, and no two histories one list of records, where their entries are in range, as those of
-/// a legal history are. It does nothing.
+/// a legal history are. No two openings of a disk have one code, whatever happened to it. It does nothing.
 pub fn one_code()
     ensures calls { (one other : Called) → HasRange one.outcome → HasRange other.outcome → code_of one ≡ code_of other
         → one ≡ other }
     ensures histories { (one other : List Entry) → All IsInRange one → All IsInRange other
         → spelled_all one ≡ spelled_all other
         → one ≡ other }
+    ensures openings { (recovered recovered' : ℕ) (one other : Option Past)
+        → opening_code recovered one ≡ opening_code recovered' other
+        → (recovered ≡ recovered') × (one ≡ other) }
 {}
 
 /// The requests that a link served are cut from the bytes read, one after the other; and where it ended without a last
@@ -27,4 +43,17 @@ pub fn all_served()
         → Cuts (requests_in (session.exchanges ++ session.last)) (waiting ++ session.read) session.rest }
     ensures left { (fixed : List ℕ) (turns : ℕ) (waiting : List ℕ) (old new : LinkState) (session : Session)
         → IsSession fixed turns waiting old new session → session.last ≡ [] → HoldsNone session.rest }
+{}
+
+/// A crash at the take of a turn leaves a history that begins with what the pass had seen, and so does each crash while
+/// a call is made in that turn. It does nothing.
+pub fn crashes_keep_what_was_seen<D: Disk, C: Clock>()
+    // By what `take` tells of the room, and what `Desk::entries` tells of each desk.
+    ensures take { (before after : View) (room : Room D C) → IsTaken (room_means D.disk C.clock) before after room
+        → LeavesEither (D.disk room.desk.disk) room.desk.host.history room.desk.doubt
+        → LeavesSeen before.seen (D.disk room.desk.disk) }
+    ensures turn { (before after : View) (old new : Room D C) (called : Called) (said : Answer)
+        → IsTaken (room_means D.disk C.clock) before after old
+        → Calls D.disk C.clock old new called said
+        → CrashesLeave (HasSeen before.seen) (D.disk old.desk.disk) (D.disk new.desk.disk) }
 {}

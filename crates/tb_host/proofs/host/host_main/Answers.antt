@@ -192,16 +192,20 @@ pub returns-clause-serve_one_history : goal.returns-clause-serve_one_history
 returns-clause-serve_one_history g c = λ status asked are.
     served-part g.D.Disk.disk g.C.Clock.clock g.G.Gate.gate g.G.Conn.Source.source g.G.Conn.Sink.sink asked.operator
     (g.C.Clock.clock c.args.clock) c.any_command-ending.result.0 _ _ _
-    (λ first last runs serves. (serves.grown.0, serves.one)) (c.any_command-ending.ensures.serve asked are)
+    (λ first last runs serves. (serves.keeps.grown.0, serves.one)) (c.any_command-ending.ensures.serve asked are)
     (Served-were c.any_command-ending.result.0 (subst Served c.status.ensures status))
 
 pub returns-clause-serve_keeps : goal.returns-clause-serve_keeps
 returns-clause-serve_keeps g c = λ status asked are.
     served-part g.D.Disk.disk g.C.Clock.clock g.G.Gate.gate g.G.Conn.Source.source g.G.Conn.Sink.sink asked.operator
     (g.C.Clock.clock c.args.clock) c.any_command-ending.result.0 _ _ _
-    (λ first last runs serves. KeepsAcknowledged-here
-    (fixed_at asked.operator (g.D.Disk.disk c.args.disk) (g.C.Clock.clock c.args.clock)) first last serves.grown.0
-    (g.D.Disk.disk c.any_command-ending.result.1) (calls_of_gates runs) serves.one serves.stays) (c.any_command-ending.ensures.serve asked are)
+    (λ first last runs serves. (
+      KeepsAcknowledged-here
+          (fixed_at asked.operator (g.D.Disk.disk c.args.disk) (g.C.Clock.clock c.args.clock)) first last
+          serves.keeps.grown.0 (g.D.Disk.disk c.any_command-ending.result.1) (calls_of_gates runs) serves.one
+          serves.keeps.stays,
+      serves.keeps.since,
+    )) (c.any_command-ending.ensures.serve asked are)
     (Served-were c.any_command-ending.result.0 (subst Served c.status.ensures status))
 
 pub returns-clause-serve_by_the_rule : goal.returns-clause-serve_by_the_rule
@@ -209,7 +213,7 @@ returns-clause-serve_by_the_rule g c = λ status asked are.
     served-part g.D.Disk.disk g.C.Clock.clock g.G.Gate.gate g.G.Conn.Source.source g.G.Conn.Sink.sink asked.operator
     (g.C.Clock.clock c.args.clock) c.any_command-ending.result.0 _ _ _
     (λ first last runs serves. TellsByTheRule-here
-    (fixed_at asked.operator (g.D.Disk.disk c.args.disk) (g.C.Clock.clock c.args.clock)) first last serves.grown.0
+    (fixed_at asked.operator (g.D.Disk.disk c.args.disk) (g.C.Clock.clock c.args.clock)) first last serves.keeps.grown.0
     (calls_of_gates runs) serves.one) (c.any_command-ending.ensures.serve asked are)
     (Served-were c.any_command-ending.result.0 (subst Served c.status.ensures status))
 
@@ -218,7 +222,7 @@ returns-clause-serve_sealed g c = λ status asked are.
     served-part g.D.Disk.disk g.C.Clock.clock g.G.Gate.gate g.G.Conn.Source.source g.G.Conn.Sink.sink asked.operator
     (g.C.Clock.clock c.args.clock) c.any_command-ending.result.0 _ _ _
     (λ first last runs serves. AreSealed-here
-    (fixed_at asked.operator (g.D.Disk.disk c.args.disk) (g.C.Clock.clock c.args.clock)) first last serves.grown.0
+    (fixed_at asked.operator (g.D.Disk.disk c.args.disk) (g.C.Clock.clock c.args.clock)) first last serves.keeps.grown.0
     (calls_of_gates runs) serves.one) (c.any_command-ending.ensures.serve asked are)
     (Served-were c.any_command-ending.result.0 (subst Served c.status.ensures status))
 
@@ -227,7 +231,7 @@ returns-clause-serve_holdings g c = λ status asked are.
     served-part g.D.Disk.disk g.C.Clock.clock g.G.Gate.gate g.G.Conn.Source.source g.G.Conn.Sink.sink asked.operator
     (g.C.Clock.clock c.args.clock) c.any_command-ending.result.0 _ _ _
     (λ first last runs serves. HoldingsAddUp-here
-    (fixed_at asked.operator (g.D.Disk.disk c.args.disk) (g.C.Clock.clock c.args.clock)) first last serves.grown.0
+    (fixed_at asked.operator (g.D.Disk.disk c.args.disk) (g.C.Clock.clock c.args.clock)) first last serves.keeps.grown.0
     (calls_of_gates runs) serves.one) (c.any_command-ending.ensures.serve asked are)
     (Served-were c.any_command-ending.result.0 (subst Served c.status.ensures status))
 

@@ -13,6 +13,7 @@ returns-in-Ok g c =
             exact = begun.exact;
             harmless = begun.crash;
             legal = c.entries-entries.ensures.legal;
+            recovered = begun.made.1;
             sure = begun.made.0;
             unmet = begun.made.2;
             no_fault = begun.no_fault;

@@ -1,5 +1,5 @@
 -- A message, by what the desk answers.
-use Rattle.std.proofs.Common.{◌≡◌, sym, ◌∙◌, subst, Some, arith}
+use Rattle.std.proofs.Common.{◌≡◌, sym, ◌∙◌, ap, subst, Some, arith}
 use Rattle.tb_desk.specs.Desks.{CountsFault, held, replies_of}
 use Rattle.tb_desk.specs.Turn.{Turns}
 use Rattle.tb_session.specs.declared.answer.Answer.TheVariants as answer
@@ -7,6 +7,7 @@ use Rattle.tb_session.specs.declared.called.Outcome.TheVariants as outcome
 use Rattle.tb_session.specs.Calls.{caller_on}
 use Rattle.tb_session.specs.Turned.{Does, message_call, outcome_by}
 use Rattle.tb_session.proofs.CallerLemmas.{none-of}
+use Rattle.tb_session.proofs.CrashLemmas.{crash-from, crash-room}
 use Rattle.tb_session.proofs.DoesLemmas.{one_asked, does-unknown, does-lack, does-verdict, does-doubted, does-from, tells-known, tells-unknown, verdict-knows}
 use Rattle.tb_session.proofs.room.Room.submit_at.Goals as goal
 
@@ -101,3 +102,29 @@ returns-in-Verdict-clause-unknown g c =
 pub returns-in-DiskFault-clause-unknown : goal.returns-in-DiskFault-clause-unknown
 returns-in-DiskFault-clause-unknown g c =
     tells-known _ c.in-Some.caller answer.DiskFault (sym c.caller.ensures ∙ c.in-Some.is) (λ is. cc)
+
+pub returns-then-is_err-clause-crash : goal.returns-then-is_err-clause-crash
+returns-then-is_err-clause-crash g c =
+    let room = c.args.self.now in
+    let mid = c.make_room.new.self in
+    crash-room (held room.desk) (held mid) (g.D.Disk.disk room.desk.disk) (g.D.Disk.disk mid.disk)
+    c.make_room.ensures.history c.make_room.ensures.same.doubt (ap g.D.Disk.disk c.make_room.ensures.same.disk)
+    c.know_desk.ensures.still
+
+pub returns-in-Verdict-clause-crash : goal.returns-in-Verdict-clause-crash
+returns-in-Verdict-clause-crash g c =
+    let room = c.args.self.now in
+    let mid = c.make_room.new.self in
+    let new = c.submit-reply.new.self in
+    crash-from (held room.desk) (held mid) (held new) (g.D.Disk.disk room.desk.disk) (g.D.Disk.disk mid.disk)
+    (g.D.Disk.disk new.disk) c.make_room.ensures.history c.make_room.ensures.same.doubt
+    (ap g.D.Disk.disk c.make_room.ensures.same.disk) c.submit-reply.ensures.crash
+
+pub returns-in-DiskFault-clause-crash : goal.returns-in-DiskFault-clause-crash
+returns-in-DiskFault-clause-crash g c =
+    let room = c.args.self.now in
+    let mid = c.make_room.new.self in
+    let new = c.submit-reply.new.self in
+    crash-from (held room.desk) (held mid) (held new) (g.D.Disk.disk room.desk.disk) (g.D.Disk.disk mid.disk)
+    (g.D.Disk.disk new.disk) c.make_room.ensures.history c.make_room.ensures.same.doubt
+    (ap g.D.Disk.disk c.make_room.ensures.same.disk) c.submit-reply.ensures.crash

@@ -10,4 +10,4 @@ returns-clause-calls g c =
     subst₂ (λ called said. Calls g.D.Disk.disk g.C.Clock.clock room room called said) (sym c.turn.ensures.call.0)
     (sym (c.turn.ensures.call.1 ∙ c.explain-answer.ensures))
     (calls-fault g.D.Disk.disk g.C.Clock.clock room c.args.key.now c.args.asked c.args.why
-    c.know_desk.ensures.legal c.requires.fault)
+    c.know_desk.ensures.legal c.requires.fault c.know_desk.ensures.still)
