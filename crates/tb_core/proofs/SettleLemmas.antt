@@ -19,9 +19,8 @@ use Rattle.tb_history.specs.Entries.{is_same}
 use Rattle.tb_history.specs.Roster.{announcement_of, announcements, enrolments}
 use Rattle.tb_history.specs.LiveBids.{bids, cancels, is_live, is_report_of, last_position, live_bids_in, position_of, reports}
 use Rattle.tb_history.specs.Holdings.{bidding_in}
-use Rattle.tb_history.specs.Readings.{AreDistinct, positions_of}
+use Rattle.tb_history.specs.Readings.{positions_of}
 use Rattle.tb_history.proofs.PartLemmas.{AllByRecursion-from, filter-filter}
-use Rattle.tb_history.proofs.CloseLemmas.{IsLegal-distinct}
 use Rattle.tb_results.specs.Biddings.{IsBookOf, book_line_of}
 use Rattle.tb_results.proofs.LegalLemmas.{IsLegal-sound}
 use Rattle.tb_core.specs.declared.tables.Tables.{Tables}
@@ -34,10 +33,6 @@ use Rattle.tb_history.specs.Awarded.{Bidding}
 use Rattle.tb_units.proofs.PlaceLemmas.{find_passes}
 use Rattle.tb_history.proofs.SameLemmas.{is_same-equal}
 use Rattle.tb_core.proofs.SumLemmas.{book-announced, book-booked}
-
--- no bidder is enrolled twice
-pub distinct-bidders : (h : List Entry) (tables : Tables) → AreTied h tables → AreDistinct tables.bidders.list
-distinct-bidders h tables tied = subst AreDistinct (sym tied.bidders_are) (IsLegal-distinct h tied.legal)
 
 -- a position in an auction is that by the reports in the auction
 position_of-own : (reported : List Report) (auction bidder : List ℕ)

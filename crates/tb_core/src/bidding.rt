@@ -1,21 +1,25 @@
 //! Bids, cancels and reports.
-ghost use Rattle.std.specs.Prelude.{◌≡◌, length, min};
+ghost use Rattle.std.specs.Prelude.{◌≡◌, ◌&&◌, length, min, IfOk};
+ghost use Rattle.std.specs.List.{filter};
+ghost use Rattle.tb_history.specs.declared.bids.Bid.{Bid};
+ghost use Rattle.tb_history.specs.Entries.{is_same};
 ghost use Rattle.tb_history.specs.LiveBids.{bid_of, bids_of};
 ghost use Rattle.tb_history.specs.LiveBids as standing;
 
-use crate::keys::{ByBidder, ByNumber};
+use crate::keys::{ByBidder, ByNumber, BySender};
+use std::alloc::Global;
 use tb_history::{Bid, Cancel, Report};
-use tb_index::{Counted, Keyed};
-use tb_units::Ident;
+use tb_index::{Chained, Keyed, Latest};
+use tb_units::{Ident, OutOfMemory};
 
 /// Accepted bids, in the order of acceptance.
-pub type Bids = Counted<Bid, ByNumber, ByBidder>;
+pub type Bids = Chained<Bid, ByNumber, ByBidder, BySender>;
 
 /// Accepted cancels of bids.
 pub type Cancels = Keyed<Cancel, ByNumber>;
 
 /// Accepted reports of positions.
-pub type Reports = Keyed<Report, ByBidder>;
+pub type Reports = Latest<Report, ByBidder>;
 
 // Accepted bids of a bidder in an auction.
 const MOST_BIDS: usize = 1000;
@@ -25,6 +29,20 @@ pub fn find_bid(bids: &Bids, submitter: &Ident, auction: &Ident, number: u64) ->
     ensures { result ≡ bid_of bids.now.list submitter.now auction.now number }
 {
     bids.keyed().get(&(*submitter, *auction, number)).copied()
+}
+
+/// The submitter's accepted bids in the auction, in the order of acceptance.
+pub fn bids_from(
+    alloc: Global,
+    bids: &Bids,
+    submitter: &Ident,
+    auction: &Ident,
+) -> Result<Vec<Bid>, OutOfMemory>
+    ensures { IfOk result
+        (λ own. own.items ≡ filter
+        (λ (bid : Bid). is_same bid.submitter submitter.now && is_same bid.auction auction.now) bids.now.list) }
+{
+    bids.rows_in(alloc, &(*submitter, *auction))
 }
 
 /// Whether a cancel of the submitter's bid stands.
@@ -57,4 +75,14 @@ pub fn has_report(reports: &Reports, auction: &Ident, bidder: &Ident) -> bool
     ensures { result ≡ standing.has_report reports.now.list auction.now bidder.now }
 {
     reports.has(&(*auction, *bidder))
+}
+
+/// The bidder's reported position in the auction, in whole dollars: that of its last report, and 0 where there is none.
+pub fn position_of(reports: &Reports, auction: &Ident, bidder: &Ident) -> i64
+    ensures { result ≡ standing.position_of reports.now.list auction.now bidder.now }
+{
+    match reports.last(&(*auction, *bidder)) {
+        Some(report) => report.position,
+        None => 0,
+    }
 }

@@ -20,6 +20,9 @@ pub struct BySubmitter;
 /// By an auction and a bidder in it.
 pub struct ByBidder;
 
+/// By the submitter and the auction of a bid.
+pub struct BySender;
+
 /// By the CUSIP.
 pub struct ByBill;
 
@@ -143,6 +146,16 @@ impl KeyOf<Bid> for ByBidder {
 
     fn key_of(bid: &Bid) -> (Ident, Ident) {
         (bid.auction, bid.bidder)
+    }
+}
+
+impl KeyOf<Bid> for BySender {
+    type Key = (Ident, Ident);
+
+    ghost key_of = { λ bid. (bid.submitter, bid.auction) };
+
+    fn key_of(bid: &Bid) -> (Ident, Ident) {
+        (bid.submitter, bid.auction)
     }
 }
 

@@ -1,6 +1,5 @@
 //! The reported positions of an auction's bidders, for a reading.
-ghost use Rattle.std.specs.Prelude.{◌≡◌, ◌<◌, ◌^◌, length, IfOk};
-ghost use Rattle.tb_history.specs.Readings.{AreDistinct};
+ghost use Rattle.std.specs.Prelude.{◌≡◌, IfOk};
 ghost use Rattle.tb_core.specs.Settling.{positions_by};
 
 use crate::bidding::Reports;
@@ -17,8 +16,6 @@ pub fn positions_in(
     reports: &Reports,
     auction: &Ident,
 ) -> Result<Vec<i64>, OutOfMemory>
-    requires few { length bidders.now.list < 2 ^ 32 }
-    requires distinct { AreDistinct bidders.now.list }
     ensures { IfOk result (λ positions. positions.items ≡ positions_by reports.now.list auction.now bidders.now.list) }
 {
     let mut positions = Vec::new(alloc);

@@ -1,13 +1,11 @@
 //! What queries are told, by the tables.
-ghost use Rattle.std.specs.Prelude.{◌≡◌, ◌&&◌, List, IfOk};
+ghost use Rattle.std.specs.Prelude.{◌≡◌, List, map, IfOk};
 ghost use Rattle.tb_message.specs.declared.message.Entry.{Entry};
-ghost use Rattle.tb_history.specs.Entries.{is_same};
 ghost use Rattle.tb_history.specs.Holdings.{bidding_in};
 ghost use Rattle.tb_history.specs.Readings.{AreAwards, AreResults, bid_line, bid_lines};
 ghost use Rattle.tb_core.specs.Bidden.{IsAuctionOf};
 
-use crate::bidding::{Bids, Cancels, is_live};
-use crate::names::is_same;
+use crate::bidding::{Bids, Cancels, bids_from, is_live};
 use crate::positions::positions_in;
 use crate::tables::Tables;
 use std::alloc::Global;
@@ -29,10 +27,15 @@ fn line_of(bid: &Bid, cancels: &Cancels) -> BidLine
     }
 }
 
-fn is_asked(bid: &Bid, submitter: &Ident, auction: &Ident) -> bool
-    ensures { result ≡ (is_same bid.now.submitter submitter.now && is_same bid.now.auction auction.now) }
+// The lines of bids.
+fn lines_of(alloc: Global, bids: &[Bid], cancels: &Cancels) -> Result<tb_history::Bids, OutOfMemory>
+    ensures { IfOk result (λ lines. lines ≡ map (bid_line cancels.now.list) bids.now) }
 {
-    is_same(&bid.submitter, submitter) && is_same(&bid.auction, auction)
+    let mut lines = Listing::new(alloc);
+    for bid in bids {
+        lines.push(line_of(bid, cancels))?;
+    }
+    Ok(lines)
 }
 
 /// The submitter's bids in the auction, in the order of acceptance.
@@ -45,13 +48,8 @@ pub fn bid_lines(
 ) -> Result<tb_history::Bids, OutOfMemory>
     ensures { IfOk result (λ lines. lines ≡ bid_lines bids.now.list cancels.now.list submitter.now auction.now) }
 {
-    let mut lines = Listing::new(alloc);
-    for bid in bids.rows() {
-        if is_asked(bid, submitter, auction) {
-            lines.push(line_of(bid, cancels))?;
-        }
-    }
-    Ok(lines)
+    let own = bids_from(alloc, bids, submitter, auction)?;
+    lines_of(alloc, &own, cancels)
 }
 
 /// The results of the auction of these terms, by the book of its live bids.

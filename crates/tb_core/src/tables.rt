@@ -29,7 +29,7 @@ use crate::settling::cut_auction;
 use crate::shelving::enter_line;
 use std::alloc::Global;
 use tb_holdings::Accounts;
-use tb_index::{Counted, Keyed, TwiceKeyed};
+use tb_index::{Chained, Keyed, Latest, TwiceKeyed};
 use tb_message::{Entry, Message};
 use tb_movements::empty_book;
 use tb_shelf::Shelf;
@@ -75,9 +75,9 @@ impl Tables {
             holidays: Keyed::new(alloc),
             calendar: Calendar::new(alloc),
             auctions: TwiceKeyed::new(alloc),
-            bids: Counted::new(alloc),
+            bids: Chained::new(alloc),
             cancels: Keyed::new(alloc),
-            reports: Keyed::new(alloc),
+            reports: Latest::new(alloc),
             published: Keyed::new(alloc),
             settled: Keyed::new(alloc),
             redeemed: Keyed::new(alloc),

@@ -1,8 +1,9 @@
 //! Tests of the public calls: look-ups beside walks over the rows.
 use super::*;
+use std::alloc::Global;
 use std::process::Abort;
 use std::test::Fail;
-use tb_units::Ident;
+use tb_units::{Ident, OutOfMemory};
 
 // A bid is found by its bidder and number, and counted by its auction.
 #[derive(Clone, Copy, Debug, PartialEq, Eq)]
@@ -27,6 +28,18 @@ impl KeyOf<Bid> for ByNumber {
 struct OfAuction;
 
 impl KeyOf<Bid> for OfAuction {
+    type Key = Ident;
+
+    ghost key_of = { λ bid. bid.auction };
+
+    fn key_of(bid: &Bid) -> Ident {
+        bid.auction
+    }
+}
+
+struct InAuction;
+
+impl KeyOf<Bid> for InAuction {
     type Key = Ident;
 
     ghost key_of = { λ bid. bid.auction };
@@ -150,5 +163,90 @@ fn pages_are_found_by_either_key_as_a_walk_finds_them(rt: HostRuntime) -> Result
         expect_same(&rt, &pages);
     }
     assert_eq!(rt; pages.rows().len(), 0);
+    Ok(())
+}
+
+#[test]
+fn the_last_bid_of_an_auction_is_found(rt: HostRuntime) -> Result<(), Fail> {
+    let mut bids: Latest<Bid, InAuction> = Latest::new(rt.alloc());
+    for (bidder, number, auction) in [
+        ("ann", 7, "bill13"),
+        ("bob", 7, "bill26"),
+        ("eve", 1, "bill13"),
+    ] {
+        bids.reserve(1)?;
+        assert!(rt; 0 < bids.spare());
+        bids.push(bid_of(&rt, bidder, number, auction));
+    }
+    assert_eq!(rt;
+        bids.last(&name(&rt, "bill13")).copied(),
+        Some(bid_of(&rt, "eve", 1, "bill13"))
+    );
+    assert_eq!(rt;
+        bids.last(&name(&rt, "bill26")).copied(),
+        Some(bid_of(&rt, "bob", 7, "bill26"))
+    );
+    assert_eq!(rt; bids.last(&name(&rt, "bill52")), None);
+    assert!(rt; bids.has(&name(&rt, "bill26")));
+    assert!(rt; !bids.has(&name(&rt, "bill52")));
+    assert_eq!(rt; bids.rows().len(), 3);
+    Ok(())
+}
+
+type Chain = Chained<Bid, ByNumber, OfAuction, InAuction>;
+
+// The numbers of the bids in the auction.
+fn numbers_in(alloc: Global, bids: &Chain, auction: Ident) -> Result<Vec<u64>, OutOfMemory> {
+    let mut numbers = Vec::new(alloc);
+    for bid in bids.rows_in(alloc, &auction)?.iter() {
+        numbers.push(bid.number)?;
+    }
+    Ok(numbers)
+}
+
+#[test]
+fn an_auction_is_gone_through_bid_by_bid(rt: HostRuntime) -> Result<(), Fail> {
+    let mut bids: Chain = Chained::new(rt.alloc());
+    for (bidder, number, auction) in [
+        ("ann", 1, "bill13"),
+        ("bob", 2, "bill26"),
+        ("ann", 3, "bill13"),
+        ("eve", 4, "bill13"),
+        ("eve", 5, "bill26"),
+    ] {
+        bids.reserve(1)?;
+        assert!(rt; 0 < bids.spare());
+        bids.push(bid_of(&rt, bidder, number, auction));
+    }
+    assert_eq!(rt;
+        numbers_in(rt.alloc(), &bids, name(&rt, "bill13"))?.as_slice(),
+        [1, 3, 4].as_slice()
+    );
+    assert_eq!(rt;
+        numbers_in(rt.alloc(), &bids, name(&rt, "bill26"))?.as_slice(),
+        [2, 5].as_slice()
+    );
+    assert!(rt; numbers_in(rt.alloc(), &bids, name(&rt, "bill52"))?.is_empty());
+    assert_eq!(rt; bids.keyed().find(&(name(&rt, "ann"), 3)), Some(2));
+    assert_eq!(rt; bids.count(&name(&rt, "bill13")), 3);
+    // The two last ones go, and another comes.
+    assert!(rt; bids.pop().is_some());
+    assert!(rt; bids.pop().is_some());
+    assert_eq!(rt;
+        numbers_in(rt.alloc(), &bids, name(&rt, "bill13"))?.as_slice(),
+        [1, 3].as_slice()
+    );
+    bids.reserve(1)?;
+    bids.push(bid_of(&rt, "bob", 6, "bill26"));
+    assert_eq!(rt;
+        numbers_in(rt.alloc(), &bids, name(&rt, "bill26"))?.as_slice(),
+        [2, 6].as_slice()
+    );
+    assert_eq!(rt; bids.rows().len(), 4);
+    for _ in 0..4 {
+        assert!(rt; bids.pop().is_some());
+    }
+    assert_eq!(rt; bids.pop(), None);
+    assert!(rt; numbers_in(rt.alloc(), &bids, name(&rt, "bill13"))?.is_empty());
     Ok(())
 }

@@ -7,14 +7,7 @@ use Rattle.tb_history.specs.Readings.{AreAwardLines}
 use Rattle.tb_results.specs.Outcomes.{bidders_among}
 use Rattle.tb_core.proofs.BiddenLemmas.{AreAwards-tied, IsAuctionOf-book}
 use Rattle.tb_core.proofs.HouseLemmas.{few-bidders}
-use Rattle.tb_core.proofs.SettleLemmas.{distinct-bidders}
 use Rattle.tb_core.proofs.reading.awards_reading.Goals as goal
-
-pub positions_in-requires : goal.positions_in-requires
-positions_in-requires c = record {
-  few = few-bidders c.requires.0 c.args.tables.now c.requires.1.tied;
-  distinct = distinct-bidders c.requires.0 c.args.tables.now c.requires.1.tied;
-}
 
 pub awards-requires : goal.awards-requires
 awards-requires c = record {

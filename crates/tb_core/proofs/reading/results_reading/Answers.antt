@@ -3,15 +3,7 @@ use Rattle.std.proofs.Common.{◌∙◌}
 use Rattle.std.proofs.lemmas.Result.{IfOk-weaker}
 use Rattle.tb_history.specs.Holdings.{bidding_in}
 use Rattle.tb_core.proofs.BiddenLemmas.{IsAuctionOf-book}
-use Rattle.tb_core.proofs.HouseLemmas.{few-bidders}
-use Rattle.tb_core.proofs.SettleLemmas.{distinct-bidders}
 use Rattle.tb_core.proofs.reading.results_reading.Goals as goal
-
-pub positions_in-requires : goal.positions_in-requires
-positions_in-requires c = record {
-  few = few-bidders c.requires.0 c.args.tables.now c.requires.1.tied;
-  distinct = distinct-bidders c.requires.0 c.args.tables.now c.requires.1.tied;
-}
 
 pub results-requires : goal.results-requires
 results-requires c = (

@@ -5,14 +5,8 @@ use Rattle.tb_history.specs.declared.roster.Enrolment.{Enrolment}
 use Rattle.tb_core.specs.Accounting.{TellsNext}
 use Rattle.tb_core.specs.Crediting.{bidding_on, credits_for, settled_in}
 use Rattle.tb_core.proofs.HouseLemmas.{few-bidders}
-use Rattle.tb_core.proofs.SettleLemmas.{book-on, book-there, distinct-bidders, lines-few}
+use Rattle.tb_core.proofs.SettleLemmas.{book-on, book-there, lines-few}
 use Rattle.tb_core.proofs.tables.Tables.settle_by.Goals as goal
-
-pub cut_auction-outcome-requires-clause-few : goal.cut_auction-outcome-requires-clause-few
-cut_auction-outcome-requires-clause-few c = few-bidders c.requires.tied.0 c.args.self.now c.requires.tied.1
-
-pub cut_auction-outcome-requires-clause-distinct : goal.cut_auction-outcome-requires-clause-distinct
-cut_auction-outcome-requires-clause-distinct c = distinct-bidders c.requires.tied.0 c.args.self.now c.requires.tied.1
 
 pub cut_auction-outcome-requires-clause-bidding : goal.cut_auction-outcome-requires-clause-bidding
 cut_auction-outcome-requires-clause-bidding c = (
