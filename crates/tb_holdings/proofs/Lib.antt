@@ -5,3 +5,4 @@ pub mod HolderLemmas
 pub mod MarkLemmas
 pub mod LeftLemmas
 pub mod KeptLemmas
+pub mod RunLemmas

@@ -123,18 +123,6 @@ pub fn move_held(accounts: &mut Vec<Account>, from: u32, to: u32, security: u32,
     set_held(accounts, to, security, receiver + par);
 }
 
-/// What the holder was paid of the security. The accounts stand in the order in which they were paid.
-pub fn paid_to(accounts: &[Account], holder: u32, security: u32) -> u128
-    requires { held_in holder security accounts.now < 2 ^ 128 }
-    ensures { result ≡ held_in holder security accounts.now }
-{
-    accounts
-        .iter()
-        .filter(|account| account.is_account(holder, security))
-        .map(|account| account.held)
-        .sum()
-}
-
 /// Puts the accounts of the security behind those that were paid.
 pub fn pay_accounts(accounts: &[Account], security: u32, paid: &mut Vec<Account>)
     requires { length accounts.now + vec_len paid.old ≤ vec_capacity paid.old }

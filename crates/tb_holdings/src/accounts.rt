@@ -6,12 +6,11 @@ ghost use Rattle.tb_holdings.specs.Marks.{new_mark, left_at, with_mark, released
 ghost use Rattle.tb_holdings.specs.Book.{Book, held_of, pledged_of, free_of, paid_of, total_of, mark_of, open_marks_of, IsRedeemed, most_held, most_open, IsKept, SameLists, ChangesAccountsOnly, ChangesMarksOnly, KeepsOthers, TakesRoom};
 ghost use Rattle.tb_holdings.specs.Refusals.{IsPledgeCause, IsReleaseCause, MayRelease};
 
-use crate::account::{
-    Account, close_accounts, held_by, held_by_all, move_held, paid_to, pay_accounts, set_held,
-};
+use crate::account::{Account, close_accounts, held_by, held_by_all, move_held, set_held};
 use crate::mark::{KeptMark, Mark};
 use crate::marks::Marks;
 use crate::refusals::{InsufficientFree, PledgeRefused, ReleaseRefused};
+use crate::runs::{Run, paid_to, pay_off};
 use std::alloc::Global;
 use std::marker::Model;
 use tb_units::{Dollars, OutOfMemory};
@@ -25,11 +24,14 @@ pub struct Accounts {
     marks: Marks,
     redeemed: Vec<u32>,
     paid: Vec<Account>,
+    // Where the payments of each redeemed security stand, in order of security.
+    runs: Vec<Run>,
 }
 
 impl Model for Accounts {
     ghost use Rattle.std.specs.Prelude.{◌+◌, ◌-◌, ◌≤◌, min, vec_len, vec_capacity};
     ghost use Rattle.tb_holdings.specs.Book.{Book, AreKept};
+    ghost use Rattle.tb_holdings.specs.Runs.{AreRuns, AreRunsOf};
 
     ghost Value = { Book };
 
@@ -42,11 +44,13 @@ impl Model for Accounts {
       spare_accounts = min (vec_capacity a.accounts - vec_len a.accounts)
           (vec_capacity a.paid - (vec_len a.accounts + vec_len a.paid));
       spare_marks = a.marks.spare;
-      spare_redeems = vec_capacity a.redeemed - vec_len a.redeemed;
+      spare_redeems = min (vec_capacity a.redeemed - vec_len a.redeemed) (vec_capacity a.runs - vec_len a.runs);
     } };
 
     ghost invariant = { λ a. AreKept a.accounts.items a.marks.list a.redeemed.items a.paid.items
-        × (vec_len a.accounts + vec_len a.paid ≤ vec_capacity a.paid) };
+        × (vec_len a.accounts + vec_len a.paid ≤ vec_capacity a.paid)
+        × AreRuns a.paid.items a.runs.items
+        × AreRunsOf a.redeemed.items a.runs.items };
 }
 
 impl Accounts {
@@ -64,6 +68,7 @@ impl Accounts {
             marks: Marks::new(alloc),
             redeemed: Vec::new(alloc),
             paid: Vec::new(alloc),
+            runs: Vec::new(alloc),
         }
     }
 
@@ -79,6 +84,7 @@ impl Accounts {
         reserve_accounts(&mut self.accounts, &mut self.paid, accounts as usize)?;
         self.marks.reserve(marks as usize)?;
         self.redeemed.reserve(redeems as usize)?;
+        self.runs.reserve(redeems as usize)?;
         Ok(())
     }
 
@@ -221,7 +227,7 @@ impl Accounts {
         ensures laws { IsKept self.new }
     {
         let total = self.total(security);
-        pay_accounts(&self.accounts, security, &mut self.paid);
+        pay_off(&self.accounts, security, &mut self.paid, &mut self.runs);
         close_accounts(&mut self.accounts, security);
         self.marks.clear(security);
         self.redeemed.push_reserved(security);
@@ -294,7 +300,7 @@ impl Accounts {
         ensures laws { IsKept self.now }
     {
         Dollars {
-            value: paid_to(&self.paid, holder, security),
+            value: paid_to(&self.paid, &self.runs, holder, security),
         }
     }
 

@@ -7,6 +7,7 @@ mod accounts;
 mod mark;
 mod marks;
 mod refusals;
+mod runs;
 #[cfg(test)]
 mod tests;
 

@@ -18,6 +18,8 @@ invariant_of-self c =
           inside.accounts.items inside.marks.list inside.redeemed.items inside.paid.items c.self.invariant.0
           (record { live = live; fits = omega (arith, limit, held); enough = omega (arith, held, covered) })),
       omega (arith, room, c.set_held.ensures.one_more),
+      c.self.invariant.2,
+      c.self.invariant.3,
     )
 
 pub returns-clause-total : goal.returns-clause-total

@@ -4,14 +4,6 @@ use Rattle.tb_holdings.specs.Holdings.{held_in}
 use Rattle.tb_holdings.proofs.KeptLemmas.{paid-limit, paid-none}
 use Rattle.tb_holdings.proofs.accounts.Accounts.paid.Goals as goal
 
-pub paid_to-requires : goal.paid_to-requires
-paid_to-requires c =
-    omega (
-      arith,
-      ap (held_in c.args.holder c.args.security) c.deref.ensures.value,
-      paid-limit c.self.invariant.0 c.args.holder c.args.security,
-    )
-
 pub invariant_of-result : goal.invariant_of-result
 invariant_of-result c = record {
   in_range = omega (

@@ -18,6 +18,8 @@ invariant_of-self c =
             few = omega (arith, few, c.if-open_marks-ge-MOST_OPEN.false);
           })),
       c.self.invariant.1,
+      c.self.invariant.2,
+      c.self.invariant.3,
     )
 
 pub returns-clause-laws : goal.returns-clause-laws

@@ -5,15 +5,16 @@ use Rattle.tb_holdings.specs.Holdings.{is_of, held_in, total_in, without}
 use Rattle.tb_holdings.specs.Marks.{pledged_in, open_marks_in}
 use Rattle.tb_holdings.proofs.MarkLemmas.{pledged_in-cleared, pledged_in-cleared_other, open_marks_in-cleared}
 use Rattle.tb_holdings.proofs.KeptLemmas.{AreKept-redeemed, held_in-paid}
+use Rattle.tb_holdings.proofs.RunLemmas.{HaveNoRun-live}
 use Rattle.tb_holdings.proofs.HoldingLemmas.{held_in-without_other, held_in-append_of_other, total_in-without_other, total_in-without_same}
 use Rattle.tb_holdings.proofs.accounts.Accounts.redeem.Goals as goal
 
 -- the accounts that were paid
 paid_items : (c : goal.After-push_reserved)
-    → c.pay_accounts.new.paid.items
+    → c.pay_off.new.paid.items
     ≡ c.self.inside.paid.items ++ filter (is_of c.args.security) c.self.inside.accounts.items
 paid_items c =
-    c.pay_accounts.ensures.paid
+    c.pay_off.ensures.paid
     ∙ ap (λ xs. c.self.inside.paid.items ++ filter (is_of c.args.security) xs) c.deref.ensures.value
 
 -- an account leaves or stays
@@ -27,14 +28,14 @@ leave_or_stay c =
 
 -- each account that leaves is paid
 same_count : (c : goal.After-push_reserved)
-    → vec_len c.close_accounts.new.accounts + vec_len c.pay_accounts.new.paid
+    → vec_len c.close_accounts.new.accounts + vec_len c.pay_off.new.paid
     ≡ vec_len c.self.inside.accounts + vec_len c.self.inside.paid
 same_count c =
     let inside = c.self.inside in
     omega (
       arith,
       c.close_accounts.new.accounts.ok.0,
-      c.pay_accounts.new.paid.ok.0,
+      c.pay_off.new.paid.ok.0,
       inside.accounts.ok.0,
       inside.paid.ok.0,
       ap length c.close_accounts.ensures.accounts,
@@ -61,8 +62,17 @@ invariant_of-self c =
       rw (c.close_accounts.ensures.accounts, c.clear.ensures.list, c.push_reserved.ensures.items, paid_items c)
           (AreKept-redeemed c.args.security
           inside.accounts.items inside.marks.list inside.redeemed.items inside.paid.items c.self.invariant.0 live),
-      omega (arith, same_count c, c.pay_accounts.ensures.capacity, c.self.invariant.1),
+      omega (arith, same_count c, c.pay_off.ensures.capacity, c.self.invariant.1),
+      c.pay_off.ensures.runs,
+      rw c.push_reserved.ensures.items
+          (c.pay_off.ensures.runs_of inside.redeemed.items c.self.invariant.3),
     )
+
+-- the security has no run yet
+pub pay_off-requires-clause-new : goal.pay_off-requires-clause-new
+pay_off-requires-clause-new c =
+    let live = rw (← c.self.view_is) at c.requires.live in
+    HaveNoRun-live c.self.inside.redeemed.items c.args.security c.self.inside.runs.items c.self.invariant.3 live
 
 pub returns-clause-room : goal.returns-clause-room
 returns-clause-room c =
@@ -71,11 +81,17 @@ returns-clause-room c =
         arith,
         fewer c,
         same_count c,
-        c.pay_accounts.ensures.capacity,
+        c.pay_off.ensures.capacity,
         c.close_accounts.ensures.capacity,
       );
       spare_marks = omega (arith, c.clear.ensures.room);
-      spare_redeems = omega (arith, c.push_reserved.ensures.len, c.push_reserved.ensures.capacity);
+      spare_redeems = omega (
+        arith,
+        c.push_reserved.ensures.len,
+        c.push_reserved.ensures.capacity,
+        c.pay_off.ensures.one_more,
+        c.pay_off.ensures.run_capacity,
+      );
     })
 
 pub returns-clause-paid_all : goal.returns-clause-paid_all

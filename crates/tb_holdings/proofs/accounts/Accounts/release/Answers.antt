@@ -12,6 +12,8 @@ invariant_of-self c =
           (AreKept-released c.args.holder c.args.number c.args.par.value
           inside.accounts.items inside.marks.list inside.redeemed.items inside.paid.items c.self.invariant.0),
       c.self.invariant.1,
+      c.self.invariant.2,
+      c.self.invariant.3,
     )
 
 pub returns-clause-left : goal.returns-clause-left

@@ -30,6 +30,8 @@ invariant_of-self c =
           inside.accounts.items inside.marks.list inside.redeemed.items inside.paid.items c.self.invariant.0
           (record { live = live; apart = c.requires.apart; free = omega (arith, whole, c.if-par-free.false) })),
       omega (arith, room, c.move_held.ensures.one_more),
+      c.self.invariant.2,
+      c.self.invariant.3,
     )
 
 pub returns-clause-total : goal.returns-clause-total
