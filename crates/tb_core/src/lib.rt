@@ -28,8 +28,6 @@ mod settling;
 mod shelving;
 mod standing;
 mod tables;
-#[cfg(test)]
-mod tests;
 
 pub use host::Host;
 pub use refused::QueryRefused;

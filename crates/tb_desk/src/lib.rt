@@ -3,16 +3,12 @@
 
 mod desk;
 mod fault;
-#[cfg(test)]
-mod group_tests;
 mod groups;
 mod judging;
 mod laws;
 mod replay;
 mod reply;
 mod steps;
-#[cfg(test)]
-mod tests;
 
 pub use desk::Desk;
 pub use fault::OpenFault;

@@ -3,7 +3,7 @@ use Rattle.std.proofs.Common.{◌≡◌, ◌==◌, true, ◌∙◌, ap₂}
 use Rattle.std.proofs.lemmas.Bool.{eqb-true}
 use Rattle.tb_units.specs.Same.{same_moment}
 use Rattle.tb_message.specs.declared.verdict.Verdict.TheVariants as outcome
-use Rattle.tb_core.proofs.tests.is_accepted.Goals as goal
+use Rattle.tb_core_tests.proofs.tests.is_accepted.Goals as goal
 
 pub returns-then-given-number : goal.returns-then-given-number
 returns-then-given-number c is =

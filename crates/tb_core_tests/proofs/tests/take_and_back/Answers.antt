@@ -1,5 +1,5 @@
 -- The entry that is taken back is the bid that was just applied.
-use Rattle.tb_core.proofs.tests.take_and_back.Goals as goal
+use Rattle.tb_core_tests.proofs.tests.take_and_back.Goals as goal
 
 pub take_back-requires : goal.take_back-requires
 take_back-requires c = record {

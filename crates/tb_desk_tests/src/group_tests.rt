@@ -3,11 +3,11 @@ ghost use Rattle.std.specs.Prelude.{IfOk};
 ghost use Rattle.tb_message.specs.Spelling.{IsNumbered};
 ghost use Rattle.tb_core.specs.House.{IsBid};
 
-use super::*;
 use crate::tests::{SCRIPT, asked, desk_of, disk_of, entries_in, moment, name, submit};
 use std::alloc::Global;
 use std::process::Abort;
 use std::test::Fail;
+use tb_desk::{Desk, GroupReply, Reply};
 use tb_disk::MemoryDisk;
 use tb_message::{Message, Verdict};
 

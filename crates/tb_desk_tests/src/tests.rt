@@ -1,10 +1,10 @@
 ghost use Rattle.std.specs.Prelude.{IfOk};
 ghost use Rattle.tb_message.specs.Spelling.{IsNumbered};
 
-use super::*;
 use std::alloc::Global;
 use std::process::Abort;
 use std::test::Fail;
+use tb_desk::{Desk, OpenFault, Reply};
 use tb_disk::MemoryDisk;
 use tb_message::{Message, Query, Request, Verdict, read_request};
 use tb_units::{Ident, Moment};

@@ -5,8 +5,8 @@ ghost use Rattle.tb_message.specs.declared.verdict.Verdict.TheVariants as outcom
 ghost use Rattle.tb_message.specs.Spelling.{IsInRange};
 ghost use Rattle.tb_core.specs.House.{IsBid};
 
-use super::*;
 use std::alloc::Global;
+use tb_core::Host;
 use tb_history::Reading;
 use tb_message::{Entry, Message, Query, Verdict};
 use tb_terms::{Announcement, Cusip};
