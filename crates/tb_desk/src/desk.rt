@@ -11,7 +11,7 @@ ghost use Rattle.tb_history.specs.OwnPart.{own_part};
 ghost use Rattle.tb_history.specs.Answer.{submitter_of, query_refusal, asks_on};
 ghost use Rattle.tb_history.specs.Readings.{IsReading};
 ghost use Rattle.tb_core.specs.declared.refused.QueryRefused.TheVariants as answer;
-ghost use Rattle.tb_core.specs.Rooms.{Fits, behind, behind_all};
+ghost use Rattle.tb_core.specs.Rooms.{Fits, KeepsRoom, behind, behind_all};
 ghost use Rattle.tb_disk.specs.Disks.{DiskState};
 ghost use Rattle.tb_journal.specs.Journal.{Told};
 ghost use Rattle.tb_journal.specs.Opening.{Finds, IsHarmless};
@@ -142,8 +142,9 @@ impl<D: Disk> Desk<D> {
     /// Takes the memory for a message, and for what is in doubt.
     pub fn make_room(&mut self, message: &Message) -> Result<(), OutOfMemory>
         ensures fits { OnOk result (Fits self.new.host.room (behind self.new.doubt message.now)) }
-        // All else stays, whatever the result.
+        // All else stays, and no room is lost, whatever the result.
         ensures history { self.new.host.history ≡ self.old.host.history }
+        ensures room { KeepsRoom self.old.host.room self.new.host.room }
         ensures same { IsSame self.old self.new }
     {
         self.host.make_room(&self.doubt, message)
@@ -292,6 +293,7 @@ impl<D: Disk> Desk<D> {
     pub fn make_room_group(&mut self, messages: &[(u64, Message)]) -> Result<(), OutOfMemory>
         ensures fits { OnOk result (Fits self.new.host.room (behind_all self.new.doubt messages.now)) }
         ensures history { self.new.host.history ≡ self.old.host.history }
+        ensures room { KeepsRoom self.old.host.room self.new.host.room }
         ensures same { IsSame self.old self.new }
     {
         self.host.make_room_group(&self.doubt, messages)
