@@ -1,22 +1,16 @@
 //! The commands of the host, and the call that chooses among them.
 #![tactic(auto)]
 
-#[cfg(test)]
-mod account_tests;
 mod answer;
 mod auction_text;
 mod award_command;
 mod book;
 mod book_line;
 mod command;
-#[cfg(test)]
-mod disk_tests;
 mod ending;
 mod fields;
 mod host;
 mod import_command;
-#[cfg(test)]
-mod import_tests;
 mod input;
 mod laws;
 mod line_end;
@@ -25,21 +19,13 @@ mod planned;
 mod read_line;
 mod reply;
 mod report_command;
-#[cfg(test)]
-mod report_tests;
 mod row_lines;
 mod run_command;
-#[cfg(test)]
-mod run_tests;
 mod script_line;
 mod sender;
 mod serve_command;
-#[cfg(test)]
-mod serve_tests;
 mod serve_words;
 mod table_input;
-#[cfg(test)]
-mod tests;
 mod text_book;
 mod trial_command;
 mod way;

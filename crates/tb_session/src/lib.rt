@@ -7,8 +7,6 @@ mod called;
 mod calls;
 mod end;
 mod hear;
-#[cfg(test)]
-mod held_tests;
 mod inbox;
 mod laws;
 mod links;
@@ -18,8 +16,6 @@ mod reply;
 mod room;
 mod serve;
 mod session;
-#[cfg(test)]
-mod tests;
 mod turn;
 mod worker;
 mod write;

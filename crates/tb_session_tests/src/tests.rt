@@ -1,7 +1,6 @@
 //! Links served in memory. What is expected was written by hand from the profile.
 ghost use Rattle.std.specs.Prelude.{◌≤◌};
 
-use super::*;
 use std::alloc::Global;
 use std::process::Abort;
 use std::sync::Wait;
@@ -13,6 +12,7 @@ use tb_gates::{ListClock, ListGate, PairLink};
 use tb_link::{TextSink, TextSource};
 use tb_lock::TurnLock;
 use tb_message::{Key, Query};
+use tb_session::*;
 use tb_units::{Ident, Moment};
 
 /// What the operator sends first: two dealers, a fund under each, and an auction.

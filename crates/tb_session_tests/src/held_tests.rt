@@ -3,7 +3,6 @@
 ghost use Rattle.std.specs.Prelude.{◌≤◌, ◌+◌, None, length, option_to_list};
 ghost use Rattle.tb_gates.specs.Gates.{most_links};
 
-use super::*;
 use crate::tests::{Memory, opened, post, reply};
 use std::alloc::Global;
 use std::process::Abort;
@@ -14,6 +13,7 @@ use std::thread;
 use std::thread::Threads;
 use tb_gates::{Gate, Link, PairLink};
 use tb_link::{Failed, Faults, Sink, Source, TextSink, TextSource};
+use tb_session::*;
 
 /// How often a link looks for the other one's flag, at most.
 const LOOKS: u64 = 20_000_000;

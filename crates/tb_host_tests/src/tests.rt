@@ -1,5 +1,4 @@
 //! Whole runs: texts, statuses, and reads and writes that fail.
-use super::*;
 use std::alloc::Global;
 use std::process::Abort;
 use std::sync::Wait;
@@ -7,6 +6,7 @@ use std::test::Fail;
 use std::thread::Threads;
 use tb_disk::MemoryDisk;
 use tb_gates::{ListClock, ListGate};
+use tb_host::*;
 use tb_link::{TextSink, TextSource};
 use tb_units::Moment;
 
