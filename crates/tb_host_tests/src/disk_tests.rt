@@ -1,5 +1,6 @@
 //! `run` on a disk: what a journal holds, second runs, disks that fail, and files that are refused. The bytes and
 //! replies are worked out by hand from the formats and the rules.
+use crate::opening::{opened, registered};
 use crate::run_tests::{ORDINARY, WORDS};
 use crate::tests::{Outcome, disk_of, run, run_on};
 use std::alloc::Global;
@@ -19,10 +20,7 @@ const ONE_ENTRY: &[u8] = b"TBHOSTJOURNAL001\
 const EMPTY: &[u8] = b"TBHOSTJOURNAL001\0";
 
 /// The first message alone.
-const FIRST: &str =
-    r#"1730700000 op:root {"number":1,"kind":"register","submitter":"dealer1","key":"k1"}
-end
-"#;
+const FIRST: &str = registered!("\nend\n");
 
 /// What the second run is told: everything was accepted before, and the results are published.
 const SECOND_REPLIES: &str = "accepted 1 1730700000
@@ -72,14 +70,13 @@ bids at lower rates were accepted in full
 ";
 
 /// The messages of the ordinary auction that are accepted, and the replies to them.
-const MESSAGES: &str =
-    r#"1730700000 op:root {"number":1,"kind":"register","submitter":"dealer1","key":"k1"}
-1730700000 op:root {"number":2,"kind":"enrol","bidder":"fund1","submitter":"dealer1"}
-1730700000 op:root {"number":3,"kind":"announce","auction":"bill13","cusip":"912797AA5","offering":76000000000,"minimum":100,"ceiling":10000000,"floor":1000000000,"threshold":26600000000,"date":"2024-11-04","nc_close":"11:00","c_close":"11:30","issue":"2024-11-07","maturity":"2025-02-06"}
+const MESSAGES: &str = opened!(
+    r#"
 1730737799 k1 {"number":1,"kind":"bid","auction":"bill13","bidder":"fund1","rate":"4.27","amount":20000000000}
 1730737800 op:root {"number":4,"kind":"publish","auction":"bill13"}
 end
-"#;
+"#
+);
 
 const MESSAGE_REPLIES: [&str; 5] = [
     "accepted 1 1730700000",

@@ -9,6 +9,8 @@ mod disk_tests;
 #[cfg(test)]
 mod import_tests;
 #[cfg(test)]
+mod opening;
+#[cfg(test)]
 mod report_tests;
 #[cfg(test)]
 mod run_tests;

@@ -1,4 +1,5 @@
 //! `report` on what a script left. The texts are worked out by hand from the rules.
+use crate::opening::registered;
 use crate::run_tests::{ORDINARY, WORDS};
 use crate::tests::{Outcome, disk_of, run, run_on};
 use std::alloc::Global;
@@ -26,8 +27,8 @@ bids at lower rates were accepted in full
 ";
 
 /// A bill of 1,000, of which 800 went to another, and of the rest all is pledged.
-const HELD: &str =
-    r#"1730700000 op:root {"number":1,"kind":"register","submitter":"dealer1","key":"k1"}
+const HELD: &str = registered!(
+    r#"
 1730700000 op:root {"number":2,"kind":"register","submitter":"dealer2","key":"k2"}
 1730700000 op:root {"number":3,"kind":"enrol","bidder":"fund1","submitter":"dealer1"}
 1730700000 op:root {"number":4,"kind":"announce","auction":"sat1","cusip":"912797AB3","offering":1000000,"minimum":100,"ceiling":1000000,"floor":1000000,"threshold":1000000,"date":"2024-11-04","nc_close":"11:00","c_close":"11:30","issue":"2024-11-07","maturity":"2025-02-15"}
@@ -37,7 +38,8 @@ const HELD: &str =
 1730955600 k1 {"number":2,"kind":"transfer","cusip":"912797AB3","to":"dealer2","amount":800}
 1730955600 k1 {"number":12,"kind":"pledge","cusip":"912797AB3","to":"dealer2","amount":200}
 end
-"#;
+"#
+);
 
 /// What the script leaves is asked, and stays as it is. The writes of these numbers fail.
 fn ask<R: Abort + Threads + Wait + Sync>(
@@ -54,71 +56,69 @@ fn ask<R: Abort + Threads + Wait + Sync>(
     Ok(report)
 }
 
-#[test]
-fn queries_are_answered_from_the_disk(rt: HostRuntime) -> Result<(), Fail> {
-    for (left, words, status, text) in [
-        (
-            ORDINARY,
-            ["report", "results", "bill13", "--op=root", "--key=k1"].as_slice(),
-            0,
-            RESULTS,
-        ),
-        (
-            ORDINARY,
-            [
-                "report", "--csv", "awards", "bill13", "--op", "root", "--key", "k1",
-            ]
-            .as_slice(),
-            0,
-            "bidder,amount,payment\nfund1,20000000000,19784127800.00\n",
-        ),
-        (
-            HELD,
-            ["report", "holdings", "--key", "k1", "--op", "root", "--csv"].as_slice(),
-            0,
-            "cusip,held,pledged,free\n912797AB3,200,200,0\n",
-        ),
-        (
-            HELD,
-            ["report", "holdings", "--key", "k2", "--op", "root"].as_slice(),
-            0,
-            "912797AB3 800 0 800\n",
-        ),
-        (
-            HELD,
-            [
-                "report", "awards", "sat2", "--key", "k1", "--op", "root", "--csv",
-            ]
-            .as_slice(),
-            0,
-            "refused 10 UnknownAuction\n",
-        ),
-        (
-            HELD,
-            ["report", "holdings", "--key", "k3", "--op", "root"].as_slice(),
-            0,
-            "refused 1 UnknownKey\n",
-        ),
-        (
-            ORDINARY,
-            [
-                "report",
-                "results",
-                "bill13",
-                "--op=root",
-                "--key=k1",
-                "--csv",
-            ]
-            .as_slice(),
-            2,
-            "",
-        ),
-    ] {
-        let report = ask(&rt, rt.alloc(), left, words, &[])?;
-        assert_eq!(rt; report.status, status);
-        assert_eq!(rt; report.out.bytes(), text.as_bytes());
-    }
+/// The question to what the script left ends so, with this text.
+fn is_told<R: Abort + Threads + Wait + Sync>(
+    rt: &R,
+    alloc: Global,
+    left: &str,
+    words: &[&str],
+    status: u8,
+    text: &str,
+) -> Result<(), Fail> {
+    let report = ask(rt, alloc, left, words, &[])?;
+    assert_eq!(rt; report.status, status);
+    assert_eq!(rt; report.out.bytes(), text.as_bytes());
     Ok(())
+}
+
+#[test]
+fn results_and_awards_are_told_from_the_disk(rt: HostRuntime) -> Result<(), Fail> {
+    let results = ["report", "results", "bill13", "--op=root", "--key=k1"];
+    is_told(&rt, rt.alloc(), ORDINARY, &results, 0, RESULTS)?;
+    let awards = [
+        "report", "--csv", "awards", "bill13", "--op", "root", "--key", "k1",
+    ];
+    let table = "bidder,amount,payment\nfund1,20000000000,19784127800.00\n";
+    is_told(&rt, rt.alloc(), ORDINARY, &awards, 0, table)
+}
+
+#[test]
+fn holdings_are_told_to_their_holder(rt: HostRuntime) -> Result<(), Fail> {
+    let table = ["report", "holdings", "--key", "k1", "--op", "root", "--csv"];
+    let pledged = "cusip,held,pledged,free\n912797AB3,200,200,0\n";
+    is_told(&rt, rt.alloc(), HELD, &table, 0, pledged)?;
+    let lines = ["report", "holdings", "--key", "k2", "--op", "root"];
+    is_told(&rt, rt.alloc(), HELD, &lines, 0, "912797AB3 800 0 800\n")
+}
+
+#[test]
+fn refusals_are_told_as_lines(rt: HostRuntime) -> Result<(), Fail> {
+    let unknown = [
+        "report", "awards", "sat2", "--key", "k1", "--op", "root", "--csv",
+    ];
+    is_told(
+        &rt,
+        rt.alloc(),
+        HELD,
+        &unknown,
+        0,
+        "refused 10 UnknownAuction\n",
+    )?;
+    let nobody = ["report", "holdings", "--key", "k3", "--op", "root"];
+    is_told(&rt, rt.alloc(), HELD, &nobody, 0, "refused 1 UnknownKey\n")
+}
+
+#[test]
+fn results_are_no_table(rt: HostRuntime) -> Result<(), Fail> {
+    let words = [
+        "report",
+        "results",
+        "bill13",
+        "--op=root",
+        "--key=k1",
+        "--csv",
+    ];
+    is_told(&rt, rt.alloc(), ORDINARY, &words, 2, "")
 }
 
 #[test]

@@ -1,4 +1,5 @@
 //! Runs of scripts. The ordinary auction and the rows of refusals are worked out by hand from the rules.
+use crate::opening::{opened, registered};
 use crate::tests::run;
 use std::alloc::Global;
 use std::test::Fail;
@@ -7,10 +8,8 @@ use std::test::Fail;
 pub const WORDS: [&str; 3] = ["run", "--op", "root"];
 
 /// A bill of 91 days, from its announcement to the awards.
-pub const ORDINARY: &str =
-    r#"1730700000 op:root {"number":1,"kind":"register","submitter":"dealer1","key":"k1"}
-1730700000 op:root {"number":2,"kind":"enrol","bidder":"fund1","submitter":"dealer1"}
-1730700000 op:root {"number":3,"kind":"announce","auction":"bill13","cusip":"912797AA5","offering":76000000000,"minimum":100,"ceiling":10000000,"floor":1000000000,"threshold":26600000000,"date":"2024-11-04","nc_close":"11:00","c_close":"11:30","issue":"2024-11-07","maturity":"2025-02-06"}
+pub const ORDINARY: &str = opened!(
+    r#"
 1730737799 k1 {"number":1,"kind":"bid","auction":"bill13","bidder":"fund1","rate":"4.27","amount":20000000000}
 1730737800 k1 {"number":2,"kind":"bid","auction":"bill13","bidder":"fund1","rate":"4.270","amount":100}
 1730737800 k1 {"number":1,"kind":"bid","auction":"bill13","bidder":"fund1","rate":"4.270","amount":20000000000}
@@ -20,7 +19,8 @@ pub const ORDINARY: &str =
 1730737800 k1 {"kind":"awards","auction":"bill13"}
 1730737800 k1 {"kind":"results","auction":"bill13"}
 end
-"#;
+"#
+);
 
 const ORDINARY_REPLIES: &str = "accepted 1 1730700000
 accepted 2 1730700000
@@ -53,14 +53,15 @@ bids at lower rates were accepted in full
 ";
 
 /// The operator's messages in front of the bids below.
-const OPENED: &str =
-    r#"1730700000 op:root {"number":1,"kind":"register","submitter":"dealer1","key":"k1"}
+const OPENED: &str = registered!(
+    r#"
 1730700000 op:root {"number":2,"kind":"register","submitter":"dealer2","key":"k2"}
 1730700000 op:root {"number":3,"kind":"enrol","bidder":"a","submitter":"dealer1"}
 1730700000 op:root {"number":4,"kind":"enrol","bidder":"b","submitter":"dealer1"}
 1730700000 op:root {"number":5,"kind":"enrol","bidder":"c","submitter":"dealer2"}
 1730700000 op:root {"number":6,"kind":"announce","auction":"x","cusip":"912797AA5","offering":1000000000,"minimum":100,"ceiling":10000000,"floor":1000000,"threshold":350000000,"date":"2024-11-04","nc_close":"11:00","c_close":"11:30","issue":"2024-11-07","maturity":"2025-02-06"}
-"#;
+"#
+);
 
 const OPENED_REPLIES: &str = "accepted 1 1730700000
 accepted 2 1730700000
@@ -243,8 +244,7 @@ fn each_line_has_its_reply(rt: HostRuntime) -> Result<(), Fail> {
     Ok(())
 }
 
-const FIRST: &str =
-    r#"1730700000 op:root {"number":1,"kind":"register","submitter":"dealer1","key":"k1"}"#;
+const FIRST: &str = registered!();
 
 #[test]
 fn lines_before_a_bad_one_are_acted_on(rt: HostRuntime) -> Result<(), Fail> {
@@ -302,11 +302,7 @@ fn faulty_words_are_told(rt: HostRuntime) -> Result<(), Fail> {
     Ok(())
 }
 
-const TWO: &str =
-    r#"1730700000 op:root {"number":1,"kind":"register","submitter":"dealer1","key":"k1"}
-1730700000 k1 {}
-end
-"#;
+const TWO: &str = registered!("\n1730700000 k1 {}\nend\n");
 
 #[test]
 fn whole_lines_are_acted_on_where_a_read_fails(rt: HostRuntime) -> Result<(), Fail> {

@@ -1,4 +1,5 @@
 //! `serve` on links in memory. The replies are worked out by hand from the formats.
+use crate::opening::opened;
 use crate::tests::{Outcome, disk_of, run, serve_on};
 use std::alloc::Global;
 use std::process::Abort;
@@ -9,12 +10,7 @@ use tb_gates::{ListGate, PairLink};
 use tb_link::{TextSink, TextSource};
 
 /// A dealer with a fund, and an auction of the next days.
-const OPENING: &str =
-    r#"1730700000 op:root {"number":1,"kind":"register","submitter":"dealer1","key":"k1"}
-1730700000 op:root {"number":2,"kind":"enrol","bidder":"fund1","submitter":"dealer1"}
-1730700000 op:root {"number":3,"kind":"announce","auction":"bill13","cusip":"912797AA5","offering":76000000000,"minimum":100,"ceiling":10000000,"floor":1000000000,"threshold":26600000000,"date":"2024-11-04","nc_close":"11:00","c_close":"11:30","issue":"2024-11-07","maturity":"2025-02-06"}
-end
-"#;
+const OPENING: &str = opened!("\nend\n");
 
 /// Two bids of the dealer, each as it is posted.
 const FIRST: &str = "POST /messages HTTP/1.1\r\nAuction-Key: k1\r\nContent-Length: 89\r\n\r\n\
