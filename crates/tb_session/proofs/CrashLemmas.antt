@@ -1,5 +1,5 @@
 -- What a crash leaves in a turn.
-use Rattle.std.proofs.Common.{◌≡◌, ℕ, List, ◌++◌, inl, inr, ⊎_elim, refl, sym, ap, ◌∙◌, subst}
+use Rattle.std.proofs.Common.{◌≡◌, ◌⊎◌, ℕ, List, ◌++◌, inl, inr, ⊎_elim, refl, sym, ap, ◌∙◌, subst}
 use Rattle.tb_disk.specs.Disks.{DiskState}
 use Rattle.tb_disk.specs.Past.{MayLeave, Leaves}
 use Rattle.tb_disk.proofs.Moments.{Leaves-start, Leaves-weaker}
@@ -20,6 +20,10 @@ use Rattle.tb_session.specs.Codes.{spelled_all}
 use Rattle.tb_session.specs.Crashes.{HasSeen, LeavesSeen}
 use Rattle.tb_session.specs.Rooms.{room_means}
 use Rattle.tb_session.specs.Turned.{Calls, added_by}
+use Rattle.tb_session.specs.Groups.{CallsTogether, Replied, added_in}
+use Rattle.tb_message.specs.declared.key.Key.{Key}
+use Rattle.tb_message.specs.declared.message.Message.{Message}
+use Rattle.tb_units.specs.declared.moment.Moment.{Moment}
 use Rattle.tb_session.proofs.DoesLemmas.{held-same}
 use Rattle.tb_session.proofs.TurnLemmas.{spelled-append}
 
@@ -81,23 +85,40 @@ module _ {D C : Type 0} (disk : D → DiskState) (clock : C → ClockState) (bef
       (λ past. (file : List ℕ) → MayLeave past file → HasSeen before.seen file) (disk old.desk.disk).past
       (λ now left file may. has-seen before.seen (held old.desk) file taken.begins (left file may)) leaves
 
-  -- and during a call
-  pub crashes-seen : (new : Room D C) (c : Called) (said : Answer) → Calls disk clock old new c said
+  -- and while the history grows, with what was in doubt settled or not
+  grown-seen : (new : Room D C) (at added : List Entry)
+      → (at ≡ old.desk.host.history) ⊎ (at ≡ old.desk.host.history ++ old.desk.doubt)
+      → new.desk.host.history ≡ at ++ added
+      → CrashesLeave (IsOneOf (held old.desk) (held new.desk)) (disk old.desk.disk) (disk new.desk.disk)
       → CrashesLeave (HasSeen before.seen) (disk old.desk.disk) (disk new.desk.disk)
-  crashes-seen new c said called =
+  grown-seen new at added settled grown crash =
       Told-weaker (λ before now. Leaves (IsOneOf (held old.desk) (held new.desk)) before now)
       (λ past now. Leaves (HasSeen before.seen) past now) (disk old.desk.disk) (disk new.desk.disk)
-      (λ past now. Leaves-weaker (IsOneOf (held old.desk) (held new.desk)) (HasSeen before.seen) past now each) called.crash
+      (λ past now. Leaves-weaker (IsOneOf (held old.desk) (held new.desk)) (HasSeen before.seen) past now each) crash
     where
-      at_begins : IsPrefix before.seen (spelled_all called.does.at)
+      at_begins : IsPrefix before.seen (spelled_all at)
       at_begins = ⊎_elim
           (λ is. subst (λ (l : List Entry). IsPrefix before.seen (spelled_all l)) (sym is) taken.begins)
-          (λ is. goes-on before.seen old.desk.host.history called.does.at old.desk.doubt is taken.begins)
-          called.does.settled
+          (λ is. goes-on before.seen old.desk.host.history at old.desk.doubt is taken.begins)
+          settled
 
       new_begins : IsPrefix before.seen (spelled_all new.desk.host.history)
-      new_begins = goes-on before.seen called.does.at new.desk.host.history (added_by c.outcome) called.does.grown at_begins
+      new_begins = goes-on before.seen at new.desk.host.history added grown at_begins
 
       each : (file : List ℕ) → IsOneOf (held old.desk) (held new.desk) file → HasSeen before.seen file
       each file (inl stands) = has-seen before.seen (held old.desk) file taken.begins stands
       each file (inr stands) = has-seen before.seen (held new.desk) file new_begins stands
+
+  -- so during a call
+  pub crashes-seen : (new : Room D C) (c : Called) (said : Answer) → Calls disk clock old new c said
+      → CrashesLeave (HasSeen before.seen) (disk old.desk.disk) (disk new.desk.disk)
+  crashes-seen new c said called =
+      grown-seen new called.does.at (added_by c.outcome) called.does.settled called.does.grown called.crash
+
+  -- and during a group of them
+  pub crashes-seen_together : (new : Room D C) (k : Key) (messages : List (ℕ × Message)) (moment : Moment)
+      (replied : List Replied)
+      → CallsTogether disk clock old new k messages moment replied
+      → CrashesLeave (HasSeen before.seen) (disk old.desk.disk) (disk new.desk.disk)
+  crashes-seen_together new k messages moment replied together =
+      grown-seen new together.does.at (added_in replied) together.does.settled together.does.grown together.crash

@@ -68,7 +68,7 @@ does-nothing operator old new low high c said history doubt faults none out give
 }
 
 -- a caller's message is told its verdict at the running moment
-tells-verdict : (operator : List ℕ) (history : List Entry) (k : Key) (caller : List ℕ) (number : ℕ) (moment : Moment)
+pub tells-verdict : (operator : List ℕ) (history : List Entry) (k : Key) (caller : List ℕ) (number : ℕ) (moment : Moment)
     (message : Message) (said : Verdict)
     → caller_on operator history k ≡ Some caller
     → said ≡ verdict_on history caller number (running history moment) message
@@ -106,8 +106,16 @@ one_asked caller number moment message =
     record { submitter = caller; moment = moment; messages = (number, message) ∷ [] }
 
 -- a moment is in range
-moment-in_range : (m : Moment) → (nat_le 946702800 m.seconds && nat_le m.seconds 4102444799) ≡ true
+pub moment-in_range : (m : Moment) → (nat_le 946702800 m.seconds && nat_le m.seconds 4102444799) ≡ true
 moment-in_range m = grind (arith, m.not_before, m.not_after)
+
+-- the count of faults after one more
+pub faulted : (low high : ℕ) → high ≡ min (low + 1) last_count → low ≤ last_count → Faulted low high
+faulted low high is limited = (omega (arith, is, limited), between (cases_lt low last_count))
+  where
+    between : (low < last_count) ⊎ (last_count ≤ low) → IsReadBetween low high
+    between (inl less) = inl (omega (arith, is, less))
+    between (inr most) = inr (omega (arith, is, most))
 
 module _ (operator : List ℕ) (k : Key) (caller : List ℕ) (number : ℕ) (moment : Moment) (message : Message) where
   -- the entry of the message at a moment
@@ -275,14 +283,6 @@ module _ (operator : List ℕ) (k : Key) (caller : List ℕ) (number : ℕ) (mom
           verdict-known turns.at caller number (running turns.at moment) message
           (caller-known operator turns.at k caller (still_known old turns.at known resolves.0)) (sym is ∙ unknown)
       go (inr (resolves, inr doubted)) = let failed = doubted.failed in cc
-
-  -- the count of faults after one more
-  faulted : (low high : ℕ) → high ≡ min (low + 1) last_count → low ≤ last_count → Faulted low high
-  faulted low high is limited = (omega (arith, is, limited), between (cases_lt low last_count))
-    where
-      between : (low < last_count) ⊎ (last_count ≤ low) → IsReadBetween low high
-      between (inl less) = inl (omega (arith, is, less))
-      between (inr most) = inr (omega (arith, is, most))
 
   -- a message that met a fault may come to stand
   pub does-doubted : (gate : ℕ) (disk : DiskState) (old new : Held) (low high : ℕ)

@@ -8,7 +8,8 @@ use Rattle.tb_lock.specs.declared.view.View.{View}
 use Rattle.tb_lock.specs.Meanings.{IsPrefix}
 use Rattle.tb_lock.proofs.PrefixLemmas.{prefix-self, prefix-trans}
 use Rattle.tb_session.specs.Codes.{Made, call_of, spelled_all, IsAnswered}
-use Rattle.tb_session.specs.Gains.{Gains}
+use Rattle.tb_session.specs.Gains.{AreInOrder, Gains, IsTurn, joined, turns_of}
+use Rattle.tb_session.proofs.OrderLemmas.{joined-append, joined-turns}
 
 -- no call, and nothing is gained
 pub gains-nothing : (v : View) → Gains v v []
@@ -17,7 +18,10 @@ gains-nothing v = record {
   answered = All-nil (λ (m : Made). IsAnswered v.fixed m.history m.called m.before m.after);
   begin = All-nil (λ (m : Made). IsPrefix v.seen (spelled_all m.history));
   seen = prefix-self v.seen;
-  order = λ ordered. ordered;
+  turns = [];
+  cut = refl;
+  each = All-nil IsTurn;
+  order = λ earlier is ordered. subst AreInOrder (sym (append-nil earlier)) ordered;
   share = refl;
   fixed = refl;
   opening = refl;
@@ -39,7 +43,21 @@ gains-then a b c first later one two = record {
       (λ (m : Made). IsPrefix a.seen (spelled_all m.history))
       (λ m begins. prefix-trans a.seen b.seen (spelled_all m.history) one.seen begins) later two.begin);
   seen = prefix-trans a.seen b.seen c.seen one.seen two.seen;
-  order = λ ordered. two.order (one.order ordered);
+  turns = one.turns ++ two.turns;
+  cut = ap (λ (l : List Made). l ++ later) one.cut
+      ∙ (ap (λ (l : List Made). joined one.turns ++ l) two.cut ∙ sym (joined-append one.turns two.turns));
+  each = All-append IsTurn one.turns two.turns one.each two.each;
+  order = λ earlier is ordered. subst AreInOrder
+      (append_assoc earlier (turns_of one.turns) (turns_of two.turns)
+      ∙ ap (λ (l : List (List Call)). earlier ++ l)
+      (sym (map-append (λ (turn : List Made). map call_of turn) one.turns two.turns)))
+      (two.order (earlier ++ turns_of one.turns)
+      (one.mine
+      ∙ (ap (λ (l : List Call). l ++ map call_of first) is
+      ∙ (ap (λ (l : List Made). joined earlier ++ map call_of l) one.cut
+      ∙ (ap (λ (l : List Call). joined earlier ++ l) (sym (joined-turns one.turns))
+      ∙ sym (joined-append earlier (turns_of one.turns))))))
+      (one.order earlier is ordered));
   share = two.share ∙ one.share;
   fixed = two.fixed ∙ one.fixed;
   opening = two.opening ∙ one.opening;

@@ -1,11 +1,15 @@
 pub mod CallerLemmas
 pub mod UnknownLemmas
 pub mod DoesLemmas
+pub mod GroupLemmas
 pub mod OneCode
+pub mod OrderLemmas
 pub mod OpeningLemmas
 pub mod GainLemmas
 pub mod TurnLemmas
 pub mod CrashLemmas
+pub mod TogetherLemmas
+pub mod PerformLemmas
 pub mod InboxLemmas
 pub mod ReceiveLemmas
 pub mod ReplyLemmas
@@ -14,6 +18,7 @@ pub mod LeftLemmas
 pub mod ServedLemmas
 pub mod CutLemmas
 pub mod SessionLemmas
+pub mod RowLemmas
 pub mod HearLemmas
 pub mod AnswerLemmas
 pub mod WorkLemmas

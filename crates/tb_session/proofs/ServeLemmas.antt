@@ -1,6 +1,6 @@
 -- What several workers did, one after the other in the order of their gates.
 use Rattle.std.proofs.Common.{◌≡◌, ℕ, suc, ◌+◌, ◌*◌, ◌^◌, ◌≤◌, ◌<◌, List, [], ◌∷◌, ◌++◌, length, map, get_or, sum_by, refl, sym, ap, ◌∙◌, subst, arith}
-use Rattle.std.specs.Prelude.{Bool, ◌||◌, All, flat_map}
+use Rattle.std.specs.Prelude.{Bool, false, ◌||◌, All, flat_map, Result, Ok, Err, OnOk, is_err}
 use Rattle.std.specs.List.{list_any}
 use Rattle.std.proofs.lemmas.List.{length-map, map-append}
 use Rattle.std.proofs.lemmas.List.Sums.{sum_by-append}
@@ -16,7 +16,6 @@ use Rattle.tb_lock.specs.Passes.{view}
 use Rattle.tb_session.specs.declared.room.Room.{Room}
 use Rattle.tb_session.specs.declared.worker.Worker.{Worker}
 use Rattle.tb_session.specs.Codes.{Made, call_of, spelled_all, IsAnswered}
-use Rattle.tb_session.specs.Gains.{AreInOrder}
 use Rattle.tb_session.specs.Work.{calls_of_links, IsServed, WorksOn}
 use Rattle.tb_session.specs.Serve.{Run, calls_of_gates, links_of_gates, some_failed, IsRun, AreRuns, Turns, SameLock, share_of, served_of, failed_of, calls_with, IsHired, WorkedOn}
 
@@ -52,8 +51,12 @@ module _ {D C G K : Type 0} (gate : G → GateState K) (source : K → SourceSta
     one_run = record {
       passed = on.passed;
       sessions = subst (λ (f : List ℕ). All (IsServed source sink f) on.links) hired.same.fixed on.sessions;
-      order = subst (λ (l : List Call). AreInOrder l) mine_is
-          (on.gains.order (subst (λ (l : List Call). AreInOrder l) (sym hired.none) tt));
+      order = record {
+        turns = on.gains.turns;
+        cut = on.gains.cut;
+        each = on.gains.each;
+        order = on.gains.order [] hired.none tt;
+      };
       fault = worked.works.failed;
       finished = worked.works.finished;
     }
@@ -156,6 +159,11 @@ module _ {D C G K : Type 0} (gate : G → GateState K) (source : K → SourceSta
           opening_faults = second.opening_faults ∙ first.opening_faults;
         };
       }
+
+-- what holds where a call succeeded, where it didn't fail
+pub reserved : {E : Type 0} (result : Result (Unit {0}) E) (P : Type 0) → OnOk result P → is_err result ≡ false → P
+reserved (Ok done) P holds fine = holds
+reserved (Err failed) P holds fine = absurd (let bad : ⊥ = cc in bad)
 
 -- few workers serve few links
 pub few_served : {D C G : Type 0} (ws olds news hired : List (Worker D C G)) (gates : List G)

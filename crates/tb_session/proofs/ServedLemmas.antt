@@ -24,7 +24,7 @@ leaves-none turns (end.BadRequest code) rest due tail ends = none-bad rest code 
 leaves-none turns end.Asked rest due tail ends = let is = ends.1 in absurd (let bad : ⊥ = cc in bad)
 leaves-none turns end.Turns rest due tail ends = let is = ends.1 in absurd (let bad : ⊥ = cc in bad)
 leaves-none turns end.WriteFault rest due tail ends =
-    ⊎_elim (λ one. absurd (let is = one.1 in let bad : ⊥ = cc in bad)) (λ bad. none-bad rest bad.0 bad.2) ends
+    ⊎_elim (λ one. absurd (let is = one.2 in let bad : ⊥ = cc in bad)) (λ bad. none-bad rest bad.0 bad.2) ends
 leaves-none turns end.OutOfMemory rest due tail ends =
     ⊎_elim (λ none. none.1) (λ one. absurd (let is = one.1 in let bad : ⊥ = cc in bad)) ends.1
 

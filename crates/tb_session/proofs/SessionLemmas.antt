@@ -34,6 +34,12 @@ replies-then first later = flat_map-append (λ (e : Exchange). reply_of e false)
 calls-then : (first later : List Exchange) → calls_in (first ++ later) ≡ calls_in first ++ calls_in later
 calls-then first later = filter_map-append (λ (e : Exchange). e.call) first later
 
+-- a link that goes on may have more requests
+pub serves-few : (count : ℕ) (waiting : List ℕ) (v0 v1 : View) (a b : LinkState) (now : List ℕ)
+    → ServesOn 0 count waiting v0 v1 a b now
+    → count < most_turns
+serves-few count waiting v0 v1 a b now on = omega (arith, on.progress.few, on.counted)
+
 -- two steps of a link that goes on
 pub serves-then : (turns count more so_far : ℕ) (waiting now left : List ℕ) (v0 v1 v2 : View) (a b c : LinkState)
     → so_far ≡ turns + count
@@ -278,7 +284,9 @@ module _ (turns : ℕ) (waiting : List ℕ) (v0 v1 : View) (a b : LinkState) (r 
       one_ended (reply_text said r.target close) fails.tail end.WriteFault fails.moved fails.begins (inr fails.rose)
       (inl (
         answers.exchange,
+        [],
         refl,
+        inl refl,
         told_one told,
         ap (λ (c : Bool). reply_text said r.target c)
             (is ∙ ap (λ (q : HttpRequest). closes_at turns q) (sym answers.request_is))
@@ -331,7 +339,7 @@ module _ (a m b : LinkState) (waiting now read tail due : List ℕ) (ended : End
     };
   }
 
--- a round of the link: a request is read and served
+-- a round of the link: a request is read, and it and maybe more are served
 module _ (count : ℕ) (waiting now after : List ℕ) (v0 v1 v2 : View) (a b m c : LinkState) (r : HttpRequest)
     (few : count < most_turns) (so_far : ServesOn 0 count waiting v0 v1 a b now) (waits : Waits b m now after r) where
   heard : ServesOn 0 (count + 0) waiting v0 v1 a m after
@@ -340,11 +348,12 @@ module _ (count : ℕ) (waiting now after : List ℕ) (v0 v1 v2 : View) (a b m c
       (serves-reads count now waits.read after v1 b m few waits.moved waits.grown)
 
   -- the link goes on
-  pub round-on : (left : List ℕ) → ServesOn count 1 after v1 v2 m c left → ServesOn 0 (count + 1) waiting v0 v2 a c left
-  round-on left on =
-      let same : count + 0 + 1 ≡ count + 1 = omega arith in
+  pub round-on : (more : ℕ) (left : List ℕ) → ServesOn count more after v1 v2 m c left
+      → ServesOn 0 (count + more) waiting v0 v2 a c left
+  round-on more left on =
+      let same : count + 0 + more ≡ count + more = omega arith in
       subst (λ (n : ℕ). ServesOn 0 n waiting v0 v2 a c left) same
-      (serves-then 0 (count + 0) 1 count waiting after left v0 v1 v2 a m c (omega arith) heard on)
+      (serves-then 0 (count + 0) more count waiting after left v0 v1 v2 a m c (omega arith) heard on)
 
   -- it ends
   pub round-ended : (ended : End) → ServesLink count after v1 v2 m c ended → ServesLink 0 waiting v0 v2 a c ended

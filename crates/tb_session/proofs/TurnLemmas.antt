@@ -3,7 +3,7 @@ use Rattle.std.proofs.Common.{◌≡◌, ℕ, ◌+◌, ◌≤◌, min, List, [],
 use Rattle.std.specs.Prelude.{Option, Contains, All, Any, IfSome}
 use Rattle.std.proofs.lemmas.Bool.{cases_lt}
 use Rattle.std.proofs.lemmas.List.{append-nil, map-append, length-map}
-use Rattle.std.proofs.lemmas.List.Elements.{All-nil, All-cons, All-push, All-head, All-tail}
+use Rattle.std.proofs.lemmas.List.Elements.{All-nil, All-cons, All-weaker}
 use Rattle.tb_units.specs.declared.moment.Moment.{Moment}
 use Rattle.tb_link.specs.Counts.{last_count}
 use Rattle.tb_disk.specs.Disks.{DiskState}
@@ -28,8 +28,9 @@ use Rattle.tb_session.specs.Codes.{spelled_all, code_of, kind_at, kind_in, entry
 use Rattle.tb_session.specs.CodeLaws.{entry-code}
 use Rattle.tb_session.specs.Openings.{lock_code}
 use Rattle.tb_session.specs.Rooms.{room_means, fixed_of}
-use Rattle.tb_session.specs.Gains.{left_by, Follows, AreInOrder, Gains, GainsOne}
+use Rattle.tb_session.specs.Gains.{left_by, Follows, StandsBeside, IsTurn, Gains, GainsOne}
 use Rattle.tb_session.specs.Turned.{added_by, before_of, Reads, told_of, Calls}
+use Rattle.tb_session.proofs.OrderLemmas.{one-more}
 use Rattle.tb_session.proofs.OpeningLemmas.{operator-locked, moments-locked}
 
 -- lists of entries, one behind the other
@@ -37,20 +38,11 @@ pub spelled-append : (xs ys : List Entry) → spelled_all (xs ++ ys) ≡ spelled
 spelled-append xs ys = map-append spelling xs ys
 
 -- a beginning of a history, spelled
-spelled-begins : (xs ys zs : List Entry) → zs ≡ xs ++ ys → IsPrefix (spelled_all xs) (spelled_all zs)
+pub spelled-begins : (xs ys zs : List Entry) → zs ≡ xs ++ ys → IsPrefix (spelled_all xs) (spelled_all zs)
 spelled-begins xs ys zs is = (spelled_all ys, ap (λ (l : List Entry). spelled_all l) is ∙ spelled-append xs ys)
 
--- a call that follows all calls in order
-pub in_order-push : (calls : List Call) (call : Call) → AreInOrder calls → All (λ c. Follows c call) calls
-    → AreInOrder (calls ++ call ∷ [])
-in_order-push [] call ordered follow = (All-nil (Follows call), tt)
-in_order-push (first ∷ calls) call ordered follow = (
-  All-push (Follows first) calls call ordered.0 (All-head (λ c. Follows c call) first calls follow),
-  in_order-push calls call ordered.1 (All-tail (λ c. Follows c call) first calls follow),
-)
-
 -- what the lock adds of a call's code is what the call adds
-added-spelled : (o : Outcome) → added_if (kind_at (outcome_code o)) (entry_of o) [] ≡ spelled_all (added_by o)
+pub added-spelled : (o : Outcome) → added_if (kind_at (outcome_code o)) (entry_of o) [] ≡ spelled_all (added_by o)
 added-spelled (outcome.Added e) = refl
 added-spelled (outcome.Stood e) = refl
 added-spelled (outcome.Doubted e) = refl
@@ -58,7 +50,7 @@ added-spelled outcome.Told = refl
 added-spelled outcome.Lacked = refl
 
 -- an accepted call adds its entry
-accepted-entry : (o : Outcome) → kind_at (outcome_code o) ≡ accepted → entry_of o ∷ [] ≡ spelled_all (added_by o)
+pub accepted-entry : (o : Outcome) → kind_at (outcome_code o) ≡ accepted → entry_of o ∷ [] ≡ spelled_all (added_by o)
 accepted-entry (outcome.Added e) is = refl
 accepted-entry (outcome.Stood e) is = absurd (let bad : ⊥ = cc in bad)
 accepted-entry (outcome.Doubted e) is = absurd (let bad : ⊥ = cc in bad)
@@ -74,7 +66,7 @@ before-is outcome.Told at history is = ap length (is ∙ append-nil at)
 before-is outcome.Lacked at history is = ap length (is ∙ append-nil at)
 
 -- a reading of the clock keeps its moments
-reads-moments : (m : Option Moment) (a b : ClockState) → Reads m a b → b.moments ≡ a.moments
+pub reads-moments : (m : Option Moment) (a b : ClockState) → Reads m a b → b.moments ≡ a.moments
 reads-moments None a b reads = ap (λ (s : ClockState). s.moments) reads
 reads-moments (Some moment) a b reads = reads.moments
 
@@ -90,7 +82,7 @@ read-between before after is = elim (cases_lt before last_count) [
 ]
 
 -- the moment of a message is the clock's last reading, and the clock was read
-reads-timed : (m : Option Moment) (a b : ClockState) → Reads m a b → (seconds : ℕ) → moment_at (moment_code m) ≡ Some seconds
+pub reads-timed : (m : Option Moment) (a b : ClockState) → Reads m a b → (seconds : ℕ) → moment_at (moment_code m) ≡ Some seconds
     → (seconds ≡ b.reading) × IsReadBetween a.readings b.readings
 reads-timed None a b reads seconds is = absurd (let bad : ⊥ = cc in bad)
 reads-timed (Some moment) a b reads seconds is =
@@ -98,7 +90,7 @@ reads-timed (Some moment) a b reads seconds is =
     (sym same ∙ sym reads.reading, read-between a.readings b.readings reads.readings)
 
 -- and it is one that the clock may give
-reads-given : (name : List ℕ) (opened : DiskState) (recovered : ℕ) (m : Option Moment) (a b : ClockState)
+pub reads-given : (name : List ℕ) (opened : DiskState) (recovered : ℕ) (m : Option Moment) (a b : ClockState)
     → Reads m a b → (moment : Moment) → m ≡ Some moment
     → MayGiveMoment (lock_code name opened recovered a.moments) moment
 reads-given name opened recovered None a b reads moment is = absurd (let bad : ⊥ = cc in bad)
@@ -109,7 +101,7 @@ reads-given name opened recovered (Some given_one) a b reads moment is =
     reads.told)
 
 -- the history that a call left begins the history, where the call stands in it
-left-begins : (c : Call) (k : Kind) (entry : List ℕ) (history : History) → IsPrefix c.prefix history
+pub left-begins : (c : Call) (k : Kind) (entry : List ℕ) (history : History) → IsPrefix c.prefix history
     → (k ≡ accepted → IsPrefix (c.prefix ++ entry ∷ []) history) → IsPrefix (c.prefix ++ added_if k entry []) history
 left-begins c accepted entry history begins after = after refl
 left-begins c repeated entry history begins after =
@@ -284,11 +276,16 @@ module _ {D C : Type 0} (disk : D → DiskState) (clock : C → ClockState) (v0 
   follows_one c s n = record {
     history = prefix-trans (left_by c) (spelled_all old.desk.host.history) (spelled_all at)
         (left-begins c (kind_in c.code) (entry_in c.code) (spelled_all old.desk.host.history) s.prefix s.entry) old_at;
-    faults = inl (omega (arith, n.most, taken.faults_taken));
+    faults = omega (arith, n.most, taken.faults_taken);
   }
 
   follows_all : All (λ c. Follows c call) v0.mine
   follows_all = λ k d lt. follows_one _ (taken.stand k d lt) (taken.counts k d lt)
+
+  follows_turn : All (λ c. All (Follows c) (call ∷ [])) v0.mine
+  follows_turn =
+      All-weaker (λ (c : Call). Follows c call) (λ (c : Call). All (Follows c) (call ∷ []))
+      (λ c follows. All-cons (Follows c) call [] follows (All-nil (Follows c))) v0.mine follows_all
 
   gains_call : Gains v0 (given (room_means disk clock) v (call ∷ []) new) (made ∷ [])
   gains_call = record {
@@ -298,8 +295,10 @@ module _ {D C : Type 0} (disk : D → DiskState) (clock : C → ClockState) (v0 
         (All-nil _);
     begin = All-cons (λ m. IsPrefix v0.seen (spelled_all m.history)) made [] begin (All-nil _);
     seen = prefix-trans v0.seen (spelled_all at) (spelled_all new.desk.host.history) begin at_begins;
-    order = λ ordered. subst (λ (l : List Call). AreInOrder (l ++ call ∷ [])) (sym taken.mine)
-        (in_order-push v0.mine call ordered follows_all);
+    turns = (made ∷ []) ∷ [];
+    cut = refl;
+    each = All-cons IsTurn (made ∷ []) [] (inl refl) (All-nil IsTurn);
+    order = one-more v0.mine (made ∷ []) (All-nil (StandsBeside call), tt) follows_turn;
     share = taken.share;
     fixed = taken.same_fixed;
     opening = taken.opening;

@@ -5,10 +5,12 @@ pub mod CodeLaws
 pub mod Rooms
 pub mod Gains
 pub mod Turned
+pub mod Groups
 pub mod Crashes
 pub mod Replies
 pub mod Inbox
 pub mod Session
+pub mod Rows
 pub mod Serving
 pub mod Work
 pub mod Serve

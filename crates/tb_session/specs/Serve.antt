@@ -18,7 +18,7 @@ use Rattle.tb_session.specs.declared.called.Outcome.TheVariants as outcome
 use Rattle.tb_session.specs.declared.room.Room.{Room}
 use Rattle.tb_session.specs.declared.worker.Worker.{Worker}
 use Rattle.tb_session.specs.Codes.{Made, call_of, spelled_all, IsAnswered}
-use Rattle.tb_session.specs.Gains.{AreInOrder}
+use Rattle.tb_session.specs.Gains.{AreTurns}
 use Rattle.tb_session.specs.Rooms.{house_of, SameStart}
 use Rattle.tb_session.specs.Work.{Served, calls_of_links, Passed, IsServed, IsReady, Works}
 
@@ -40,12 +40,12 @@ abbrev pub some_failed : {K : Type 0} → List (Run K) → Bool
 some_failed runs = list_any (λ run. run.failed) runs
 
 module _ {G K : Type 0} (gate : G → GateState K) (source : K → SourceState) (sink : K → SinkState) (fixed : List ℕ) where
-  -- A gate gave these links, each was served, and along their calls the histories grow and the counts rise. It gave all
-  -- that it had, or failed, and its count of faults rose.
+  -- A gate gave these links, each was served, and their calls are turns along which the histories grow and the counts
+  -- rise. It gave all that it had, or failed, and its count of faults rose.
   pub record IsRun (old new : G) (run : Run K) : Type 0 where
     pub passed : Passed (gate old) (gate new) run.links
     pub sessions : All (IsServed source sink fixed) run.links
-    pub order : AreInOrder (map call_of (calls_of_links run.links))
+    pub order : AreTurns (calls_of_links run.links)
     pub fault : run.failed ≡ true → Rose (gate old).faults (gate new).faults
     pub finished : run.failed ≡ false → IfSome (gate new).left (λ left. left ≡ [])
 

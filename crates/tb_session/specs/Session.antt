@@ -26,8 +26,8 @@ use Rattle.tb_session.specs.declared.called.Ask.TheVariants as ask
 use Rattle.tb_session.specs.declared.end.End.{End}
 use Rattle.tb_session.specs.declared.end.End.TheVariants as end
 use Rattle.tb_session.specs.Calls.{refused}
-use Rattle.tb_session.specs.Codes.{Made, IsAnswerOf}
-use Rattle.tb_session.specs.Gains.{Gains}
+use Rattle.tb_session.specs.Codes.{Made, call_of, IsAnswerOf}
+use Rattle.tb_session.specs.Gains.{AreBeside, AreBidsOfOne, Gains}
 use Rattle.tb_session.specs.Inbox.{AtEnd}
 use Rattle.tb_session.specs.Replies.{reply_text, IsTold, MayLack}
 
@@ -121,10 +121,16 @@ LetsGoOn e = (e.request.close ≡ false) × IsTold e.said
 abbrev pub closes_at : ℕ → HttpRequest → Bool
 closes_at turns r = r.close || (turns + 1 == most_turns)
 
+-- requests that shared a turn: each became a call, a bid with one key, between the same two counts of faults
+pub record ShareTurn (exchanges : List Exchange) : Type 0 where
+  pub called : length (calls_in exchanges) ≡ length exchanges
+  pub bids : AreBidsOfOne (calls_in exchanges)
+  pub beside : AreBeside (map call_of (calls_in exchanges))
+
 -- ---- sessions
 
 -- One link: the bytes read, the requests after whose replies the link went on, the one at which it ended, where there
--- is one, the bytes left over, what was due to be written at the end, and the part of that which was written.
+-- is one, and those behind it that had shared its turn, the bytes left over, what was due to be written at the end, and the part of that which was written.
 pub record Session : Type 0 where
   pub read : List ℕ
   pub exchanges : List Exchange
@@ -147,7 +153,8 @@ EndsWith turns end.Asked last rest due tail =
 EndsWith turns end.Turns last rest due tail = (e : Exchange) × (last ≡ e ∷ []) × LetsGoOn e × (turns + 1 ≡ most_turns)
     × (due ≡ reply_of e true) × (tail ≡ due)
 EndsWith turns end.WriteFault last rest due tail =
-    ((e : Exchange) × (last ≡ e ∷ []) × IsTold e.said × (due ≡ reply_of e (closes_at turns e.request)))
+    ((e : Exchange) × (others : List Exchange) × (last ≡ e ∷ others) × ((others ≡ []) ⊎ ShareTurn last)
+    × IsTold e.said × (due ≡ reply_of e (closes_at turns e.request)))
     ⊎ ((code : ℕ) × (last ≡ []) × IsFront rest (Bad code) × (due ≡ bad_front code))
 EndsWith turns end.OutOfMemory last rest due tail =
     (due ≡ no_memory) × (((last ≡ []) × HoldsNone rest) ⊎ ((e : Exchange) × (last ≡ e ∷ []) × MayLack e.said))

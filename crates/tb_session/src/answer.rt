@@ -25,3 +25,14 @@ impl Answer {
         Answer::Verdict(Verdict::Refused(refusal))
     }
 }
+
+/// What a group of bids is answered.
+#[derive(Clone, Copy, Debug, PartialEq, Eq)]
+pub enum GroupAnswer {
+    /// Each bid has its verdict.
+    Verdicts,
+    /// The disk failed: all the bids that would have been accepted may have been, or none of them.
+    DiskFault,
+    /// There was no memory for them, and nothing changed.
+    OutOfMemory,
+}

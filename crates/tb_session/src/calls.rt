@@ -66,7 +66,7 @@ impl<D: Disk, C: Clock> Room<D, C> {
     }
 
     // The submitter whose key it is, or the operator.
-    fn caller(&self, key: &Key) -> Option<Ident>
+    pub(crate) fn caller(&self, key: &Key) -> Option<Ident>
         ensures { result ≡ caller_on self.now.operator self.now.desk.host.history key.now }
     {
         match key {
@@ -94,7 +94,7 @@ impl<D: Disk, C: Clock> Room<D, C> {
     }
 
     // The history is legal, and a count of faults has a last value.
-    fn know_desk(&self)
+    pub(crate) fn know_desk(&self)
         ensures legal { IsLegal self.now.desk.host.history }
         ensures limited { self.now.desk.faults ≤ last_count }
         // Where nothing happens a crash leaves the history, or it and what is in doubt.

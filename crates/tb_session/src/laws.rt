@@ -17,6 +17,10 @@ ghost use Rattle.tb_session.specs.Openings.{opening_code};
 ghost use Rattle.tb_session.specs.Rooms.{room_means};
 ghost use Rattle.tb_session.specs.Crashes.{HasSeen, LeavesSeen};
 ghost use Rattle.tb_session.specs.Turned.{Calls};
+ghost use Rattle.tb_session.specs.Groups.{CallsTogether, Replied};
+ghost use Rattle.tb_message.specs.declared.key.Key.{Key};
+ghost use Rattle.tb_message.specs.declared.message.Message.{Message};
+ghost use Rattle.tb_units.specs.declared.moment.Moment.{Moment};
 ghost use Rattle.tb_session.specs.Session.{IsSession, Session, requests_in};
 
 use tb_disk::Disk;
@@ -46,7 +50,7 @@ pub fn all_served()
 {}
 
 /// A crash at the take of a turn leaves a history that begins with what the pass had seen, and so does each crash while
-/// a call is made in that turn. It does nothing.
+/// a call, or a group of bids, is made in that turn. It does nothing.
 pub fn crashes_keep_what_was_seen<D: Disk, C: Clock>()
     // By what `take` tells of the room, and what `Desk::entries` tells of each desk.
     ensures take { (before after : View) (room : Room D C) → IsTaken (room_means D.disk C.clock) before after room
@@ -55,5 +59,11 @@ pub fn crashes_keep_what_was_seen<D: Disk, C: Clock>()
     ensures turn { (before after : View) (old new : Room D C) (called : Called) (said : Answer)
         → IsTaken (room_means D.disk C.clock) before after old
         → Calls D.disk C.clock old new called said
+        → CrashesLeave (HasSeen before.seen) (D.disk old.desk.disk) (D.disk new.desk.disk) }
+    // So it is of bids that share the turn.
+    ensures group { (before after : View) (old new : Room D C) (key : Key) (messages : List (ℕ × Message))
+        (moment : Moment) (replied : List Replied)
+        → IsTaken (room_means D.disk C.clock) before after old
+        → CallsTogether D.disk C.clock old new key messages moment replied
         → CrashesLeave (HasSeen before.seen) (D.disk old.desk.disk) (D.disk new.desk.disk) }
 {}

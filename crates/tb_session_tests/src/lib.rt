@@ -3,6 +3,8 @@
 #![tactic(auto)]
 
 #[cfg(test)]
+mod group_tests;
+#[cfg(test)]
 mod held_tests;
 #[cfg(test)]
 mod tests;

@@ -91,15 +91,15 @@ fn last_reply(alloc: Global, line: &str, body: &str) -> Result<String, Fail> {
 
 /// What a link gives, in pieces of at most so many bytes, and which of its reads and writes fail.
 #[derive(Clone, Copy)]
-struct Given<'a> {
-    text: &'a str,
-    piece: usize,
-    failing_reads: &'a [u64],
-    failing_writes: &'a [u64],
+pub struct Given<'a> {
+    pub text: &'a str,
+    pub piece: usize,
+    pub failing_reads: &'a [u64],
+    pub failing_writes: &'a [u64],
 }
 
 /// A link that gives this text, and no call of it fails.
-fn whole(text: &str) -> Given<'_> {
+pub fn whole(text: &str) -> Given<'_> {
     Given {
         text,
         piece: 50,
@@ -305,7 +305,7 @@ fn a_link_is_answered_request_by_request(rt: HostRuntime) -> Result<(), Fail> {
 }
 
 /// Serves one link in the room. It ends so, and is replied this.
-fn ends<R: Wait + Abort>(
+pub fn ends<R: Wait + Abort>(
     rt: &R,
     alloc: Global,
     room: Memory,

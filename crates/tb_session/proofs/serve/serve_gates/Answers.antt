@@ -1,12 +1,20 @@
 -- The room comes back with all that was accepted.
-use Rattle.std.proofs.Common.{ap, arith}
+use Rattle.std.proofs.Common.{ap, arith, sym, ◌∙◌}
 use Rattle.tb_lock.specs.Passes.{view}
 use Rattle.tb_session.proofs.ClosingLemmas.{serves_all, not_shorter}
+use Rattle.tb_session.proofs.ServeLemmas.{reserved}
 use Rattle.tb_session.proofs.Shares.{whole-enough}
 use Rattle.tb_session.proofs.serve.serve_gates.Goals as goal
 
 pub turns-served-requires-clause-share : goal.turns-served-requires-clause-share
 turns-served-requires-clause-share g c κs within = whole-enough _ _ c.requires.few (ap (λ v. v.share) c.in-Ok.ensures.first)
+
+pub turns-served-requires-clause-room : goal.turns-served-requires-clause-room
+turns-served-requires-clause-room g c κs within = (
+  c.reserve.ensures.items ∙ c.new-workers.ensures.items,
+  (let room = reserved c.reserve.result _ c.reserve.ensures.ok (sym c.is_err.ensures.value ∙ c.if-is_err.false) in
+      omega (arith, room, c.len.ensures)),
+)
 
 pub overflow_sub-accepted : goal.overflow_sub-accepted
 overflow_sub-accepted g c =

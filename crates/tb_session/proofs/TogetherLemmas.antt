@@ -1,0 +1,466 @@
+-- A turn with several calls of one gate: what the lock has to be shown at its end, and what the pass gains by it.
+use Rattle.std.proofs.Common.{◌≡◌, ℕ, zero, suc, ◌-◌, ◌≤◌, ◌<◌, get_or, List, [], ◌∷◌, ◌++◌, length, map, Option, refl, sym, ap, ◌∙◌, subst, inl, inr, ⊎_elim, arith, append_assoc, length-append}
+use Rattle.std.specs.Prelude.{All, Any}
+use Rattle.std.proofs.lemmas.List.{append-nil, length-map}
+use Rattle.std.proofs.lemmas.List.Elements.{All-nil, All-cons, All-head, All-tail}
+use Rattle.tb_disk.specs.Disks.{DiskState}
+use Rattle.tb_gates.specs.Clocks.{ClockState}
+use Rattle.tb_desk.specs.Desks.{held}
+use Rattle.tb_message.specs.declared.message.Entry.{Entry}
+use Rattle.tb_message.specs.Spelling.{spelling}
+use Rattle.tb_lock.specs.declared.view.Call.{Call}
+use Rattle.tb_lock.specs.declared.view.View.{View}
+use Rattle.tb_lock.specs.Meanings.{History, IsPrefix}
+use Rattle.tb_lock.specs.Calls.{Stands, Leaves, added_if, accepted_of, calls_on}
+use Rattle.tb_lock.specs.Turns.{IsReadBetween, IsTaken, IsTimed, Adds, Doubts, MayGive, calls_of, given}
+use Rattle.tb_lock.proofs.CallerLemmas.{take-prefix}
+use Rattle.tb_lock.proofs.PrefixLemmas.{prefix-self, prefix-trans, any-first, any-later}
+use Rattle.tb_session.specs.declared.called.Outcome.{Outcome}
+use Rattle.tb_session.specs.declared.called.Outcome.TheVariants as outcome
+use Rattle.tb_session.specs.declared.room.Room.{Room}
+use Rattle.tb_session.specs.Calls.{ComesOut}
+use Rattle.tb_session.specs.Codes.{spelled_all, code_of, kind_at, kind_in, entry_in, entry_of, outcome_code, IsAnswered, Made, call_of}
+use Rattle.tb_session.specs.CodeLaws.{entry-code}
+use Rattle.tb_session.specs.Openings.{lock_code}
+use Rattle.tb_session.specs.Rooms.{room_means, fixed_of}
+use Rattle.tb_session.specs.Gains.{AreInOrder, IsTurn, left_by, Follows, StandsBeside, AreBeside, Gains}
+use Rattle.tb_session.specs.Turned.{SameHouse, added_by, Reads}
+use Rattle.tb_session.specs.Groups.{Replied, added_in, IsReplied, AreReplied, MayHaveLeft, DoTogether, told_back}
+use Rattle.tb_session.proofs.OpeningLemmas.{operator-locked}
+use Rattle.tb_session.proofs.OrderLemmas.{one-more}
+use Rattle.tb_session.proofs.TurnLemmas.{spelled-append, spelled-begins, added-spelled, accepted-entry, reads-timed, reads-given, left-begins}
+
+-- the calls as they were made, each on what the calls before it left
+abbrev pub made_from : List Entry → ℕ → ℕ → List Replied → List Made
+made_from at low high [] = []
+made_from at low high (r ∷ others) =
+    record { called = r.called; history = at; before = low; after = high }
+    ∷ made_from (at ++ added_by r.called.outcome) low high others
+
+-- one history begins another that is longer by these entries
+longer : (xs ys zs more : List Entry) → zs ≡ xs ++ (ys ++ more) → zs ≡ (xs ++ ys) ++ more
+longer xs ys zs more is = is ∙ sym (append_assoc xs ys more)
+
+-- what a call leaves is its history with its entry
+left-is : (r : Replied) (at : List Entry) (low high : ℕ)
+    → left_by (call_of (record { called = r.called; history = at; before = low; after = high }))
+    ≡ spelled_all (at ++ added_by r.called.outcome)
+left-is r at low high =
+    ap (λ (e : List ℕ). spelled_all at ++ added_if (kind_at (outcome_code r.called.outcome)) e []) (entry-code r.called)
+    ∙ (ap (λ (l : History). spelled_all at ++ l) (added-spelled r.called.outcome)
+    ∙ sym (spelled-append at (added_by r.called.outcome)))
+
+-- all calls from here on were answered on a history that begins with this one
+all-begin : (first : History) (replied : List Replied) (at : List Entry) (low high : ℕ)
+    → IsPrefix first (spelled_all at)
+    → All (λ m. IsPrefix first (spelled_all m.history)) (made_from at low high replied)
+all-begin first [] at low high begins = All-nil (λ (m : Made). IsPrefix first (spelled_all m.history))
+all-begin first (r ∷ replied) at low high begins =
+    let Begins : Made → Type 0 = λ (m : Made). IsPrefix first (spelled_all m.history) in
+    All-cons Begins (record { called = r.called; history = at; before = low; after = high })
+    (made_from (at ++ added_by r.called.outcome) low high replied) begins
+    (all-begin first replied (at ++ added_by r.called.outcome) low high
+    (prefix-trans first (spelled_all at) (spelled_all (at ++ added_by r.called.outcome)) begins
+    (spelled-begins at (added_by r.called.outcome) _ refl)))
+
+-- so what a call left begins the histories of those behind it, which have its counts
+all-beside : (call : Call) (replied : List Replied) (at : List Entry) (low high : ℕ)
+    → call.faults_before ≡ low
+    → call.faults_after ≡ high
+    → IsPrefix (left_by call) (spelled_all at)
+    → All (StandsBeside call) (map call_of (made_from at low high replied))
+all-beside call [] at low high before after begins = All-nil (StandsBeside call)
+all-beside call (r ∷ replied) at low high before after begins =
+    All-cons (StandsBeside call) (call_of (record { called = r.called; history = at; before = low; after = high }))
+    (map call_of (made_from (at ++ added_by r.called.outcome) low high replied))
+    (record { history = begins; before = before; after = after })
+    (all-beside call replied (at ++ added_by r.called.outcome) low high before after
+    (prefix-trans (left_by call) (spelled_all at) (spelled_all (at ++ added_by r.called.outcome)) begins
+    (spelled-begins at (added_by r.called.outcome) _ refl)))
+
+pub are-beside : (replied : List Replied) (at : List Entry) (low high : ℕ)
+    → AreBeside (map call_of (made_from at low high replied))
+are-beside [] at low high = tt
+are-beside (r ∷ replied) at low high =
+    let m : Made = record { called = r.called; history = at; before = low; after = high } in (
+      all-beside (call_of m) replied (at ++ added_by r.called.outcome) low high refl refl
+          (subst (λ (l : History). IsPrefix l (spelled_all (at ++ added_by r.called.outcome)))
+          (sym (left-is r at low high)) (prefix-self (spelled_all (at ++ added_by r.called.outcome)))),
+      are-beside replied (at ++ added_by r.called.outcome) low high,
+    )
+
+-- there are as many
+pub made-length : (replied : List Replied) (at : List Entry) (low high : ℕ)
+    → length (made_from at low high replied) ≡ length replied
+made-length [] at low high = refl
+made-length (r ∷ replied) at low high =
+    omega (arith, made-length replied (at ++ added_by r.called.outcome) low high)
+
+module _ {D C : Type 0} (disk : D → DiskState) (clock : C → ClockState) (v0 v : View) (old new : Room D C)
+    (taken : IsTaken (room_means disk clock) v0 v old) (replied : List Replied)
+    (does : DoTogether old.operator (held old.desk) (held new.desk) old.desk.faults new.desk.faults replied)
+    (same : SameHouse disk clock old new) (moments : (clock new.clock).moments ≡ (clock old.clock).moments)
+    (reads : All (λ r. Reads r.called.moment (clock old.clock) (clock new.clock)) replied) where
+  abbrev last : History
+  last = spelled_all new.desk.host.history
+
+  abbrev made : List Made
+  made = made_from does.at v.faults_taken new.desk.faults replied
+
+  abbrev calls : List Call
+  calls = map call_of made
+
+  -- the fixed part stays
+  fixed_old : fixed_of disk clock old ≡ v.fixed
+  fixed_old = taken.fixed ∙ sym taken.same_fixed
+
+  fixed_same : fixed_of disk clock new ≡ v.fixed
+  fixed_same =
+      ap (λ (name : List ℕ). lock_code name (disk new.desk.opened) new.desk.recovered (clock new.clock).moments)
+      same.operator
+      ∙ (ap (λ (opened : D). lock_code old.operator (disk opened) new.desk.recovered (clock new.clock).moments)
+      same.opened
+      ∙ (ap (λ (n : ℕ). lock_code old.operator (disk old.desk.opened) n (clock new.clock).moments) same.recovered
+      ∙ (ap (λ (m : Option (List ℕ)). lock_code old.operator (disk old.desk.opened) old.desk.recovered m) moments
+      ∙ fixed_old)))
+
+  -- one call, on the history on which it was answered
+  module _ (r : Replied) (at : List Entry) where
+    abbrev one : Made
+    one = record { called = r.called; history = at; before = v.faults_taken; after = new.desk.faults }
+
+    one_answered : IsReplied old.operator at old.desk.faults new.desk.faults r
+        → Reads r.called.moment (clock old.clock) (clock new.clock)
+        → IsAnswered v.fixed at r.called v.faults_taken new.desk.faults
+    one_answered is read =
+        let out : IsAnswered (fixed_of disk clock old) at r.called old.desk.faults new.desk.faults = record {
+          legal = is.legal;
+          in_range = is.in_range;
+          comes_out = subst (λ (name : List ℕ). ComesOut name at r.called r.called.outcome old.desk.faults
+              new.desk.faults)
+              (sym (operator-locked old.operator (disk old.desk.opened) old.desk.recovered (clock old.clock).moments))
+              is.comes_out;
+          given = is.given;
+          timed = reads-given old.operator (disk old.desk.opened) old.desk.recovered r.called.moment (clock old.clock)
+              (clock new.clock) read;
+        } in
+        subst (λ (f : List ℕ). IsAnswered f at r.called v.faults_taken new.desk.faults) fixed_old
+        (subst (λ (n : ℕ). IsAnswered (fixed_of disk clock old) at r.called n new.desk.faults) (sym taken.faults_taken)
+        out)
+
+    one_stands : IsReplied old.operator at old.desk.faults new.desk.faults r
+        → Reads r.called.moment (clock old.clock) (clock new.clock)
+        → IsPrefix (spelled_all (at ++ added_by r.called.outcome)) last
+        → Stands (room_means disk clock) v.fixed last (call_of one)
+    one_stands is read begins = record {
+      answered = record {
+        called = r.called;
+        history = at;
+        code_is = refl;
+        prefix_is = refl;
+        answered = one_answered is read;
+      };
+      prefix = prefix-trans (spelled_all at) (spelled_all (at ++ added_by r.called.outcome)) last
+          (spelled-begins at (added_by r.called.outcome) _ refl) begins;
+      entry = λ accepted. subst (λ (l : History). IsPrefix l last)
+          (spelled-append at (added_by r.called.outcome)
+          ∙ ap (λ (l : History). spelled_all at ++ l)
+          (sym (accepted-entry r.called.outcome accepted) ∙ ap (λ (e : List ℕ). e ∷ []) (sym (entry-code r.called))))
+          begins;
+    }
+
+    one_timed : Reads r.called.moment (clock old.clock) (clock new.clock) → IsTimed (room_means disk clock) v new (call_of one)
+    one_timed read seconds is =
+        let found = reads-timed r.called.moment (clock old.clock) (clock new.clock) read seconds is in (
+          found.0,
+          subst (λ (n : ℕ). IsReadBetween n (clock new.clock).readings)
+              (sym taken.readings) found.1,
+        )
+
+  -- the same of all calls from here on
+  all_stand : (others : List Replied) (at : List Entry)
+      → AreReplied old.operator at old.desk.faults new.desk.faults others
+      → All (λ r. Reads r.called.moment (clock old.clock) (clock new.clock)) others
+      → new.desk.host.history ≡ at ++ added_in others
+      → All (Stands (room_means disk clock) v.fixed last)
+      (map call_of (made_from at v.faults_taken new.desk.faults others))
+  all_stand [] at are read is = All-nil (Stands (room_means disk clock) v.fixed last)
+  all_stand (r ∷ others) at are read is =
+      let Read : Replied → Type 0 = λ (x : Replied). Reads x.called.moment (clock old.clock) (clock new.clock) in
+      let next = longer at (added_by r.called.outcome) new.desk.host.history (added_in others) is in
+      All-cons (Stands (room_means disk clock) v.fixed last) (call_of (one r at)) _
+      (one_stands r at are.0 (All-head Read r others read)
+      (spelled-begins (at ++ added_by r.called.outcome) (added_in others) _ next))
+      (all_stand others (at ++ added_by r.called.outcome) are.1 (All-tail Read r others read) next)
+
+  all_answered : (others : List Replied) (at : List Entry)
+      → AreReplied old.operator at old.desk.faults new.desk.faults others
+      → All (λ r. Reads r.called.moment (clock old.clock) (clock new.clock)) others
+      → All (λ m. IsAnswered v.fixed m.history m.called m.before m.after)
+      (made_from at v.faults_taken new.desk.faults others)
+  all_answered [] at are read = All-nil (λ (m : Made). IsAnswered v.fixed m.history m.called m.before m.after)
+  all_answered (r ∷ others) at are read =
+      let Read : Replied → Type 0 = λ (x : Replied). Reads x.called.moment (clock old.clock) (clock new.clock) in
+      All-cons (λ (m : Made). IsAnswered v.fixed m.history m.called m.before m.after) (one r at) _
+      (one_answered r at are.0 (All-head Read r others read))
+      (all_answered others (at ++ added_by r.called.outcome) are.1 (All-tail Read r others read))
+
+  all_timed : (others : List Replied) (at : List Entry)
+      → All (λ r. Reads r.called.moment (clock old.clock) (clock new.clock)) others
+      → All (IsTimed (room_means disk clock) v new) (map call_of (made_from at v.faults_taken new.desk.faults others))
+  all_timed [] at read = All-nil (IsTimed (room_means disk clock) v new)
+  all_timed (r ∷ others) at read =
+      let Read : Replied → Type 0 = λ (x : Replied). Reads x.called.moment (clock old.clock) (clock new.clock) in
+      All-cons (IsTimed (room_means disk clock) v new) (call_of (one r at)) _
+      (one_timed r at (All-head Read r others read))
+      (all_timed others (at ++ added_by r.called.outcome) (All-tail Read r others read))
+
+  -- the entries that the lock adds are those that the calls add
+  all_added : (others : List Replied) (at : List Entry)
+      → accepted_of (room_means disk clock) v.fixed (map call_of (made_from at v.faults_taken new.desk.faults others))
+      ≡ spelled_all (added_in others)
+  all_added [] at = refl
+  all_added (r ∷ others) at =
+      let more : History = accepted_of (room_means disk clock) v.fixed
+      (map call_of (made_from (at ++ added_by r.called.outcome) v.faults_taken new.desk.faults others)) in
+      ap (λ (e : List ℕ). added_if (kind_at (outcome_code r.called.outcome)) e more) (entry-code r.called)
+      ∙ (added-front r.called.outcome more
+      ∙ (ap (λ (l : History). spelled_all (added_by r.called.outcome) ++ l)
+      (all_added others (at ++ added_by r.called.outcome))
+      ∙ sym (spelled-append (added_by r.called.outcome) (added_in others))))
+    where
+      added-front : (o : Outcome) (more : History)
+          → added_if (kind_at (outcome_code o)) (entry_of o) more ≡ spelled_all (added_by o) ++ more
+      added-front (outcome.Added e) more = refl
+      added-front (outcome.Stood e) more = refl
+      added-front (outcome.Doubted e) more = refl
+      added-front outcome.Told more = refl
+      added-front outcome.Lacked more = refl
+
+  -- as the lock is told them
+  all_told : (others : List Replied) (at : List Entry)
+      → new.desk.host.history ≡ at ++ added_in others
+      → calls_on last v.faults_taken new.desk.faults (told_back (length new.desk.host.history) others)
+      ≡ map call_of (made_from at v.faults_taken new.desk.faults others)
+  all_told [] at is = refl
+  all_told (r ∷ others) at is =
+      let next = longer at (added_by r.called.outcome) new.desk.host.history (added_in others) is in
+      let count : ℕ = length new.desk.host.history - length (added_in (r ∷ others)) in
+      let counted : count ≡ length at =
+      omega (arith, ap length is, length-append at (added_in (r ∷ others))) in
+      ap (λ (l : History). record {
+        code = code_of r.called;
+        prefix = l;
+        faults_before = v.faults_taken;
+        faults_after = new.desk.faults;
+      } ∷ calls_on last v.faults_taken new.desk.faults (told_back (length new.desk.host.history) others))
+      (take-prefix count (spelled_all at) last
+      (spelled-begins at (added_in (r ∷ others)) new.desk.host.history is) (counted ∙ sym (length-map at spelling)))
+      ∙ ap (λ (l : List Call). call_of (one r at) ∷ l) (all_told others (at ++ added_by r.called.outcome) next)
+
+  seen_old : v.seen ≡ spelled_all old.desk.host.history
+  seen_old = taken.seen
+
+  seen_at : IsPrefix v.seen (spelled_all does.at)
+  seen_at =
+      subst (λ (l : History). IsPrefix l (spelled_all does.at)) (sym seen_old)
+      (⊎_elim (λ is. spelled-begins _ [] _ (is ∙ sym (append-nil _))) (λ is. spelled-begins _ old.desk.doubt _ is)
+      does.settled)
+
+  all_seen : (first : History) → IsPrefix first (spelled_all does.at) → All (λ (c : Call). IsPrefix first c.prefix) calls
+  all_seen first begins =
+      All-mapped (λ (c : Call). IsPrefix first c.prefix) made
+      (all-begin first replied does.at v.faults_taken new.desk.faults begins)
+    where
+      All-mapped : (P : Call → Type 0) (ms : List Made) → All (λ m. P (call_of m)) ms → All P (map call_of ms)
+      All-mapped P [] all = All-nil P
+      All-mapped P (m ∷ ms) all =
+          All-cons P (call_of m) (map call_of ms) (All-head (λ (x : Made). P (call_of x)) m ms all)
+          (All-mapped P ms (All-tail (λ (x : Made). P (call_of x)) m ms all))
+
+  new_is : last ≡ spelled_all does.at ++ accepted_of (room_means disk clock) v.fixed calls
+  new_is =
+      ap (λ (l : List Entry). spelled_all l) does.grown
+      ∙ (spelled-append does.at (added_in replied)
+      ∙ ap (λ (l : History). spelled_all does.at ++ l) (sym (all_added replied does.at)))
+
+  adds_them : Adds (room_means disk clock) v calls last
+  adds_them = ⊎_elim
+      (λ is. record {
+        group = [];
+        resolved = inl refl;
+        grown = new_is
+            ∙ ap (λ (l : History). l ++ accepted_of (room_means disk clock) v.fixed calls)
+            (ap (λ (l : List Entry). spelled_all l) is ∙ sym seen_old);
+      })
+      (λ is. record {
+        group = spelled_all old.desk.doubt;
+        resolved = inr (sym taken.doubt);
+        grown = new_is
+            ∙ (ap (λ (l : History). l ++ accepted_of (room_means disk clock) v.fixed calls)
+            (ap (λ (l : List Entry). spelled_all l) is
+            ∙ (spelled-append _ _ ∙ ap (λ (l : History). l ++ spelled_all old.desk.doubt) (sym seen_old)))
+            ∙ append_assoc v.seen _ _);
+      })
+      does.settled
+
+  -- an entry that a call may have left is left by one of the lock's calls
+  leaves_one : (e : Entry) (others : List Replied) (at : List Entry) → Any (MayHaveLeft e) others
+      → Any (Leaves (room_means disk clock) v.fixed (spelling e))
+      (map call_of (made_from at v.faults_taken new.desk.faults others))
+  leaves_one e [] at any = absurd (let lt = any.2 in let bad : ⊥ = omega (arith, lt) in bad)
+  leaves_one e (r ∷ others) at any =
+      go (λ some. leaves_one e others (at ++ added_by r.called.outcome) some) any.0 any.1 any.2 any.3 any.4
+    where
+      go : (Any (MayHaveLeft e) others → Any (Leaves (room_means disk clock) v.fixed (spelling e))
+          (map call_of (made_from (at ++ added_by r.called.outcome) v.faults_taken new.desk.faults others)))
+          → (k : ℕ) (x : Replied)
+          → k < length (r ∷ others)
+          → get_or (r ∷ others) k x ≡ x
+          → MayHaveLeft e x
+          → Any (Leaves (room_means disk clock) v.fixed (spelling e))
+          (map call_of (made_from at v.faults_taken new.desk.faults (r ∷ others)))
+      go later zero x lt is left =
+          let came : r.called.outcome ≡ outcome.Doubted e = ap (λ (y : Replied). y.called.outcome) is ∙ left in
+          any-first (Leaves (room_means disk clock) v.fixed (spelling e)) (call_of (one r at)) _ (
+            ap (λ (o : Outcome). kind_at (outcome_code o)) came,
+            entry-code r.called ∙ ap (λ (o : Outcome). entry_of o) came,
+          )
+      go later (suc k) x lt is left =
+          any-later (Leaves (room_means disk clock) v.fixed (spelling e)) (call_of (one r at)) _
+          (later (k, x, omega (arith, lt), is, left))
+
+  leaves_all : (entries : List Entry) → All (λ e. Any (MayHaveLeft e) replied) entries
+      → All (λ (e : List ℕ). Any (Leaves (room_means disk clock) v.fixed e) calls) (spelled_all entries)
+  leaves_all [] all = All-nil (λ (e : List ℕ). Any (Leaves (room_means disk clock) v.fixed e) calls)
+  leaves_all (e ∷ entries) all =
+      let Left : Entry → Type 0 = λ (x : Entry). Any (MayHaveLeft x) replied in
+      All-cons (λ (x : List ℕ). Any (Leaves (room_means disk clock) v.fixed x) calls) (spelling e) (spelled_all entries)
+      (leaves_one e replied does.at (All-head Left e entries all)) (leaves_all entries (All-tail Left e entries all))
+
+  doubts_them : Doubts (room_means disk clock) v calls last (spelled_all new.desk.doubt)
+  doubts_them = ⊎_elim
+      (λ none. inl (ap (λ (l : List Entry). spelled_all l) none))
+      (λ some. ⊎_elim
+      (λ kept. inr (inl (
+        ap (λ (l : List Entry). spelled_all l) kept.0 ∙ sym taken.doubt,
+        ap (λ (l : List Entry). spelled_all l) kept.1 ∙ sym seen_old,
+      )))
+      (λ left. inr (inr (leaves_all new.desk.doubt left)))
+      some)
+      does.doubt
+
+  least : v.faults_taken ≤ new.desk.faults
+  least = omega (arith, does.least, taken.faults_taken)
+
+  may_calls : MayGive (room_means disk clock) v calls new
+  may_calls = record {
+    stand = all_stand replied does.at does.answered reads does.grown;
+    begin = all_seen v.seen seen_at;
+    timed = all_timed replied does.at reads;
+    fixed = fixed_same;
+    faults = least;
+    adds = adds_them;
+    doubts = doubts_them;
+  }
+
+  told_is : calls_of (room_means disk clock) v new (told_back (length new.desk.host.history) replied) ≡ calls
+  told_is = all_told replied does.at does.grown
+
+  -- the turn may end
+  pub may-together : MayGive (room_means disk clock) v
+      (calls_of (room_means disk clock) v new (told_back (length new.desk.host.history) replied)) new
+  may-together = subst (λ (l : List Call). MayGive (room_means disk clock) v l new) (sym told_is) may_calls
+
+  begin : IsPrefix v0.seen (spelled_all does.at)
+  begin =
+      prefix-trans v0.seen v.seen (spelled_all does.at)
+      (subst (λ (l : History). IsPrefix v0.seen l) (sym seen_old) taken.begins) seen_at
+
+  old_at : IsPrefix (spelled_all old.desk.host.history) (spelled_all does.at)
+  old_at = subst (λ (l : History). IsPrefix l (spelled_all does.at)) seen_old seen_at
+
+  -- all of them follow each call that the pass had
+  follow_from : (c : Call) (others : List Replied) (at : List Entry)
+      → IsPrefix (left_by c) (spelled_all at)
+      → c.faults_after ≤ v.faults_taken
+      → All (Follows c) (map call_of (made_from at v.faults_taken new.desk.faults others))
+  follow_from c [] at begins most = All-nil (Follows c)
+  follow_from c (r ∷ others) at begins most =
+      All-cons (Follows c) (call_of (one r at)) _ (record { history = begins; faults = most })
+      (follow_from c others (at ++ added_by r.called.outcome)
+      (prefix-trans (left_by c) (spelled_all at) (spelled_all (at ++ added_by r.called.outcome)) begins
+      (spelled-begins at (added_by r.called.outcome) _ refl)) most)
+
+  follows_all : All (λ c. All (Follows c) calls) v0.mine
+  follows_all = λ k d lt.
+      let c = get_or v0.mine k d in
+      let s = taken.stand k d lt in
+      follow_from c replied does.at
+      (prefix-trans (left_by c) (spelled_all old.desk.host.history) (spelled_all does.at)
+      (left-begins c (kind_in c.code) (entry_in c.code) (spelled_all old.desk.host.history) s.prefix s.entry) old_at)
+      (let most = (taken.counts k d lt).most in omega (arith, most, taken.faults_taken))
+
+  gains_calls : IsTurn made
+      → Gains v0 (given (room_means disk clock) v calls new) made
+  gains_calls turn = record {
+    mine = ap (λ (l : List Call). l ++ calls) taken.mine;
+    answered = subst (λ (f : List ℕ). All (λ (m : Made). IsAnswered f m.history m.called m.before m.after) made)
+        taken.same_fixed (all_answered replied does.at does.answered reads);
+    begin = all-begin v0.seen replied does.at v.faults_taken new.desk.faults begin;
+    seen = prefix-trans v0.seen (spelled_all does.at) last begin
+        (spelled-begins does.at (added_in replied) _ does.grown);
+    turns = made ∷ [];
+    cut = sym (append-nil made);
+    each = All-cons IsTurn made [] turn (All-nil IsTurn);
+    order = one-more v0.mine made (are-beside replied does.at v.faults_taken new.desk.faults) follows_all;
+    share = taken.share;
+    fixed = taken.same_fixed;
+    opening = taken.opening;
+    opening_faults = taken.opening_faults;
+  }
+
+  -- and the pass gained these calls
+  pub gains-together : IsTurn made
+      → Gains v0 (given (room_means disk clock) v
+      (calls_of (room_means disk clock) v new (told_back (length new.desk.host.history) replied)) new) made
+  gains-together turn =
+      subst (λ (l : List Call). Gains v0 (given (room_means disk clock) v l new) made) (sym told_is) (gains_calls turn)
+
+  -- no call is told where nothing changed
+  module _ (history : new.desk.host.history ≡ old.desk.host.history) (doubt : new.desk.doubt ≡ old.desk.doubt) where
+    pub may-nothing : MayGive (room_means disk clock) v [] new
+    may-nothing = record {
+      stand = All-nil (Stands (room_means disk clock) v.fixed last);
+      begin = All-nil (λ (c : Call). IsPrefix v.seen c.prefix);
+      timed = All-nil (IsTimed (room_means disk clock) v new);
+      fixed = fixed_same;
+      faults = least;
+      adds = record {
+        group = [];
+        resolved = inl refl;
+        grown = ap (λ (l : List Entry). spelled_all l) history ∙ (sym seen_old ∙ sym (append-nil v.seen));
+      };
+      doubts = inr (inl (
+        ap (λ (l : List Entry). spelled_all l) doubt ∙ sym taken.doubt,
+        ap (λ (l : List Entry). spelled_all l) history ∙ sym seen_old,
+      ));
+    }
+
+    -- and the pass gained none
+    pub gains-none : Gains v0 (given (room_means disk clock) v [] new) []
+    gains-none = record {
+      mine = ap (λ (l : List Call). l ++ []) taken.mine;
+      answered = All-nil (λ (m : Made). IsAnswered v0.fixed m.history m.called m.before m.after);
+      begin = All-nil (λ (m : Made). IsPrefix v0.seen (spelled_all m.history));
+      seen = subst (λ (l : History). IsPrefix v0.seen l) (sym (ap (λ (l : List Entry). spelled_all l) history))
+          taken.begins;
+      turns = [];
+      cut = refl;
+      each = All-nil IsTurn;
+      order = λ earlier is ordered. subst AreInOrder (sym (append-nil earlier)) ordered;
+      share = taken.share;
+      fixed = taken.same_fixed;
+      opening = taken.opening;
+      opening_faults = taken.opening_faults;
+    }
