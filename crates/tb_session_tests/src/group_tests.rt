@@ -205,7 +205,10 @@ fn bids_that_share_a_gate_are_told_a_fault_together(rt: HostRuntime) -> Result<(
     let fault = reply(alloc, "503 Service Unavailable", "unavailable DiskFault\n")?;
     let accepted = both_accepted(alloc)?;
     let expected = format!(in alloc; "{fault}{fault}{accepted}")?;
-    let calls = opened(&rt, alloc, Vec::new(alloc))?.desk.into_disk().calls();
+    let calls = opened(&rt, alloc, Vec::new(alloc))?
+        .desk
+        .into_disk()
+        .calls();
     let fails = vec![in alloc; calls.saturating_add(3); 1]?;
     let _ = serve_pieces(&rt, alloc, fails, &text, pair.len(), &expected)?;
     Ok(())
