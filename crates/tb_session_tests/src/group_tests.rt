@@ -104,7 +104,7 @@ fn two_bids_of_a_key_stand_under_one_gate(rt: HostRuntime) -> Result<(), Fail> {
         &after.contents()[size - 1..size + 4],
         b"\x01\0\0\0\x5c".as_slice()
     );
-    assert_eq!(rt; after.calls(), before.calls() + 4);
+    assert_eq!(rt; after.calls(), before.calls().saturating_add(4));
     Ok(())
 }
 
