@@ -5,4 +5,5 @@ pub mod HolderLemmas
 pub mod MarkLemmas
 pub mod LeftLemmas
 pub mod KeptLemmas
+pub mod NextLemmas
 pub mod RunLemmas

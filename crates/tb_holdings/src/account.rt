@@ -1,5 +1,5 @@
 //! Accounts: what each holder holds of each security, in order of holder and then security.
-ghost use Rattle.std.specs.Prelude.{◌≡◌, ◌≢◌, ◌+◌, ◌^◌, ◌<◌, ◌≤◌, ◌++◌, length, filter, vec_len, vec_capacity, IfOk, IfErr};
+ghost use Rattle.std.specs.Prelude.{◌≡◌, ◌≢◌, ◌+◌, ◌^◌, ◌<◌, ◌≤◌, ◌++◌, length, filter, vec_len, vec_capacity, ℕ, IfOk, IfErr, IfSome, IsNone};
 ghost use Rattle.tb_holdings.specs.Holdings.{is_of, AreInOrder, HoldSomething, held_in, total_in, with_held, moved, without, comes_before, StandsAt, IsMissingAt};
 ghost use Rattle.tb_units.specs.Places.{IsPlace};
 
@@ -77,6 +77,23 @@ pub fn held_by(accounts: &[Account], holder: u32, security: u32) -> u128
     match find_account(accounts, holder, security) {
         Ok(place) => accounts[place].held,
         Err(_) => 0,
+    }
+}
+
+/// The next security, from this one on, of which the holder holds something.
+pub fn next_held(accounts: &[Account], holder: u32, from: u32) -> Option<u32>
+    requires in_order { AreInOrder accounts.now }
+    requires none_empty { HoldSomething accounts.now }
+    ensures next { IfSome result (λ next. (from ≤ next) × (0 < held_in holder next accounts.now)) }
+    ensures none_between { IfSome result (λ next. (security : ℕ) → from ≤ security → security < next
+        → held_in holder security accounts.now ≡ 0) }
+    ensures none { IsNone result → (security : ℕ) → from ≤ security → held_in holder security accounts.now ≡ 0 }
+{
+    let place = place_of(accounts, holder, from);
+    if place < accounts.len() && accounts[place].holder == holder {
+        Some(accounts[place].security)
+    } else {
+        None
     }
 }
 

@@ -6,7 +6,9 @@ ghost use Rattle.tb_holdings.specs.Marks.{new_mark, left_at, with_mark, released
 ghost use Rattle.tb_holdings.specs.Book.{Book, held_of, pledged_of, free_of, paid_of, total_of, mark_of, open_marks_of, IsRedeemed, most_held, most_open, IsKept, SameLists, ChangesAccountsOnly, ChangesMarksOnly, KeepsOthers, TakesRoom};
 ghost use Rattle.tb_holdings.specs.Refusals.{IsPledgeCause, IsReleaseCause, MayRelease};
 
-use crate::account::{Account, close_accounts, held_by, held_by_all, move_held, set_held};
+use crate::account::{
+    Account, close_accounts, held_by, held_by_all, move_held, next_held, set_held,
+};
 use crate::mark::{KeptMark, Mark};
 use crate::marks::Marks;
 use crate::refusals::{InsufficientFree, PledgeRefused, ReleaseRefused};
@@ -269,6 +271,17 @@ impl Accounts {
         Dollars {
             value: held_by(&self.accounts, holder, security),
         }
+    }
+
+    /// The next security, from this one on, of which the holder holds something.
+    pub fn next_held(&self, holder: u32, from: u32) -> Option<u32>
+        ensures next { IfSome result (λ next. (from ≤ next) × (0 < held_of holder next self.now)) }
+        ensures none_between { IfSome result (λ next. (security : ℕ) → from ≤ security → security < next
+            → held_of holder security self.now ≡ 0) }
+        ensures none { IsNone result → (security : ℕ) → from ≤ security → held_of holder security self.now ≡ 0 }
+        ensures laws { IsKept self.now }
+    {
+        next_held(&self.accounts, holder, from)
     }
 
     /// What is pledged of the holder's par of the security.

@@ -81,7 +81,8 @@ pub AreCounts-more : {K : Type 0} (compare : K → K → Ordering) (keys : List 
 AreCounts-more {K} compare keys counts key at found kept order =
     let new : Count _ = record { key = found.key; count = found.count + 1 } in
     let before : K → ℕ = λ k. number_of compare k keys in
-    AreCounted-set compare before (λ k. number_of compare k (keys ++ key ∷ [])) counts key at new kept.total order kept.are kept.has
+    AreCounted-set compare before (λ k. number_of compare k (keys ++ key ∷ [])) counts key at new kept.total order
+    kept.are kept.has
     (kept-key compare before counts key at found new kept refl)
     (number_of-more compare found.key keys key (kept-equal compare before counts key at found kept)
     ∙ ap (λ n. n + 1) (kept-number compare before counts key at found kept))
@@ -99,7 +100,8 @@ AreCounts-fewer {K} compare keys counts key at found kept order =
     let same = kept-equal compare before counts key at found kept in
     let more = number_of-more compare found.key keys key same in
     let counted = kept-number compare before counts key at found kept in
-    AreCounted-set compare before (λ k. number_of compare k keys) counts key at new kept.total order kept.are kept.has
+    AreCounted-set compare before (λ k. number_of compare k keys) counts key at new kept.total order
+    kept.are kept.has
     (kept-key compare before counts key at found new kept refl)
     (omega (arith, more, counted))
     (λ other differs. sym (number_of-other compare other keys key differs))

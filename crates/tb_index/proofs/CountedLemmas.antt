@@ -43,8 +43,8 @@ AreCounted-kept compare count_of counts key at count alike are has is =
     ∙ (are.each at count has.within ∙ ap (λ (c : Count _). c.count) (sym is)))
 
 -- a key that isn't kept gets its count, where all others have theirs
-pub AreCounted-new : {K : Type 0} (compare : K → K → Ordering) (before after : K → ℕ) (counts : List (Count K)) (key : K)
-    (count i : ℕ)
+pub AreCounted-new : {K : Type 0} (compare : K → K → Ordering) (before after : K → ℕ) (counts : List (Count K))
+    (key : K) (count i : ℕ)
     → IsTotalOrder compare
     → AreCounted compare before counts
     → ¬ (HasKey compare key_in key counts)
@@ -106,8 +106,8 @@ HasKey-set compare key counts i new some same has =
     )
 
 -- the count of a key is changed, where all others have theirs
-pub AreCounted-set : {K : Type 0} (compare : K → K → Ordering) (before after : K → ℕ) (counts : List (Count K)) (key : K)
-    (i : ℕ) (new : Count K)
+pub AreCounted-set : {K : Type 0} (compare : K → K → Ordering) (before after : K → ℕ) (counts : List (Count K))
+    (key : K) (i : ℕ) (new : Count K)
     → IsTotalOrder compare
     → AreOrdered compare key_in (set counts i new)
     → AreCounted compare before counts
@@ -160,16 +160,16 @@ AreCounted-set {K} compare before after counts key i new total order are has sam
 }
 
 -- the count of a key that is kept, as it is read, is changed
-pub record IsKept {K : Type 0} (compare : K → K → Ordering) (count_of : K → ℕ) (counts : List (Count K)) (key : K) (at : ℕ)
-    (found : Count K) : Type 0 where
+pub record IsKept {K : Type 0} (compare : K → K → Ordering) (count_of : K → ℕ) (counts : List (Count K)) (key : K)
+    (at : ℕ) (found : Count K) : Type 0 where
   pub total : IsTotalOrder compare
   pub are : AreCounted compare count_of counts
   pub has : HasKeyAt compare key_in key counts at
   pub is : found ≡ get_or counts at found
 
 -- the other count has the same key
-pub kept-key : {K : Type 0} (compare : K → K → Ordering) (count_of : K → ℕ) (counts : List (Count K)) (key : K) (at : ℕ)
-    (found new : Count K)
+pub kept-key : {K : Type 0} (compare : K → K → Ordering) (count_of : K → ℕ) (counts : List (Count K)) (key : K)
+    (at : ℕ) (found new : Count K)
     → IsKept compare count_of counts key at found
     → new.key ≡ found.key
     → HoldsAt (λ (old : Count K). new.key ≡ old.key) counts at
@@ -177,8 +177,8 @@ kept-key compare count_of counts key at found new kept same =
     λ d. same ∙ ap key_in (kept.is ∙ get_or_default counts at found d kept.has.within)
 
 -- the key equals the one that is kept
-pub kept-equal : {K : Type 0} (compare : K → K → Ordering) (count_of : K → ℕ) (counts : List (Count K)) (key : K) (at : ℕ)
-    (found : Count K)
+pub kept-equal : {K : Type 0} (compare : K → K → Ordering) (count_of : K → ℕ) (counts : List (Count K)) (key : K)
+    (at : ℕ) (found : Count K)
     → IsKept compare count_of counts key at found
     → is_eq (compare key found.key) ≡ true
 kept-equal compare count_of counts key at found kept =
@@ -186,8 +186,8 @@ kept-equal compare count_of counts key at found kept =
     (ap (λ c. compare (key_in c) key) kept.is ∙ kept.has.same found))
 
 -- and has the count that is kept
-pub kept-number : {K : Type 0} (compare : K → K → Ordering) (count_of : K → ℕ) (counts : List (Count K)) (key : K) (at : ℕ)
-    (found : Count K)
+pub kept-number : {K : Type 0} (compare : K → K → Ordering) (count_of : K → ℕ) (counts : List (Count K)) (key : K)
+    (at : ℕ) (found : Count K)
     → IsKept compare count_of counts key at found
     → count_of found.key ≡ found.count
 kept-number compare count_of counts key at found kept =

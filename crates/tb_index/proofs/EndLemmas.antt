@@ -207,7 +207,8 @@ end_of-kept compare keys ends key at end total are has is =
     (λ one other equal. end_of-same compare one other keys total equal) are has is
 
 -- a key that isn't kept gets the end of the list
-pub AreEnds-new : {K : Type 0} (compare : K → K → Ordering) (keys : List K) (ends : List (Count K)) (key : K) (end i : ℕ)
+pub AreEnds-new : {K : Type 0} (compare : K → K → Ordering) (keys : List K) (ends : List (Count K)) (key : K)
+    (end i : ℕ)
     → IsTotalOrder compare
     → length keys + 1 ≡ end
     → AreEnds compare keys ends

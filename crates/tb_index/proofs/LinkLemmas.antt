@@ -6,6 +6,8 @@ use Rattle.std.specs.declared.cmp.Ordering.{Ordering}
 use Rattle.std.specs.declared.cmp.Ordering.TheVariants.{Equal}
 use Rattle.std.proofs.lemmas.Bool.{cases_lt}
 use Rattle.std.proofs.lemmas.List.{append_assoc, get_or-map, get_or-take, get_or_default, get_or_append_left, get_or_push, length-map, length-take-le, length_push, reverse-append, take-append-le, take-map, take-take, take_at}
+use Rattle.std.specs.Ordering.{is_eq}
+use Rattle.std.proofs.lemmas.Cmp.{tied_itself}
 use Rattle.tb_blocks.proofs.OrderLemmas.{equal-is}
 use Rattle.tb_index.specs.Indexes.{end_by, end_of, AreLinks}
 use Rattle.tb_index.proofs.KeyLemmas.{Matches}
@@ -62,7 +64,8 @@ AreLinks-pop compare keys links key link are =
       },
       sym (sym (get_or_push links link link (length keys) long)
           ∙ (are.each (length keys) key link (omega (arith, more))
-          ∙ (ap (λ x. end_of compare x (take (length keys) (keys ++ key ∷ []))) (get_or_push keys key key (length keys) refl)
+          ∙ (ap (λ x. end_of compare x (take (length keys) (keys ++ key ∷ [])))
+          (get_or_push keys key key (length keys) refl)
           ∙ ap (λ front. end_of compare key front) (take_at keys (key ∷ []) (length keys) refl)))),
     )
 
@@ -170,3 +173,17 @@ pub next-smaller : {X : Type 0} (p : X → Bool) (rows : List X) (end next : ℕ
 next-smaller p rows end next within some is =
     let long : length (take (end - 1) rows) ≡ end - 1 = length-take-le (end - 1) rows (omega (arith, within)) in
     omega (arith, is, long, some, end_by-within p (take (end - 1) rows))
+
+-- the link of a row leads to the end of its own key before it
+pub link-own : {X K : Type 0} (same : K → K → Bool) (compare : K → K → Ordering) (key_of : X → K) (rows : List X)
+    (links : List ℕ) (n link : ℕ) (d : X)
+    → Matches same compare
+    → IsTotalOrder compare
+    → AreLinks compare (map key_of rows) links
+    → n < length rows
+    → link ≡ get_or links n link
+    → link ≡ end_by (λ row. same (key_of row) (key_of (get_or rows n d))) (take n rows)
+link-own same compare key_of rows links n link d matches total are short is =
+    let one = key_of (get_or rows n d) in
+    link-is same compare key_of one rows links n link d matches total are short is
+    (matches one one ∙ ap is_eq (tied_itself total one))

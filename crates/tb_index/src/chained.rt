@@ -13,8 +13,8 @@ use std::marker::Model;
 use tb_blocks::Ordered;
 use tb_units::OutOfMemory;
 
-/// Rows in the order of adding, found by one key, counted by another, and gone through by a third. Contracts see the list
-/// of the rows, and how many adds are sure.
+/// Rows in the order of adding, found by one key, counted by another, and gone through by a third. Contracts see the
+/// list of the rows, and how many adds are sure.
 #[derive(Drop)]
 pub struct Chained<T, By: KeyOf<T>, Of: KeyOf<T>, In: KeyOf<T>> {
     counted: Counted<T, By, Of>,

@@ -10,8 +10,6 @@ mod keys;
 mod latest;
 mod links;
 mod places;
-#[cfg(test)]
-mod tests;
 mod twice_keyed;
 
 pub use chained::Chained;

@@ -1,7 +1,10 @@
 //! Rows that are found by either of two keys.
-ghost use Rattle.std.specs.Prelude.{◌≡◌, ◌+◌, ◌<◌, ◌≤◌, ◌↔◌, [], ◌∷◌, ◌++◌, option_copied, IsNone, IfSome, OnOk};
-ghost use Rattle.std.specs.List.{find, list_any, position};
+ghost use Rattle.std.specs.Prelude.{◌≡◌, ◌+◌, ◌<◌, ◌≤◌, ◌↔◌, [], ◌∷◌, ◌++◌, length, take, option_copied, IsNone, IfSome, OnOk};
+ghost use Rattle.std.specs.List.{HoldsAt, find, list_any, position};
+ghost use Rattle.tb_index.specs.Indexes.{end_by};
 
+use crate::counts::Counts;
+use crate::ends::{add_end, end_in, take_end};
 use crate::keyed::Keyed;
 use crate::keys::KeyOf;
 use crate::places::{Places, add_place, first_place, take_place};
@@ -16,18 +19,27 @@ use tb_units::OutOfMemory;
 pub struct TwiceKeyed<T, By: KeyOf<T>, Or: KeyOf<T>> {
     keyed: Keyed<T, By>,
     places: Places<Or::Key>,
+    ends: Counts<Or::Key>,
+    // For each row, how many rows there are up to the one before it with its other key.
+    links: Vec<usize>,
 }
 
 impl<T, By: KeyOf<T>, Or: KeyOf<T>> Model for TwiceKeyed<T, By, Or> {
-    ghost use Rattle.std.specs.Prelude.{min, map};
+    ghost use Rattle.std.specs.Prelude.{◌-◌, min, map, vec_len, vec_capacity};
     ghost use Rattle.tb_index.specs.Listed.{Listed};
-    ghost use Rattle.tb_index.specs.Indexes.{ArePlaces};
+    ghost use Rattle.tb_index.specs.Indexes.{AreEnds, AreLinks, ArePlaces};
 
     ghost Value = { Listed T };
 
-    ghost view = { λ twice. record { list = twice.keyed.list; spare = min twice.keyed.spare twice.places.spare } };
+    ghost view = { λ twice. record {
+      list = twice.keyed.list;
+      spare = min (min twice.keyed.spare twice.places.spare)
+          (min (vec_capacity twice.links - vec_len twice.links) twice.ends.spare);
+    } };
 
-    ghost invariant = { λ twice. ArePlaces Or.Key.cmp (map Or.key_of twice.keyed.list) twice.places.elements };
+    ghost invariant = { λ twice. ArePlaces Or.Key.cmp (map Or.key_of twice.keyed.list) twice.places.elements
+        × AreEnds Or.Key.cmp (map Or.key_of twice.keyed.list) twice.ends.elements
+        × AreLinks Or.Key.cmp (map Or.key_of twice.keyed.list) twice.links.items };
 }
 
 impl<T: Drop, By: KeyOf<T>, Or: KeyOf<T>> TwiceKeyed<T, By, Or> {
@@ -39,6 +51,8 @@ impl<T: Drop, By: KeyOf<T>, Or: KeyOf<T>> TwiceKeyed<T, By, Or> {
         TwiceKeyed {
             keyed: Keyed::new(alloc),
             places: Ordered::new(alloc),
+            ends: Ordered::new(alloc),
+            links: Vec::new(alloc),
         }
     }
 
@@ -51,6 +65,8 @@ impl<T: Drop, By: KeyOf<T>, Or: KeyOf<T>> TwiceKeyed<T, By, Or> {
     {
         self.keyed.reserve(more)?;
         self.places.reserve(more)?;
+        self.ends.reserve(more)?;
+        self.links.reserve(more)?;
         Ok(())
     }
 
@@ -58,7 +74,9 @@ impl<T: Drop, By: KeyOf<T>, Or: KeyOf<T>> TwiceKeyed<T, By, Or> {
     pub fn spare(&self) -> usize
         ensures { result ≡ self.now.spare }
     {
-        self.keyed.spare().min(self.places.spare())
+        let spare = self.links.capacity() - self.links.len();
+        let found = self.keyed.spare().min(self.places.spare());
+        found.min(spare.min(self.ends.spare()))
     }
 
     /// The rows, in the order of adding.
@@ -97,13 +115,34 @@ impl<T: Drop, By: KeyOf<T>, Or: KeyOf<T>> TwiceKeyed<T, By, Or> {
         self.find_other(key).is_some()
     }
 
+    /// How many rows there are up to the last that has the other key. It is 0 where none has.
+    pub fn end_other(&self, key: &Or::Key) -> usize
+        ensures { result ≡ end_by (λ row. Or.Key.eq (Or.key_of row) key.now) self.now.list }
+    {
+        end_in(&self.ends, key)
+    }
+
+    /// How many rows there are up to the last before this place that has the other key of the row there.
+    pub fn end_before(&self, place: usize) -> usize
+        requires { place < length self.now.list }
+        ensures { HoldsAt (λ row. result
+            ≡ end_by (λ other. Or.Key.eq (Or.key_of other) (Or.key_of row)) (take place self.now.list))
+            self.now.list place }
+    {
+        self.links[place]
+    }
+
     /// Adds a row at the end, which can't fail.
     pub fn push(&mut self, row: T)
         requires { 0 < self.old.spare }
         ensures list { self.new.list ≡ self.old.list ++ row ∷ [] }
         ensures spare { self.old.spare ≤ self.new.spare + 1 }
     {
-        add_place(&mut self.places, Or::key_of(&row), self.keyed.len());
+        let key = Or::key_of(&row);
+        add_place(&mut self.places, key, self.keyed.len());
+        let link = end_in(&self.ends, &key);
+        add_end(&mut self.ends, key, self.links.len() + 1);
+        self.links.push_reserved(link);
         self.keyed.push(row);
     }
 
@@ -116,7 +155,10 @@ impl<T: Drop, By: KeyOf<T>, Or: KeyOf<T>> TwiceKeyed<T, By, Or> {
         ensures spare { self.old.spare ≤ self.new.spare }
     {
         let row = self.keyed.pop()?;
-        take_place(&mut self.places, &Or::key_of(&row), self.keyed.len());
+        let link = self.links.pop().unwrap();
+        let key = Or::key_of(&row);
+        take_place(&mut self.places, &key, self.keyed.len());
+        take_end(&mut self.ends, &key, link);
         Some(row)
     }
 }

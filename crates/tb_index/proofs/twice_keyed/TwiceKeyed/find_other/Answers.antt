@@ -10,6 +10,6 @@ returns g c =
     let key_of = g.Or.KeyOf.key_of in
     let same = g.Or.Key.PartialEq.eq in
     let is : rows ≡ c.args.self.now.list = λ i. (c.self.view_is i).list in
-    c.first_place.ensures (map key_of rows) c.self.invariant
+    c.first_place.ensures (map key_of rows) c.self.invariant.0
     ∙ (first_of-rows same g.Or.Key.Ord.cmp key_of c.args.key.now rows g.met.Or.Key.Ord.matches_eq
     ∙ ap (λ list. position (λ row. same (key_of row) c.args.key.now) list) is)

@@ -1,8 +1,8 @@
 //! Tests of the public calls: look-ups beside walks over the rows.
-use super::*;
 use std::alloc::Global;
 use std::process::Abort;
 use std::test::Fail;
+use tb_index::{Chained, Counted, KeyOf, Latest, TwiceKeyed};
 use tb_units::{Ident, OutOfMemory};
 
 // A bid is found by its bidder and number, and counted by its auction.
@@ -195,6 +195,20 @@ fn the_last_bid_of_an_auction_is_found(rt: HostRuntime) -> Result<(), Fail> {
 
 type Chain = Chained<Bid, ByNumber, OfAuction, InAuction>;
 
+// The bids of bidders, each with its number and auction, one after the other.
+fn chain_of<R: AllocGlobal + Abort>(
+    rt: &R,
+    rows: &[(&str, u64, &str)],
+) -> Result<Chain, OutOfMemory> {
+    let mut bids = Chained::new(rt.alloc());
+    for (bidder, number, auction) in rows.iter().copied() {
+        bids.reserve(1)?;
+        assert!(rt; 0 < bids.spare());
+        bids.push(bid_of(rt, bidder, number, auction));
+    }
+    Ok(bids)
+}
+
 // The numbers of the bids in the auction.
 fn numbers_in(alloc: Global, bids: &Chain, auction: Ident) -> Result<Vec<u64>, OutOfMemory> {
     let mut numbers = Vec::new(alloc);
@@ -204,49 +218,51 @@ fn numbers_in(alloc: Global, bids: &Chain, auction: Ident) -> Result<Vec<u64>, O
     Ok(numbers)
 }
 
+// The bids in the auction are those with these numbers, in this order.
+fn expect_numbers<R: AllocGlobal + Abort>(
+    rt: &R,
+    bids: &Chain,
+    auction: &str,
+    numbers: &[u64],
+) -> Result<(), OutOfMemory> {
+    let found = numbers_in(rt.alloc(), bids, name(rt, auction))?;
+    assert_eq!(rt; found.as_slice(), numbers);
+    Ok(())
+}
+
+const FIVE_BIDS: [(&str, u64, &str); 5] = [
+    ("ann", 1, "bill13"),
+    ("bob", 2, "bill26"),
+    ("ann", 3, "bill13"),
+    ("eve", 4, "bill13"),
+    ("eve", 5, "bill26"),
+];
+
 #[test]
 fn an_auction_is_gone_through_bid_by_bid(rt: HostRuntime) -> Result<(), Fail> {
-    let mut bids: Chain = Chained::new(rt.alloc());
-    for (bidder, number, auction) in [
-        ("ann", 1, "bill13"),
-        ("bob", 2, "bill26"),
-        ("ann", 3, "bill13"),
-        ("eve", 4, "bill13"),
-        ("eve", 5, "bill26"),
-    ] {
-        bids.reserve(1)?;
-        assert!(rt; 0 < bids.spare());
-        bids.push(bid_of(&rt, bidder, number, auction));
-    }
-    assert_eq!(rt;
-        numbers_in(rt.alloc(), &bids, name(&rt, "bill13"))?.as_slice(),
-        [1, 3, 4].as_slice()
-    );
-    assert_eq!(rt;
-        numbers_in(rt.alloc(), &bids, name(&rt, "bill26"))?.as_slice(),
-        [2, 5].as_slice()
-    );
-    assert!(rt; numbers_in(rt.alloc(), &bids, name(&rt, "bill52"))?.is_empty());
+    let bids = chain_of(&rt, &FIVE_BIDS)?;
+    expect_numbers(&rt, &bids, "bill13", &[1, 3, 4])?;
+    expect_numbers(&rt, &bids, "bill26", &[2, 5])?;
+    expect_numbers(&rt, &bids, "bill52", &[])?;
     assert_eq!(rt; bids.keyed().find(&(name(&rt, "ann"), 3)), Some(2));
     assert_eq!(rt; bids.count(&name(&rt, "bill13")), 3);
+    Ok(())
+}
+
+#[test]
+fn bids_of_an_auction_go_and_come(rt: HostRuntime) -> Result<(), Fail> {
+    let mut bids = chain_of(&rt, &FIVE_BIDS)?;
     // The two last ones go, and another comes.
     assert!(rt; bids.pop().is_some());
     assert!(rt; bids.pop().is_some());
-    assert_eq!(rt;
-        numbers_in(rt.alloc(), &bids, name(&rt, "bill13"))?.as_slice(),
-        [1, 3].as_slice()
-    );
+    expect_numbers(&rt, &bids, "bill13", &[1, 3])?;
     bids.reserve(1)?;
     bids.push(bid_of(&rt, "bob", 6, "bill26"));
-    assert_eq!(rt;
-        numbers_in(rt.alloc(), &bids, name(&rt, "bill26"))?.as_slice(),
-        [2, 6].as_slice()
-    );
-    assert_eq!(rt; bids.rows().len(), 4);
+    expect_numbers(&rt, &bids, "bill26", &[2, 6])?;
     for _ in 0..4 {
         assert!(rt; bids.pop().is_some());
     }
     assert_eq!(rt; bids.pop(), None);
-    assert!(rt; numbers_in(rt.alloc(), &bids, name(&rt, "bill13"))?.is_empty());
+    expect_numbers(&rt, &bids, "bill13", &[])?;
     Ok(())
 }
