@@ -24,7 +24,7 @@ invariant_of-self-2 g c =
       map-append key_of rows (c.in_ok-row.row ∷ []),
       ← c.key_of-key.ensures,
       c.pop-2.ensures.items,
-      c.unwrap-link.ensures
+      c.unwrap-link.ensures,
     )
     at c.self.invariant.2 in
     let fewer = AreLinks-pop compare keys c.pop-2.new.self.items c.key_of-key.result c.unwrap-link.result links in

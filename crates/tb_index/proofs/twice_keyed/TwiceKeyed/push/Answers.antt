@@ -20,7 +20,7 @@ invariant_of-self g c =
         c.push.ensures.list,
         c.push_reserved.ensures.items,
         map-append key_of rows (c.args.row ∷ []),
-        ← c.key_of-key.ensures
+        ← c.key_of-key.ensures,
       )
           (AreLinks-push g.Or.Key.Ord.cmp (map key_of rows) c.self.inside.links.items c.key_of-key.result
           c.end_in-link.result c.self.invariant.2 (c.end_in-link.ensures (map key_of rows) c.self.invariant.1)),
