@@ -27,4 +27,6 @@ pub mod QueryLemmas
 pub mod BiddenLemmas
 pub mod AnswerLemmas
 pub mod ReportLemmas
+pub mod BehindLemmas
+pub mod UnsettledLemmas
 pub mod SettleLemmas

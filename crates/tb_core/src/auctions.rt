@@ -1,5 +1,5 @@
 //! Announced auctions with their terms.
-ghost use Rattle.std.specs.Prelude.{◌≡◌, ◌&&◌, is_some, not};
+ghost use Rattle.std.specs.Prelude.{◌≡◌, ◌&&◌, Some, cond, is_some, not};
 ghost use Rattle.std.specs.List.{find, position};
 ghost use Rattle.tb_history.specs.Entries.{is_same};
 ghost use Rattle.tb_history.specs.Roster.{announcement_of, bill_of, is_named, unsettled_of};
@@ -42,27 +42,33 @@ pub fn bill_terms(auctions: &Auctions, cusip: &Cusip) -> Option<Terms>
     auctions.get_other(&cusip.bytes).copied()
 }
 
-fn place_of_unsettled(auctions: &[Terms], settled: &Names, cusip: &Cusip) -> Option<usize>
-    ensures { result ≡ position (λ t. is_same t.announcement.cusip.bytes cusip.now.bytes
-        && not (is_named settled.now.list t.announcement.auction)) auctions.now }
+// The auction of these terms where it isn't settled, else the one that was found behind it.
+fn first_of(terms: Terms, found: Option<Terms>, settled: &Names) -> Option<Terms>
+    ensures { result ≡ cond (not (is_named settled.now.list terms.announcement.auction)) (Some terms) found }
 {
-    auctions.iter().position(|t| {
-        t.announcement.cusip.bytes == cusip.bytes && !has_name(settled, &t.announcement.auction)
-    })
+    if has_name(settled, &terms.announcement.auction) {
+        return found;
+    }
+    Some(terms)
 }
 
-#[tactic(auto, using(tb_shelf::proofs::FindLemmas::found_at, tb_shelf::proofs::FindLemmas::found_none))]
-fn unsettled_at(auctions: &[Terms], settled: &Names, cusip: &Cusip) -> Option<Terms>
+// The bill's auctions are gone through from the last back to the first, past no others.
+fn first_unsettled(auctions: &Auctions, settled: &Names, cusip: &Cusip) -> Option<Terms>
     ensures { result ≡ find (λ t. is_same t.announcement.cusip.bytes cusip.now.bytes
-        && not (is_named settled.now.list t.announcement.auction)) auctions.now }
+        && not (is_named settled.now.list t.announcement.auction)) auctions.now.list }
 {
-    let place = place_of_unsettled(auctions, settled, cusip)?;
-    Some(auctions[place])
+    let mut first = None;
+    let mut end = auctions.end_other(&cusip.bytes);
+    while end > 0 {
+        first = first_of(auctions.rows()[end - 1], first, settled);
+        end = auctions.end_before(end - 1);
+    }
+    first
 }
 
 /// The terms of the bill's first auction that isn't settled.
 pub fn unsettled_terms(auctions: &Auctions, settled: &Names, cusip: &Cusip) -> Option<Terms>
     ensures { announcement_in result ≡ unsettled_of (announced_in auctions.now.list) settled.now.list cusip.now }
 {
-    unsettled_at(auctions.rows(), settled, cusip)
+    first_unsettled(auctions, settled, cusip)
 }

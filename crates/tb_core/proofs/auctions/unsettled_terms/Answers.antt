@@ -6,6 +6,6 @@ use Rattle.tb_core.proofs.auctions.unsettled_terms.Goals as goal
 
 pub returns : goal.returns
 returns c =
-    rw (c.unsettled_at.ensures, c.rows.ensures)
+    rw c.first_unsettled.ensures
     (announced_at (λ (a : Announcement). is_of_bill c.args.cusip.now a
     && not (is_named c.args.settled.now.list a.auction)) c.args.auctions.now.list)
