@@ -9,6 +9,7 @@ pub mod TiedLemmas
 pub mod ReadyLemmas
 pub mod ParRowLemmas
 pub mod ShownLemmas
+pub mod BetweenLemmas
 pub mod HouseLemmas
 pub mod TakenBackLemmas
 pub mod EnterLemmas

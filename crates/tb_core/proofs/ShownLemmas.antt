@@ -29,8 +29,26 @@ use Rattle.tb_core.specs.House.{AreTied}
 use Rattle.tb_core.proofs.TiedLemmas.{numbers-tied}
 use Rattle.tb_core.proofs.ParRowLemmas.{told_places, free_tied}
 
--- what the book has of a participant and a bill is what the history says
-pub line-tied : (h : List Entry) (tables : Tables) (participant : List ℕ) (cusip : Cusip) (line : HoldingLine)
+-- what the book has held of a participant and a bill is what the history says
+pub held-tied : (h : List Entry) (tables : Tables) (participant : List ℕ) (cusip : Cusip)
+    → AreTied h tables
+    → is_registered (registrations h) participant ≡ true
+    → has_bill (announcements h) cusip.bytes ≡ true
+    → book_held ((numbers_in tables.submitters.list tables.auctions.list).holder participant)
+    ((numbers_in tables.submitters.list tables.auctions.list).security cusip.bytes) tables.accounts
+    ≡ held_of h participant cusip
+held-tied h tables participant cusip tied known bill =
+    let numbers : Numbering = numbers_of h in
+    let participants : List ℕ = participants_of numbers (registrations h) in
+    let are : AreNumbered numbers participants h = places-numbered h in
+    ap (λ (n : Numbering). book_held (n.holder participant) (n.security cusip.bytes) tables.accounts)
+    (numbers-tied h tables tied)
+    ∙ (tied.accounts_tell.tells.held (numbers.holder participant) (numbers.security cusip.bytes)
+    ∙ held-told numbers participants h participant cusip (told_places h tied.legal) (are.names participant known)
+    (are.bills cusip.bytes bill))
+
+-- and so is what it has of a line
+line-tied : (h : List Entry) (tables : Tables) (participant : List ℕ) (cusip : Cusip) (line : HoldingLine)
     → AreTied h tables
     → is_registered (registrations h) participant ≡ true
     → has_bill (announcements h) cusip.bytes ≡ true
@@ -40,30 +58,23 @@ pub line-tied : (h : List Entry) (tables : Tables) (participant : List ℕ) (cus
 line-tied h tables participant cusip line tied known bill is =
     let numbers : Numbering = numbers_of h in
     let participants : List ℕ = participants_of numbers (registrations h) in
-    let are : AreNumbered numbers participants h = places-numbered h in
     let told : AreTold numbers participants h = told_places h tied.legal in
     let figures : HasFigures (moved_in h) tables.accounts =
     HasFigures-told (moved_in h) tables.accounts tied.accounts_tell in
-    let same = numbers-tied h tables tied in
-    let holder : ℕ = numbers.holder participant in
-    let security : ℕ = numbers.security cusip.bytes in
     record {
       which = is.which;
-      held =
-          is.held
-          ∙ (ap (λ (n : Numbering). book_held (n.holder participant) (n.security cusip.bytes) tables.accounts) same
-          ∙ (tied.accounts_tell.tells.held holder security
-          ∙ held-told numbers participants h participant cusip told (are.names participant known)
-          (are.bills cusip.bytes bill)));
+      held = is.held ∙ held-tied h tables participant cusip tied known bill;
       pledged =
           is.pledged
-          ∙ (ap (λ (n : Numbering). book_pledged (n.holder participant) (n.security cusip.bytes) tables.accounts) same
-          ∙ (figures.pledges holder security ∙ pledged-told numbers participants h participant cusip told));
+          ∙ (ap (λ (n : Numbering). book_pledged (n.holder participant) (n.security cusip.bytes) tables.accounts)
+          (numbers-tied h tables tied)
+          ∙ (figures.pledges (numbers.holder participant) (numbers.security cusip.bytes)
+          ∙ pledged-told numbers participants h participant cusip told));
       free = is.free ∙ free_tied h tables tied participant cusip known bill;
     }
 
 -- the first announcement of a bill is one of it
-first-bill : (announced : List Announcement) (a : Announcement)
+pub first-bill : (announced : List Announcement) (a : Announcement)
     → is_first (bill_of announced a.cusip) a ≡ true
     → has_bill announced a.cusip.bytes ≡ true
 first-bill announced a first = found_any (is_of_bill a.cusip) announced (some (bill_of announced a.cusip) first)

@@ -1,5 +1,5 @@
 //! What a participant holds, and what the holders of a redeemed bill were paid, line by line.
-ghost use Rattle.std.specs.Prelude.{◌≡◌, ℕ, ◌^◌, ◌<◌, ◌∷◌, ◌++◌, [], List, true, All, filter, length, nat_lt, IfOk, OnOk};
+ghost use Rattle.std.specs.Prelude.{◌≡◌, ℕ, ◌^◌, ◌<◌, ◌≤◌, ◌∷◌, ◌++◌, [], List, true, All, filter, length, nat_lt, IfOk, IfSome, IsNone, OnOk};
 ghost use Rattle.tb_terms.specs.declared.announcement.Announcement.{Announcement};
 ghost use Rattle.tb_terms.specs.declared.cusip.Cusip.{Cusip};
 ghost use Rattle.tb_message.specs.declared.message.Entry.{Entry};
@@ -11,7 +11,7 @@ ghost use Rattle.tb_history.specs.Readings.{AreHoldings, AreHoldingLines, ArePai
 ghost use Rattle.tb_history.specs.Readings as readings;
 ghost use Rattle.tb_core.specs.Auctions.{announced_in};
 ghost use Rattle.tb_core.specs.Accounting.{numbers_in};
-ghost use Rattle.tb_core.specs.Shown.{IsLineOf, IsShown, IsPaidOut, is_shown};
+ghost use Rattle.tb_core.specs.Shown.{HasNoLine, IsLineOf, IsShown, IsPaidOut, is_shown};
 ghost use Rattle.tb_core.specs.House.{AreTied, AreFew};
 
 use crate::accounts::{bill_number, holder_number};
@@ -88,22 +88,34 @@ fn add_shown(
     }
 }
 
-fn shown_lines(
-    alloc: Global,
-    tables: &Tables,
-    auctions: &[Terms],
-    holder: u32,
-) -> Result<Holdings, OutOfMemory>
+// The place of the next auction, from this place on, at which the holder has an account. No auction between has a line.
+fn next_shown(tables: &Tables, holder: u32, from: u32) -> Option<u32>
+    ensures within { IfSome result (λ place. (from ≤ place) × (place < length tables.now.auctions.list)) }
+    ensures none_between { IfSome result (λ place. HasNoLine tables.now holder from place) }
+    ensures none { IsNone result → HasNoLine tables.now holder from (length tables.now.auctions.list) }
+{
+    let place = tables.accounts.next_held(holder, from)?;
+    if (place as usize) < tables.auctions.rows().len() {
+        return Some(place);
+    }
+    None
+}
+
+// A holder's accounts stand in the order of the bills' first announcements, so that they are gone through alone.
+fn shown_lines(alloc: Global, tables: &Tables, holder: u32) -> Result<Holdings, OutOfMemory>
     requires { length tables.now.auctions.list < 2 ^ 32 }
     ensures { IfOk result (λ lines. (history : List Entry) (participant : List ℕ) → AreTied history tables.now
         → is_registered (registrations history) participant ≡ true
         → holder ≡ (numbers_in tables.now.submitters.list tables.now.auctions.list).holder participant
-        → AreHoldingLines history participant (filter (is_shown history participant) (announced_in auctions.now))
-        lines) }
+        → AreHoldingLines history participant
+        (filter (is_shown history participant) (announced_in tables.now.auctions.list)) lines) }
 {
+    let auctions = tables.auctions.rows();
     let mut lines = Listing::new(alloc);
-    for terms in auctions {
-        add_shown(&mut lines, tables, holder, terms)?;
+    let mut from = 0;
+    while let Some(place) = next_shown(tables, holder, from) {
+        add_shown(&mut lines, tables, holder, &auctions[place as usize])?;
+        from = place + 1;
     }
     Ok(lines)
 }
@@ -120,7 +132,7 @@ pub fn holdings_lines(
         → AreHoldings history participant.now lines) }
 {
     let holder = holder_number(&tables.submitters, participant);
-    shown_lines(alloc, tables, tables.auctions.rows(), holder)
+    shown_lines(alloc, tables, holder)
 }
 
 // The line of the submitter, where it was paid something.

@@ -1,10 +1,8 @@
 -- The announcements that are shown are those of the history.
-use Rattle.std.proofs.Common.{List, ap, ◌∙◌, subst}
+use Rattle.std.proofs.Common.{List, subst}
 use Rattle.std.specs.Prelude.{filter}
 use Rattle.tb_terms.specs.declared.announcement.Announcement.{Announcement}
-use Rattle.tb_terms.specs.declared.terms.Terms.{Terms}
 use Rattle.tb_history.specs.Readings.{AreHoldingLines}
-use Rattle.tb_core.specs.Auctions.{announced_in}
 use Rattle.tb_core.specs.Shown.{is_shown}
 use Rattle.tb_core.proofs.ShownLemmas.{holdings-shown, if_ok}
 use Rattle.tb_core.proofs.holdings.holdings_lines.Goals as goal
@@ -16,5 +14,5 @@ returns c =
     holdings-shown history c.args.participant.now lines
     (subst (λ (all : List Announcement).
     AreHoldingLines history c.args.participant.now (filter (is_shown history c.args.participant.now) all) lines)
-    (ap (λ (auctions : List Terms). announced_in auctions) c.rows.ensures ∙ tied.auctions_are)
+    tied.auctions_are
     (shown history c.args.participant.now tied known c.holder_number-holder.ensures)))
