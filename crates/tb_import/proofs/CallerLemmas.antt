@@ -44,7 +44,8 @@ sound-kept : (present : Bool) (kept : List Row) (row : Row)
     → IsSoundRow row
     → All IsSoundRow (if present then kept else kept ++ row ∷ [])
 sound-kept true kept row sound one = sound
-sound-kept false kept row sound one = All-append IsSoundRow kept (row ∷ []) sound (All-cons IsSoundRow row [] one (All-nil IsSoundRow))
+sound-kept false kept row sound one =
+    All-append IsSoundRow kept (row ∷ []) sound (All-cons IsSoundRow row [] one (All-nil IsSoundRow))
 
 -- so all rows that are kept of records
 sound-seen : (records : List Fields) (rows kept : List Row)
@@ -60,7 +61,8 @@ sound-seen (fields ∷ records) (row ∷ rows) kept are sound =
 
 -- of what is so of each bid
 module _ (P : Message → Type 0)
-    (bids : (auction bidder : List ℕ) (rate : Option Rate) (amount : Dollars) → P (message.Bid auction bidder rate amount))
+    (bids : (auction bidder : List ℕ) (rate : Option Rate) (amount : Dollars)
+    → P (message.Bid auction bidder rate amount))
   where
     -- a message of a sound row is a bid that can be kept under its number
     numbered-row : (number : ℕ) (asked : Message) (row : Row)

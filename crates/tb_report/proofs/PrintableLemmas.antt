@@ -114,7 +114,12 @@ unfolding paid_to
 unpaid h cusip [] live = refl
 unpaid h cusip (r ∷ holders) live =
     let none : paid_to h r.submitter cusip ≡ 0 = rw live refl in
-    omega (arith, sum_by-cons (λ (x : Registration). paid_to h x.submitter cusip) r holders, none, unpaid h cusip holders live)
+    omega (
+      arith,
+      sum_by-cons (λ (x : Registration). paid_to h x.submitter cusip) r holders,
+      none,
+      unpaid h cusip holders live,
+    )
 
 -- all payments come to no more than may be issued
 paid-most : (h : List Entry) (cusip : Cusip)
@@ -122,7 +127,11 @@ paid-most : (h : List Entry) (cusip : Cusip)
     → sum_by (λ (r : Registration). paid_to h r.submitter cusip) (registrations h) ≤ 10 ^ 22
 paid-most h cusip legal =
     elim (cases_Bool (is_redeemed (redemptions h) cusip)) [
-      | inl is ↦ omega (arith, paid-sum h cusip legal (redeemed-announced h cusip legal is) is, IsLegal-issued h cusip legal)
+      | inl is ↦ omega (
+        arith,
+        paid-sum h cusip legal (redeemed-announced h cusip legal is) is,
+        IsLegal-issued h cusip legal,
+      )
       | inr live ↦ omega (arith, unpaid h cusip (registrations h) live)
     ]
 

@@ -113,8 +113,10 @@ kinds false (Some rate) n = refl
 kinds-joined : (enrolled : List Enrolment) (live : List Bid) (number : ℕ) (d : Enrolment)
     → AreDistinct enrolled
     → number < length enrolled
-    → sum_by (λ (bid : Bid). cond ((place_of enrolled bid.bidder == number) && is_some bid.rate) bid.amount.value 0) live
-    + sum_by (λ (bid : Bid). cond ((place_of enrolled bid.bidder == number) && is_none bid.rate) bid.amount.value 0) live
+    → sum_by (λ (bid : Bid). cond ((place_of enrolled bid.bidder == number) && is_some bid.rate)
+    bid.amount.value 0) live
+    + sum_by (λ (bid : Bid). cond ((place_of enrolled bid.bidder == number) && is_none bid.rate)
+    bid.amount.value 0) live
     ≡ sum_by (λ (bid : Bid). cond (is_same bid.bidder (bidder_at enrolled number d)) bid.amount.value 0) live
 kinds-joined enrolled [] number d distinct within = refl
 kinds-joined enrolled (bid ∷ live) number d distinct within =
@@ -167,9 +169,11 @@ has_bid-booked bidding lines number e sound booked within is =
     let some : All (λ (bid : Bid). 0 < bid.amount.value) bidding.live = λ k d below. (sound.bids k d below).some in
     ap (nat_lt 0)
     (ap₂ (λ a b. a + b)
-    (sum_by-booked (λ (line : BookLine). cond ((line.bidder == number) && is_some line.rate) line.amount.value 0) bidding
+    (sum_by-booked (λ (line : BookLine). cond ((line.bidder == number) && is_some line.rate)
+    line.amount.value 0) bidding
     lines booked)
-    (sum_by-booked (λ (line : BookLine). cond ((line.bidder == number) && is_none line.rate) line.amount.value 0) bidding
+    (sum_by-booked (λ (line : BookLine). cond ((line.bidder == number) && is_none line.rate)
+    line.amount.value 0) bidding
     lines booked)
     ∙ kinds-joined bidding.enrolled bidding.live number e sound.distinct within)
     ∙ (par-listed (λ (bid : Bid). is_same bid.bidder (bidder_at bidding.enrolled number e)) bidding.live some

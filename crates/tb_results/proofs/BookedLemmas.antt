@@ -25,7 +25,8 @@ use Rattle.tb_history.specs.Readings.{days_of, line_of, lines_of, place_of}
 use Rattle.tb_results.specs.Biddings.{AreBooked, IsSound, book_line_of}
 
 -- a sum over what a function gives of the elements
-pub sum_by-mapped : {X Y : Type 0} (f : Y → ℕ) (g : X → Y) (xs : List X) → sum_by f (map g xs) ≡ sum_by (λ x. f (g x)) xs
+pub sum_by-mapped : {X Y : Type 0} (f : Y → ℕ) (g : X → Y) (xs : List X)
+    → sum_by f (map g xs) ≡ sum_by (λ x. f (g x)) xs
 sum_by-mapped f g [] = refl
 sum_by-mapped f g (x ∷ xs) =
     sum_by-cons f (g x) (map g xs)
@@ -84,7 +85,8 @@ pub bid_in-booked : (bidding : Bidding) (lines : List BookLine) (bidder steps : 
     → AreBooked bidding lines
     → bid_in (rate_lines lines) bidder steps ≡ bid_in (lines_of bidding) bidder steps
 bid_in-booked bidding lines bidder steps booked =
-    sum_by-lines_of (λ (line : RateLine). cond ((line.bidder == bidder) && (line.rate.steps == steps)) line.amount.value 0)
+    sum_by-lines_of (λ (line : RateLine). cond ((line.bidder == bidder) && (line.rate.steps == steps))
+    line.amount.value 0)
     bidding lines booked
 
 -- each line of a rate has a known bidder

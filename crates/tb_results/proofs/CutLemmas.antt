@@ -78,7 +78,8 @@ recognised-booked bidding terms lines positions recognised is are =
 -- the amount sought is the bidding's
 pub sought-booked : (bidding : Bidding) (terms : Terms) (lines : List BookLine) (positions : List ℤ)
     → IsBookOf bidding terms lines positions
-    → sought_of terms.announcement.offering.value (books.noncompetitive_in lines) terms.announcement.competitive_floor.value
+    → sought_of terms.announcement.offering.value (books.noncompetitive_in lines)
+    terms.announcement.competitive_floor.value
     ≡ sought_in bidding
 sought-booked bidding terms lines positions is =
     ap (λ (a : Announcement). sought_of a.offering.value (books.noncompetitive_in lines) a.competitive_floor.value)
@@ -117,7 +118,8 @@ pub cut-booked : (bidding : Bidding) (terms : Terms) (lines : List BookLine) (po
     → par_in lines ≤ most_bid
     → IsRecognitionOf (rate_lines lines) positions terms.announcement.offering.value recognised
     → total_of recognised ≤ total_of (rate_lines lines)
-    → sought ≡ sought_of terms.announcement.offering.value (books.noncompetitive_in lines) terms.announcement.competitive_floor.value
+    → sought ≡ sought_of terms.announcement.offering.value (books.noncompetitive_in lines)
+    terms.announcement.competitive_floor.value
     → IsAnswered recognised sought terms.days.count answer
     → IsCutIn bidding lines recognised answer
 cut-booked bidding terms lines positions recognised sought answer is limited are within sought_is answered = record {

@@ -41,7 +41,8 @@ investment-is a year.Y366 days millionths thousandths is leap rate = record {
 }
 
 -- the figures of a cut, and its investment rate, are the bidding's
-pub figures-booked : (bidding : Bidding) (terms : Terms) (lines : List BookLine) (recognised : List RateLine) (cut : Cut)
+pub figures-booked : (bidding : Bidding) (terms : Terms) (lines : List BookLine)
+    (recognised : List RateLine) (cut : Cut)
     (figures : Figures)
     → IsCutIn bidding lines recognised (outcome.Cut cut)
     → terms.announcement ≡ bidding.announcement

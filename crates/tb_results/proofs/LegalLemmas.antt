@@ -105,7 +105,8 @@ accepted-nil = tt
 
 -- every bid of a legal history is so
 IsLegal-accepted : (h : List Entry) → IsLegal h → AllByRecursion (IsAcceptedBid h) (bids h)
-IsLegal-accepted h legal = by_entries (λ h. AllByRecursion (IsAcceptedBid h) (bids h)) accepted-nil accepted-push h legal
+IsLegal-accepted h legal =
+    by_entries (λ h. AllByRecursion (IsAcceptedBid h) (bids h)) accepted-nil accepted-push h legal
 
 -- what is found has a place
 found-within : {X : Type 0} (test : X → Bool) (xs : List X) (x : X)
@@ -195,7 +196,8 @@ offers-hundreds a in_order =
     let second = and_parts (multiple && minimum && ceiling) floor third.0 in
     let first = and_parts (multiple && minimum) ceiling second.0 in
     let holds = and_parts multiple minimum first.0 in
-    let parts = and_parts ((size % offering_unit == 0) && nat_le offering_unit size) (nat_le size most_offering) holds.0 in
+    let parts = and_parts ((size % offering_unit == 0) && nat_le offering_unit size)
+    (nat_le size most_offering) holds.0 in
     let millions : size % 1000000 ≡ 0 =
     eqb-true (size % offering_unit) 0
     (and_parts (size % offering_unit == 0) (nat_le offering_unit size) parts.0).0 in

@@ -34,7 +34,8 @@ length-numbered from zero = refl
 length-numbered from (suc count) = ap suc (length-numbered (from + 1) count)
 
 -- each is at its place
-get_or-numbered : (from count k : ℕ) (d : Enrolment) → k < count → get_or (numbered from count) k d ≡ bidder_of (from + k)
+get_or-numbered : (from count k : ℕ) (d : Enrolment) → k < count
+    → get_or (numbered from count) k d ≡ bidder_of (from + k)
 get_or-numbered from zero k d below = absurd (omega (arith, below))
 get_or-numbered from (suc count) zero d below = let same : from ≡ from + 0 = omega arith in ap bidder_of same
 get_or-numbered from (suc count) (suc k) d below =

@@ -48,4 +48,5 @@ is_priced days (Some rate) = has_price rate.steps days
 -- a line that may stand in a book of so many bidders for a bill of so many days
 abbrev pub is_sound_line : ℕ → ℕ → BookLine → Bool
 is_sound_line bidders days line =
-    nat_lt line.bidder bidders && nat_lt 0 line.amount.value && (line.amount.value % 100 == 0) && is_priced days line.rate
+    nat_lt line.bidder bidders && nat_lt 0 line.amount.value && (line.amount.value % 100 == 0)
+    && is_priced days line.rate

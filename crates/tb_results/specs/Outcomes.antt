@@ -23,7 +23,8 @@ IsOutcome bidding recognised (outcome.Cut cut) =
     (0 < length recognised) × IsCutOf recognised (sought_in bidding) (days_of bidding.announcement) cut
 
 -- this is recognised of the bids that the book has, and becomes of them
-pub record IsCutIn (bidding : Bidding) (lines : List BookLine) (recognised : List RateLine) (outcome : Outcome) : Type 0 where
+pub record IsCutIn (bidding : Bidding) (lines : List BookLine) (recognised : List RateLine)
+    (outcome : Outcome) : Type 0 where
   pub sound : IsSound bidding
   pub booked : AreBooked bidding lines
   pub limited : par_in lines ≤ most_bid

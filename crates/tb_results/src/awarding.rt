@@ -29,9 +29,11 @@ pub fn awards(
     bidders: &[Enrolment],
     caller: &Ident,
 ) -> Result<Awards, OutOfMemory>
-    requires bidding { (bidding : Bidding) × IsBookOf bidding terms.now book.now.lines positions.now × (bidders.now ≡ bidding.enrolled) }
+    requires bidding { (bidding : Bidding) × IsBookOf bidding terms.now book.now.lines positions.now
+        × (bidders.now ≡ bidding.enrolled) }
     requires few { length bidders.now < 2 ^ 32 }
-    ensures { IfOk result (λ lines. (bidding : Bidding) → IsBookOf bidding terms.now book.now.lines positions.now → bidders.now ≡ bidding.enrolled
+    ensures { IfOk result (λ lines. (bidding : Bidding) → IsBookOf bidding terms.now book.now.lines positions.now
+        → bidders.now ≡ bidding.enrolled
         → AreAwardLines bidding (bidders_among bidding caller.now bidders.now) lines) }
 {
     let mut recognised = Recognised::empty(alloc);

@@ -12,13 +12,14 @@ use tb_book::Book;
 use tb_terms::Terms;
 use tb_units::Dollars;
 
-/// Recognises the competitive bids of the book into a list that has the room, and cuts them. Each bidder's position stands
-/// at its number, in whole dollars. It takes no memory, and loses no room.
+/// Recognises the competitive bids of the book into a list that has the room, and cuts them. Each bidder's position
+/// stands at its number, in whole dollars. It takes no memory, and loses no room.
 pub fn cut_book(into: &mut Recognised, terms: &Terms, book: &Book, positions: &[i64]) -> Outcome
     requires bidding { (bidding : Bidding) × IsBookOf bidding terms.now book.now.lines positions.now }
     requires line_room { length (rate_lines book.now.lines) ≤ into.old.line_room }
     requires bidder_room { length positions.now ≤ into.old.bidder_room }
-    ensures cut { (bidding : Bidding) → IsBookOf bidding terms.now book.now.lines positions.now → IsCutIn bidding book.now.lines into.new.lines result }
+    ensures cut { (bidding : Bidding) → IsBookOf bidding terms.now book.now.lines positions.now
+        → IsCutIn bidding book.now.lines into.new.lines result }
     ensures room { KeepsRoom into.old into.new }
 {
     recognise_into_uncounted(into, book, positions, terms.announcement.offering);

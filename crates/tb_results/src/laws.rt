@@ -18,13 +18,14 @@ pub fn legal_biddings_are_sound()
         → announcement_of (announcements history) auction ≡ Some a → IsSound (bidding_in history a) }
 {}
 
-/// The conditions of `results` and `awards` can be met: each book of sound lines is of some bidding of the bidders that are
-/// enrolled, in which nobody reported a position. It does nothing.
+/// The conditions of `results` and `awards` can be met: each book of sound lines is of some bidding of the bidders that
+/// are enrolled, in which nobody reported a position. It does nothing.
 pub fn sound_books_are_kept()
     ensures { (terms : Terms) (lines : List BookLine) (enrolled : List Enrolment)
         → AreDistinct enrolled
         → terms.announcement.offering.value % 100 ≡ 0
         → 100 ≤ terms.announcement.competitive_floor.value
         → All (λ line. is_sound_line (length enrolled) terms.days.count line ≡ true) lines
-        → (bidding : Bidding) × IsBookOf bidding terms lines (replicate (length enrolled) (pos 0)) × (bidding.enrolled ≡ enrolled) }
+        → (bidding : Bidding) × IsBookOf bidding terms lines (replicate (length enrolled) (pos 0))
+        × (bidding.enrolled ≡ enrolled) }
 {}

@@ -24,7 +24,8 @@ pub fn results(
     positions: &[i64],
 ) -> Result<Results, OutOfMemory>
     requires { (bidding : Bidding) × IsBookOf bidding terms.now book.now.lines positions.now }
-    ensures { IfOk result (λ results. (bidding : Bidding) → IsBookOf bidding terms.now book.now.lines positions.now → AreResults bidding results) }
+    ensures { IfOk result (λ results. (bidding : Bidding) → IsBookOf bidding terms.now book.now.lines positions.now
+        → AreResults bidding results) }
 {
     let mut recognised = Recognised::empty(alloc);
     recognised.reserve(book.lines(), positions.len() as u64)?;

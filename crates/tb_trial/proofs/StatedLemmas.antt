@@ -63,7 +63,8 @@ lines_to-suc : (seed count : ℕ)
     → lines_to seed (suc count)
     ≡ lines_to seed count ++ line_of (stated_bid (suc count) (drawn_for seed (suc count))) ∷ []
 unfolding stated_bids
-lines_to-suc seed count = map_push line_of (stated_bids seed count) (stated_bid (suc count) (drawn_for seed (suc count)))
+lines_to-suc seed count =
+    map_push line_of (stated_bids seed count) (stated_bid (suc count) (drawn_for seed (suc count)))
 
 -- what is drawn for the next bid
 pub drawn_for-next : (seed count drawn : ℕ) → drawn ≡ drawn_for seed count → next drawn ≡ drawn_for seed (count + 1)
@@ -83,7 +84,8 @@ lines_to-added seed count drawn line old new drawn_is line_is are more =
     ∙ ap (λ (n : ℕ). line_of (stated_bid n (drawn_for seed n))) (add-one count) in
     let added : IsPermutation (lines_to seed count ++ line ∷ []) new =
     IsPermutation-push_more (lines_to seed count) old new line are more in
-    rw add-one (rw lines_to-suc (subst (λ (l : BookLine). IsPermutation (lines_to seed count ++ l ∷ []) new) next_is added))
+    rw add-one (rw lines_to-suc
+    (subst (λ (l : BookLine). IsPermutation (lines_to seed count ++ l ∷ []) new) next_is added))
 
 -- no line has a number above their count
 numbers-lines_to : (seed count : ℕ) → All (λ line. line.number ≤ count) (lines_to seed count)

@@ -115,7 +115,8 @@ none-recognised lines bidders offering bidder steps below some_cap some_limit no
 
     -- there is no line
     nothing : (at : ℕ)
-        → recognised_at (bid_in lines bidder) (cap_of offering) (limits_by offering (replicate bidders (pos 0)) bidder) at ≡ 0
+        → recognised_at (bid_in lines bidder) (cap_of offering)
+        (limits_by offering (replicate bidders (pos 0)) bidder) at ≡ 0
     nothing at =
         elim (cases_eq (recognised_at (bid_in lines bidder) (cap_of offering)
         (limits_by offering (replicate bidders (pos 0)) bidder) at) 0) [
@@ -170,7 +171,13 @@ recognised-some seed (suc count) some none =
     (omega (arith, stated-place (suc count) (drawn_for seed (suc count)))) (omega arith) (omega arith) as_stated in
     let something = bid_in-last (lines_of (trial_bidding seed count)) line
     (omega (arith, stated-amount (drawn_for seed (suc count)))) in
-    omega (arith, nothing, something, ap (λ (ls : List RateLine). bid_in ls line.bidder line.rate.steps) (lines-last seed count))
+    omega (
+      arith,
+      nothing,
+      something,
+      ap (λ (ls : List RateLine). bid_in ls line.bidder line.rate.steps)
+          (lines-last seed count),
+    )
 
 -- what is so of the results of each bidding that a book is of is so of the trial's
 pub figures-of : (seed count : ℕ) (terms : Terms) (lines : List BookLine) (positions : List ℤ) (results : Results)

@@ -1,4 +1,5 @@
--- The auction of a trial: a bill of 91 days, 4,096 bidders of one submitter, and competitive bids that follow from a seed.
+-- The auction of a trial: a bill of 91 days, 4,096 bidders of one submitter, and competitive bids that follow from a
+-- seed.
 use Rattle.std.specs.Prelude.{ℕ, zero, suc, ◌+◌, ◌*◌, ◌/◌, ◌%◌, ◌^◌, ◌≤◌, min, Some, List, [], ◌∷◌, ◌++◌, codes}
 use Rattle.std.specs.Fmt.{decimal}
 use Rattle.std.proofs.Common.{arith}

@@ -11,14 +11,16 @@ recognise_into_uncounted-requires-clause-hundreds c =
 
 pub recognise_into_uncounted-requires-clause-known : goal.recognise_into_uncounted-requires-clause-known
 recognise_into_uncounted-requires-clause-known c =
-    known-positions c.requires.bidding.0 c.args.terms.now c.args.book.now.lines c.args.positions.now c.requires.bidding.1
+    known-positions c.requires.bidding.0 c.args.terms.now c.args.book.now.lines c.args.positions.now
+    c.requires.bidding.1
 
 pub cut-requires-clause-sought : goal.cut-requires-clause-sought
 cut-requires-clause-sought c =
     let is = c.requires.bidding.1 in
     subst (λ (n : ℕ). 100 ≤ n)
     (sym (c.sought_by.ensures.sought
-    ∙ sought-booked c.requires.bidding.0 c.args.terms.now c.args.book.now.lines c.args.positions.now is)) is.sound.sought
+    ∙ sought-booked c.requires.bidding.0 c.args.terms.now c.args.book.now.lines c.args.positions.now is))
+    is.sound.sought
 
 pub cut-requires-clause-priced : goal.cut-requires-clause-priced
 cut-requires-clause-priced c =

@@ -8,13 +8,14 @@ pub figures_of-requires : goal.figures_of-requires
 figures_of-requires c =
     omega (
       arith,
-      recognised-limited c.requires.0 c.args.book.now.lines c.cut_book-outcome.new.into.lines c.cut_book-outcome.result 0
-          (c.cut_book-outcome.ensures.cut c.requires.0 c.requires.1),
+      recognised-limited c.requires.0 c.args.book.now.lines c.cut_book-outcome.new.into.lines
+          c.cut_book-outcome.result 0 (c.cut_book-outcome.ensures.cut c.requires.0 c.requires.1),
     )
 
 pub returns : goal.returns
 returns c bidding is = record {
   terms = is.announced;
-  noncompetitive = c.noncompetitive.ensures.noncompetitive ∙ noncompetitive-booked bidding c.args.book.now.lines is.booked;
+  noncompetitive = c.noncompetitive.ensures.noncompetitive
+      ∙ noncompetitive-booked bidding c.args.book.now.lines is.booked;
   figures = c.figures_of.ensures bidding c.args.book.now.lines (c.cut_book-outcome.ensures.cut bidding is) is.announced;
 }

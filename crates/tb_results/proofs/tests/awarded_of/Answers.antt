@@ -28,5 +28,6 @@ pub award_all-requires-clause-bidding : goal.award_all-requires-clause-bidding
 award_all-requires-clause-bidding c =
     let bidding = sample_of c.args.terms.now c.args.book.now.lines (numbered 0 5) in
     let is =
-    sample c.args.terms.now c.args.book.now.lines c.requires.days c.requires.offering c.requires.floor c.requires.sound in
+    sample c.args.terms.now c.args.book.now.lines c.requires.days c.requires.offering
+    c.requires.floor c.requires.sound in
     (bidding, c.cut_book-outcome.ensures.cut bidding is, sym (length-numbered 0 5))

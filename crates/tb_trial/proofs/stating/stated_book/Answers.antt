@@ -30,7 +30,8 @@ add-requires-clause-fits c =
 
 pub loop-stated-preserved : goal.loop-stated-preserved
 loop-stated-preserved c =
-    let drawn = c.next-drawn.ensures ∙ drawn_for-next c.args.seed c.loop-stated.stated _ c.loop-stated.invariant.drawn in
+    let drawn = c.next-drawn.ensures ∙ drawn_for-next c.args.seed c.loop-stated.stated _
+    c.loop-stated.invariant.drawn in
     record {
       drawn = drawn;
       booked = lines_to-added c.args.seed c.loop-stated.stated c.next-drawn.result c.stated_line.result _ _ drawn
