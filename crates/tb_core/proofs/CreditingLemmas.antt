@@ -12,7 +12,8 @@ use Rattle.tb_history.specs.Awarded.{Bidding, awarded}
 use Rattle.tb_core.specs.Crediting.{credit_for, credits_for}
 
 -- the credits so far, and one more
-pub credits_more : (submitters : List Registration) (bidding : Bidding) (bidders : List Enrolment) (place : ℕ) (e : Enrolment)
+pub credits_more : (submitters : List Registration) (bidding : Bidding) (bidders : List Enrolment)
+    (place : ℕ) (e : Enrolment)
     → place < length bidders
     → e ≡ get_or bidders place e
     → credits_for submitters bidding (take (place + 1) bidders)
@@ -33,7 +34,8 @@ credits_sum submitters bidding (e ∷ bidders) =
     ∙ (ap (λ n. award e + n) (credits_sum submitters bidding bidders) ∙ sym (sum_by-cons award e bidders))
 
 -- the next credit fits, since all of them do
-pub next_fits : (submitters : List Registration) (bidding : Bidding) (bidders : List Enrolment) (place : ℕ) (e : Enrolment)
+pub next_fits : (submitters : List Registration) (bidding : Bidding) (bidders : List Enrolment)
+    (place : ℕ) (e : Enrolment)
     (security par : ℕ) (first now : Book)
     → place < length bidders
     → e ≡ get_or bidders place e

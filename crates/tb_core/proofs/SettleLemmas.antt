@@ -55,11 +55,13 @@ positions-tied h tables a tied =
     -- by each bidder: other auctions' reports say nothing of this one
     agree : (enrolled : List Enrolment)
         → positions_by (reports h) a.auction enrolled
-        ≡ map (λ (e : Enrolment). position_of (filter (λ (r : Report). is_same r.auction a.auction) (reports h)) a.auction e.bidder) enrolled
+        ≡ map (λ (e : Enrolment). position_of (filter (λ (r : Report). is_same r.auction a.auction) (reports h))
+        a.auction e.bidder) enrolled
     agree [] = refl
     agree (e ∷ enrolled) =
         ap (λ n. n ∷ positions_by (reports h) a.auction enrolled) (sym (position_of-own (reports h) a.auction e.bidder))
-        ∙ ap (λ rest. position_of (filter (λ (r : Report). is_same r.auction a.auction) (reports h)) a.auction e.bidder ∷ rest)
+        ∙ ap (λ rest. position_of (filter (λ (r : Report). is_same r.auction a.auction) (reports h))
+        a.auction e.bidder ∷ rest)
         (agree enrolled)
 
 -- the terms of an announced auction, its book and the reports are those of its bidding
@@ -92,8 +94,8 @@ lines-few h tables auction book tied found =
     let own : Bid → Bool = λ b. is_same b.auction auction in
     let live = live_bids_in (bids h) (cancels h) auction in
     let has : IsPermutation (map (book_line_of (enrolments h)) live) book.lines =
-    subst (λ (there : Option Bids). IfSome there (λ b. IsPermutation (map (book_line_of (enrolments h)) live) b.lines)) found
-    (tied.books_are.lines auction) in
+    subst (λ (there : Option Bids). IfSome there (λ b. IsPermutation (map (book_line_of (enrolments h)) live) b.lines))
+    found (tied.books_are.lines auction) in
     omega (
       arith,
       length_permutation (map (book_line_of (enrolments h)) live) book.lines has,
@@ -123,7 +125,8 @@ pub settle-room_of : (entries : Listed Entry) (tables : Tables) (room : ℕ) (m 
     → Fits (room_of room tables) (m ∷ [])
     → settles m ≡ true
     → HasSettleRoom tables
-settle-room_of entries tables room (message.Settle auction) house fits is = settle-room entries tables room auction house fits
+settle-room_of entries tables room (message.Settle auction) house fits is =
+    settle-room entries tables room auction house fits
 settle-room_of entries tables room plain house fits is = absurd cc
 
 -- the bidding by the tables is that by the history

@@ -37,7 +37,8 @@ settled_in tables (Some a) =
     Some (Settled ((numbers_in tables.submitters.list tables.auctions.list).security a.cusip.bytes)
     (credits_for tables.submitters.list (bidding_on tables a) tables.bidders.list))
 
--- what the message of a sender under a number moves: no other movement than a settlement's depends on what stands before it
+-- what the message of a sender under a number moves: no other movement than a settlement's depends on what stands
+-- before it
 abbrev pub movement_in : Tables → List ℕ → ℕ → Message → Option Movement
 movement_in tables sender number (message.Settle auction) =
     settled_in tables (announcement_of (announced_in tables.auctions.list) auction)

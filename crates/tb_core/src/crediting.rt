@@ -19,8 +19,9 @@ use tb_holdings::Accounts;
 use tb_results::award_all;
 use tb_units::Dollars;
 
-/// Credits each bidder's participant what the bidder is awarded of the security, by what is recognised of the bids in the book
-/// and what becomes of them. All awards stand in the scratch array then. It takes no memory, and loses no room there.
+/// Credits each bidder's participant what the bidder is awarded of the security, by what is recognised of the bids in
+/// the book and what becomes of them. All awards stand in the scratch array then. It takes no memory, and loses no room
+/// there.
 pub fn credit_awards(
     accounts: &mut Accounts,
     scratch: &mut Scratch,
@@ -32,13 +33,17 @@ pub fn credit_awards(
 )
     requires few { length bidders.now < 2 ^ 32 }
     requires numbered { length submitters.now.list < 2 ^ 32 }
-    requires bidding { (bidding : Bidding) × IsCutIn bidding book.now.lines scratch.old.recognised.lines outcome.now × (bidding.enrolled ≡ bidders.now)
-        × (total_of security accounts.old + credited_in_all (credits_for submitters.now.list bidding bidders.now) ≤ most_held) }
+    requires bidding { (bidding : Bidding) × IsCutIn bidding book.now.lines scratch.old.recognised.lines outcome.now
+        × (bidding.enrolled ≡ bidders.now)
+        × (total_of security accounts.old + credited_in_all (credits_for submitters.now.list bidding bidders.now)
+        ≤ most_held) }
     requires awards { length bidders.now ≤ vec_capacity scratch.old.awards }
     requires room { length bidders.now ≤ accounts.old.spare_accounts }
     requires live { ¬ (IsRedeemed security accounts.old) }
-    ensures told { (bidding : Bidding) → IsCutIn bidding book.now.lines scratch.old.recognised.lines outcome.now → bidding.enrolled ≡ bidders.now
-        → TellsNext (Some (Settled security (credits_for submitters.now.list bidding bidders.now))) accounts.old accounts.new }
+    ensures told { (bidding : Bidding) → IsCutIn bidding book.now.lines scratch.old.recognised.lines outcome.now
+        → bidding.enrolled ≡ bidders.now
+        → TellsNext (Some (Settled security (credits_for submitters.now.list bidding bidders.now)))
+        accounts.old accounts.new }
     ensures room { TakesRoom (length bidders.now) 0 0 accounts.old accounts.new }
     ensures keeps { KeepsScratch scratch.old scratch.new }
 {
@@ -62,12 +67,14 @@ fn credit_each(
 )
     requires numbered { length submitters.now.list < 2 ^ 32 }
     requires awards { (bidding : Bidding) × (awards.now ≡ awards_of bidding bidders.now)
-        × (total_of security accounts.old + credited_in_all (credits_for submitters.now.list bidding bidders.now) ≤ most_held) }
+        × (total_of security accounts.old + credited_in_all (credits_for submitters.now.list bidding bidders.now)
+        ≤ most_held) }
     requires limited { All (λ award. award ≤ most_par) awards.now }
     requires room { length bidders.now ≤ accounts.old.spare_accounts }
     requires live { ¬ (IsRedeemed security accounts.old) }
     ensures told { (bidding : Bidding) → awards.now ≡ awards_of bidding bidders.now
-        → TellsNext (Some (Settled security (credits_for submitters.now.list bidding bidders.now))) accounts.old accounts.new }
+        → TellsNext (Some (Settled security (credits_for submitters.now.list bidding bidders.now)))
+        accounts.old accounts.new }
     ensures room { TakesRoom (length bidders.now) 0 0 accounts.old accounts.new }
 {
     for place in 0..bidders.len() {

@@ -6,8 +6,8 @@ use std::alloc::Global;
 use tb_award::Recognised;
 use tb_units::OutOfMemory;
 
-/// A list of recognised lines and arrays of the bidders' positions and awards, which serve all settlements, and for how many
-/// more messages their room lasts.
+/// A list of recognised lines and arrays of the bidders' positions and awards, which serve all settlements, and for how
+/// many more messages their room lasts.
 #[derive(Drop)]
 pub struct Scratch {
     pub recognised: Recognised,

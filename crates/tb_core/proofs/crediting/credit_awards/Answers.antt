@@ -17,7 +17,8 @@ credit_each-requires-clause-awards c =
     let same = c.requires.bidding.2 in (
       bidding,
       c.deref.ensures.value
-          ∙ (c.award_all.ensures.awards bidding c.requires.bidding.1 (ap (λ (es : List Enrolment). length es) (sym same))
+          ∙ (c.award_all.ensures.awards bidding c.requires.bidding.1
+          (ap (λ (es : List Enrolment). length es) (sym same))
           ∙ ap (awards_of bidding) same),
       c.requires.bidding.3,
     )

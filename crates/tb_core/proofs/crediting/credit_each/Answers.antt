@@ -54,11 +54,14 @@ loop-place-preserved c = record {
       let named : c.holder_number-holder.result
       ≡ position_or_len (λ (r : Registration). is_same r.submitter e.submitter) c.args.submitters.now.list =
       c.holder_number-holder.ensures
-      ∙ ap (λ (x : Enrolment). position_or_len (λ (r : Registration). is_same r.submitter x.submitter) c.args.submitters.now.list)
+      ∙ ap (λ (x : Enrolment). position_or_len (λ (r : Registration). is_same r.submitter x.submitter)
+      c.args.submitters.now.list)
       (sym c.index-bidders-place.is) in
-      let given : List Credit = credits_for c.args.submitters.now.list bidding (take c.loop-place.place c.args.bidders.now) in
+      let given : List Credit =
+      credits_for c.args.submitters.now.list bidding (take c.loop-place.place c.args.bidders.now) in
       subst (λ (credits : List Credit). CreditsBook c.args.security credits c.args.accounts.now c.credit.new.self)
-      (sym (credits_more c.args.submitters.now.list bidding c.args.bidders.now c.loop-place.place e short c.index-bidders-place.is))
+      (sym (credits_more c.args.submitters.now.list bidding c.args.bidders.now c.loop-place.place e short
+      c.index-bidders-place.is))
       (CreditsBook-push c.args.security given (credit_for c.args.submitters.now.list bidding e) c.args.accounts.now
       c.loop-place.accounts c.credit.new.self (c.loop-place.invariant.credits bidding same)
       (rw (named, due) at c.credit.ensures.accounts) c.credit.ensures.others);
@@ -72,8 +75,9 @@ loop-place-preserved c = record {
 
 pub returns-clause-told : goal.returns-clause-told
 returns-clause-told c bidding same =
-    TellsMore-settled c.args.security (credits_for c.args.submitters.now.list bidding c.args.bidders.now) c.args.accounts.now
-    c.loop-place.accounts c.requires.live
+    TellsMore-settled c.args.security (credits_for c.args.submitters.now.list bidding c.args.bidders.now)
+    c.args.accounts.now c.loop-place.accounts c.requires.live
     (subst (λ (es : List Enrolment).
-    CreditsBook c.args.security (credits_for c.args.submitters.now.list bidding es) c.args.accounts.now c.loop-place.accounts)
+    CreditsBook c.args.security (credits_for c.args.submitters.now.list bidding es) c.args.accounts.now
+    c.loop-place.accounts)
     (take_all c.loop-place.place c.args.bidders.now (omega arith)) (c.loop-place.invariant.credits bidding same))

@@ -10,7 +10,8 @@ use Rattle.tb_core.proofs.crediting.credit_each.Given as goal
 abbrev pub invariant-loop-place : goal.invariant-loop-place
 invariant-loop-place l = record {
   credits : (bidding : Bidding) → l.awards ≡ awards_of bidding l.bidders
-      → CreditsBook l.security (credits_for l.submitters.list bidding (take l.place l.bidders)) l.fn.accounts l.accounts;
+      → CreditsBook l.security (credits_for l.submitters.list bidding (take l.place l.bidders))
+      l.fn.accounts l.accounts;
   room : TakesRoom l.place 0 0 l.fn.accounts l.accounts;
   redeemed : l.accounts.redeemed ≡ l.fn.accounts.redeemed;
 }
