@@ -55,7 +55,8 @@ fn bid(rt: &impl Abort, alloc: Global, text: &str) -> Result<(u64, Message), Fai
     }
 }
 
-// A desk on which the auction is announced: the opening made the device calls 0 to 3, and each of the three messages four.
+// A desk on which the auction is announced: the opening made the device calls 0 to 3, and each of the three messages
+// four.
 fn announced(
     rt: &impl Abort,
     alloc: Global,
@@ -114,8 +115,8 @@ fn two_bids_stand_under_one_gate(rt: HostRuntime) -> Result<(), Fail> {
     Ok(())
 }
 
-// The first call writes the frame behind the closed gate, and the third call the gate. Before the fourth any byte may stand
-// there, and so both bids count or neither.
+// The first call writes the frame behind the closed gate, and the third call the gate. Before the fourth any byte may
+// stand there, and so both bids count or neither.
 #[test]
 fn a_crash_leaves_both_bids_or_neither(rt: HostRuntime) -> Result<(), Fail> {
     let alloc = rt.alloc();

@@ -66,7 +66,8 @@ frames-preserved g c =
     let is = c.in-Ok-Some.field-0-is in
     let entered = c.in-Ok.ensures.entered in
     let payload = c.payload_in.ensures in
-    let whole : length (take size bytes) ≡ size = ap (λ (read : List ℕ). length read) (sym payload.bytes) ∙ payload.size in
+    let whole : length (take size bytes) ≡ size = ap (λ (read : List ℕ). length read) (sym payload.bytes)
+    ∙ payload.size in
     record {
       sure = after.same.1 ∙ before.sure;
       gate = after.same.0 ∙ before.gate;
