@@ -172,7 +172,8 @@ in-time history auction a legal announced = each-placed (IsInTime a) history [] 
     each before e behind is named bidder rate amount bids whose =
         let follows = IsLegal-follows behind before e (subst IsLegal is legal) in
         let passed = accepted-passes before e.submitter e.number e.moment e.message follows.accepted in
-        let clear : AllByRecursion IsClear (rows_of before e.submitter e.moment (message.Bid named bidder rate amount)) =
+        let clear : AllByRecursion IsClear
+        (rows_of before e.submitter e.moment (message.Bid named bidder rate amount)) =
         subst (λ (m : Message). AllByRecursion IsClear (rows_of before e.submitter e.moment m)) bids passed.rows in
         let came = came-in-time (announcement_of (announcements before) named) _ _ e.moment rate _ clear in
         let later : announcement_of (announcements history) named ≡ Some came.a =
@@ -180,7 +181,8 @@ in-time history auction a legal announced = each-placed (IsInTime a) history [] 
         (announced-more (e ∷ behind) before named came.a came.is) in
         let same_name : a.auction ≡ auction = announced-name (announcements history) auction a announced in
         let here : announcement_of (announcements history) named ≡ Some a =
-        subst (λ (n : List ℕ). announcement_of (announcements history) n ≡ Some a) (sym (whose ∙ same_name)) announced in
+        subst (λ (n : List ℕ). announcement_of (announcements history) n ≡ Some a)
+        (sym (whose ∙ same_name)) announced in
         subst (λ (x : Announcement). e.moment.seconds < (closing_for x rate).seconds)
         (some-one came.a a (sym later ∙ here)) came.in_time
 
@@ -194,14 +196,16 @@ published-of history caller auction (query.Results named) whose passed =
       | inl is ↦ subst (λ (n : List ℕ). is_published history n ≡ true) whose is
       | inr not ↦
           let shown = shown-refused history caller named (query.Results named) not refl in
-          absurd (let wrong : is_some (query_refusal history caller (query.Results named)) ≡ false = rw passed refl in cc)
+          absurd (let wrong : is_some (query_refusal history caller (query.Results named)) ≡ false =
+          rw passed refl in cc)
     ]
 published-of history caller auction (query.Awards named) whose passed =
     elim (cases_Bool (is_published history named)) [
       | inl is ↦ subst (λ (n : List ℕ). is_published history n ≡ true) whose is
       | inr not ↦
           let shown = shown-refused history caller named (query.Awards named) not refl in
-          absurd (let wrong : is_some (query_refusal history caller (query.Awards named)) ≡ false = rw passed refl in cc)
+          absurd (let wrong : is_some (query_refusal history caller (query.Awards named)) ≡ false =
+          rw passed refl in cc)
     ]
 published-of history caller auction other whose passed = absurd whose
 

@@ -53,7 +53,8 @@ pub not-import : (said : Command) (texts : List (List ℕ))
 not-import said texts are none sent = none (sent.0, subst (λ (c : Command). all.AreWordsOf c texts) sent.1 are)
 
 -- a command on the disk that ended as none does on a desk wasn't begun
-pub not_begun_of : (Holds : Standing → Standing → Type 0) (ended : Ending) (input input' : SourceState) (old new : Devices)
+pub not_begun_of : (Holds : Standing → Standing → Type 0) (ended : Ending)
+    (input input' : SourceState) (old new : Devices)
     → ((first last : Standing) → ¬ (Holds first last))
     → EndsOnDisk Holds ended input input' old new
     → NotBegun ended input input' old new
@@ -241,8 +242,8 @@ read-rose_at : (said : Command) (moments : Option (List ℕ)) (input input' : So
     → Rose input.faults input'.faults
 read-rose_at (command.Award full) moments input input' old new ends = ends.1
 read-rose_at (command.Run operator) moments input input' old new ends =
-    (on_desk_of (ScriptEnds operator ending.ReadFault input input' old.out new.out) ending.ReadFault input input' old new
-    (omega arith) ends).3.0
+    (on_desk_of (ScriptEnds operator ending.ReadFault input input' old.out new.out) ending.ReadFault
+    input input' old new (omega arith) ends).3.0
 read-rose_at (command.Serve operator port workers links) moments input input' old new ends = absurd ends
 read-rose_at (command.Import operator caller) moments input input' old new ends =
     (on_desk_of (TableEnds (record { operator = operator; key = caller }) moments ending.ReadFault input input' old.out
@@ -265,8 +266,8 @@ write-rose_at (command.Import operator caller) moments input input' old new ends
     (on_desk_of (TableEnds (record { operator = operator; key = caller }) moments ending.WriteFault input input' old.out
     new.out) ending.WriteFault input input' old new (omega arith) ends).3.0
 write-rose_at (command.Report operator caller asked csv) moments input input' old new ends =
-    (on_desk_of (ReadsDesk (inquiry operator caller asked csv) ending.WriteFault old.out new.out) ending.WriteFault input
-    input' old new (omega arith) ends.ends).3.1.3
+    (on_desk_of (ReadsDesk (inquiry operator caller asked csv) ending.WriteFault old.out new.out)
+    ending.WriteFault input input' old new (omega arith) ends.ends).3.1.3
 write-rose_at (command.Trial seed count) moments input input' old new ends = ends.0
 
 -- and of a disk that failed, the count of the disk

@@ -132,7 +132,8 @@ OneHistory-spelled fixed first last more low high calls legal legal' accepted gr
           answered-in fixed first.history last.history (get_or calls k d) legal legal' (one.answered k d within)
           (one.begins k d within) (one.prefixes k d within) (one.accepted k d within);
       own = each-added more one.later calls records
-          (All-append_right first.history more (subst (λ (l : List Entry). All IsInRange l) grown whole)) ranges one.entries;
+          (All-append_right first.history more (subst (λ (l : List Entry). All IsInRange l) grown whole)) ranges
+          one.entries;
       doubted = each-added last.doubt (spelled_all last.doubt) calls refl
           (All-append_right last.history last.doubt with_doubt) ranges one.doubted;
     }

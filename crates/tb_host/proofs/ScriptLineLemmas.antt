@@ -123,7 +123,8 @@ printed_key : (word : List ℕ) (key : Key) → key_of word ≡ Some key → lis
 printed_key word key is = elim (cases_Bool (bytes_eq (take 3 word) (codes "op:"))) [
   | inl operators ↦
       printed_behind word (same_text (take 3 word) (codes "op:") (sym operators))
-      (printed_bytes (drop 3 word) (name_bytes (drop 3 word) (named (drop 3 word) keys.Operator key (rw operators at is))))
+      (printed_bytes (drop 3 word)
+      (name_bytes (drop 3 word) (named (drop 3 word) keys.Operator key (rw operators at is))))
   | inr submitters ↦
       printed_bytes word (name_bytes word (named word keys.Submitter key (rw submitters at is)))
 ]

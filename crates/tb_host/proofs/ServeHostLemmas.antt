@@ -41,7 +41,8 @@ told-were false ending.OutOfMemory out out' text told = absurd told
 told-done : (failed : Bool) (out out' : SinkState) (text : List ℕ)
     → ToldEnds failed ending.Done out out' text
     → out'.faults ≡ out.faults
-told-done true out out' text told = absurd (let bad : ⊥ = (let is : ending.Done ≡ ending.GateFault = told.0 in cc) in bad)
+told-done true out out' text told =
+    absurd (let bad : ⊥ = (let is : ending.Done ≡ ending.GateFault = told.0 in cc) in bad)
 told-done false out out' text told = told.no_fault
 
 -- where a write failed the count of the output has risen
@@ -120,7 +121,8 @@ module _ {G K : Type 0} (gate : G → GateState K) (source : K → SourceState)
       × LinksEnd ended old.out new.out runs accepted)
       → WereServed ended
   served-were served =
-      told-were (some_failed served.2) ended old.out new.out (served_text (links_of_gates served.2) served.4.0) served.4.2
+      told-were (some_failed served.2) ended old.out new.out
+      (served_text (links_of_gates served.2) served.4.0) served.4.2
 
   -- it never ends as words outside the command set do, and never fails to read
   pub serve-other : ServeEnds gate source sink operator clock ended old new
@@ -244,7 +246,8 @@ module _ {G K : Type 0} (gate : G → GateState K) (source : K → SourceState)
       → (status_of ended ≡ status_of (ending_of why)) ⊎ (status_of ended ≡ 9)
   serve-refused_file past why (inl served) told is_true speaks no_fault =
       absurd (opened-not why past served.0.history is_true speaks
-      (known (λ past. IsExact (contents_of past) (Ok served.0.history)) old.disk.past past told served.3.keeps.opened.stood))
+      (known (λ past. IsExact (contents_of past) (Ok served.0.history)) old.disk.past past told
+      served.3.keeps.opened.stood))
   serve-refused_file past why (inr unserved) told is_true speaks no_fault =
       the_status (reasons-one why unserved.why past old.disk new.disk told is_true speaks unserved.unopened no_fault)
     where

@@ -100,7 +100,8 @@ module _ {D C G K : Type 0} (disk : D → DiskState) (clock : C → ClockState) 
       ∙ ap (λ (m : Option (List ℕ)). fixed_code operator (is_some old.past) old.faults m) moment))
 
   -- Where the desk was opened and its room's gates were served, links were served.
-  pub Serves-room : (operator : List ℕ) (moments : ClockState) (ended : Ending) (old mid new : Handed G) (room : Room D C)
+  pub Serves-room : (operator : List ℕ) (moments : ClockState) (ended : Ending)
+      (old mid new : Handed G) (room : Room D C)
       → IsOpenedFrom disk clock operator moments old.disk room
       → mid.disk ≡ disk room.desk.disk
       → mid.gates ≡ old.gates
@@ -162,8 +163,9 @@ module _ {D C G K : Type 0} (disk : D → DiskState) (clock : C → ClockState) 
         grown = raw.grown;
         entries = raw.entries;
         doubted = raw.doubted;
-        answered = subst (λ (f : List ℕ). All (λ (m : Made). Rattle.tb_session.specs.Codes.IsAnswered f m.history m.called
-            m.before m.after) (calls_of_gates done.all.runs)) fixed raw.answered;
+        answered = subst (λ (f : List ℕ). All
+            (λ (m : Made). Rattle.tb_session.specs.Codes.IsAnswered f m.history m.called m.before m.after)
+            (calls_of_gates done.all.runs)) fixed raw.answered;
         begins = raw.begins;
         prefixes = raw.prefixes;
         accepted = raw.accepted;
@@ -177,8 +179,8 @@ module _ {D C G K : Type 0} (disk : D → DiskState) (clock : C → ClockState) 
       told : LinksEnd ended mid.out new.out done.all.runs done.accepted
       told = subst (λ (b : Bool). ToldEnds b ended mid.out new.out (served_text (links_of_gates done.all.runs)
           done.accepted)) done.all.failed_is
-          (subst (λ (n : ℕ). ToldEnds done.failed ended mid.out new.out (served_text n done.accepted)) done.all.served_is
-          done.ends)
+          (subst (λ (n : ℕ). ToldEnds done.failed ended mid.out new.out (served_text n done.accepted))
+          done.all.served_is done.ends)
 
       -- the room that came back was opened on the disk that the opening left
       same : disk done.after.desk.opened ≡ disk room.desk.disk
@@ -224,7 +226,8 @@ module _ {D C G K : Type 0} (disk : D → DiskState) (clock : C → ClockState) 
       never fault.OutOfMemory were = were
 
   -- Where the desk was opened, the command ends as its room does.
-  pub ServeEnds-room : (operator : List ℕ) (moments : ClockState) (ended : Ending) (old mid new : Handed G) (room : Room D C)
+  pub ServeEnds-room : (operator : List ℕ) (moments : ClockState) (ended : Ending)
+      (old mid new : Handed G) (room : Room D C)
       → IsOpenedFrom disk clock operator moments old.disk room
       → mid.disk ≡ disk room.desk.disk
       → mid.gates ≡ old.gates

@@ -20,7 +20,8 @@ pub serve-not_award : (asked : Serving) (full : Bool) (words : List (List ℕ))
     → AreServe asked words
     → ¬ (AreAward full words)
 serve-not_award asked full words serve award =
-    let same : command_of asked ≡ every.Award full = one_command words (command_of asked) (every.Award full) serve award in
+    let same : command_of asked ≡ every.Award full =
+    one_command words (command_of asked) (every.Award full) serve award in
     absurd (let bad : ⊥ = cc in bad)
 
 -- nor `run`
@@ -28,7 +29,8 @@ pub serve-not_run : (asked : Serving) (operator : List ℕ) (words : List (List 
     → AreServe asked words
     → ¬ (AreRun operator words)
 serve-not_run asked operator words serve run =
-    let same : command_of asked ≡ every.Run operator = one_command words (command_of asked) (every.Run operator) serve run in
+    let same : command_of asked ≡ every.Run operator =
+    one_command words (command_of asked) (every.Run operator) serve run in
     absurd (let bad : ⊥ = cc in bad)
 
 -- nor `report`
@@ -65,7 +67,8 @@ pub serve-one : (one other : Serving) (words : List (List ℕ))
     → AreServe other words
     → (one.operator ≡ other.operator) × (plan_of one ≡ plan_of other)
 serve-one one other words is_one is_other =
-    let same : command_of one ≡ command_of other = one_command words (command_of one) (command_of other) is_one is_other in
+    let same : command_of one ≡ command_of other =
+    one_command words (command_of one) (command_of other) is_one is_other in
     let operator : one.operator ≡ other.operator = cc in
     let port : one.port ≡ other.port = cc in
     let workers : one.workers ≡ other.workers = cc in

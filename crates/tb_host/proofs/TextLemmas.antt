@@ -99,7 +99,8 @@ all-lines book kept cut recognised text tally has = record {
 }
 
 -- an auction of a text book that stands for a book: its bidders and positions, and what is recognised of its lines
-pub record IsAuctionOf (book : Book) (kept : TextBook) (names : List (List ℕ)) (recognised : List RateLine) : Type 0 where
+pub record IsAuctionOf (book : Book) (kept : TextBook) (names : List (List ℕ))
+    (recognised : List RateLine) : Type 0 where
   pub tally : IsTally book kept
   pub names_are : names ≡ kept.bidders.keys
   pub positions : List ℤ
@@ -130,17 +131,20 @@ cut-text full book kept names recognised cut text auction has =
     (auction.names_are ∙ tally.names) has.text_is in
     let of_ways : HasCutText full cut recognised book.names kept.ways.items text =
     subst (λ (all : List Way). HasCutText full cut recognised book.names all text) has.ways_are of_names in
-    let sought_of_book : has.sought ≡ sought_of offering.amount.value (noncompetitive_in book.entries) offering.floor.value =
+    let sought_of_book : has.sought
+    ≡ sought_of offering.amount.value (noncompetitive_in book.entries) offering.floor.value =
     has.sought_is ∙ ap (λ n. sought_of offering.amount.value n offering.floor.value) tally.noncompetitive in
     record {
       recognised = recognised;
-      are = recognised-of-book book kept auction.positions recognised tally auction.positions_are auction.recognised_are;
+      are = recognised-of-book book kept auction.positions recognised tally auction.positions_are
+          auction.recognised_are;
       is = inl (record {
         stop = cut.stop.steps;
         percent = cut.percent.hundredths;
         price = cut.price.millionths;
         bidders = of_ways.bidders;
-        cut = subst (λ (n : ℕ). IsCut (par_of recognised) n cut.stop.steps cut.percent.hundredths) sought_of_book has.is.is;
+        cut = subst (λ (n : ℕ). IsCut (par_of recognised) n cut.stop.steps cut.percent.hundredths)
+            sought_of_book has.is.is;
         priced = has.is.price;
         bidders_are = where-full full (HasAllLines cut recognised book.names kept.ways.items)
             (AreAllLines cut.stop.steps cut.percent.hundredths cut.price.millionths book recognised) of_ways.bidders
@@ -162,6 +166,7 @@ nothing-text full book kept names recognised text auction empty has =
     subst (λ (bidders : List (List ℕ)). HasNothingText full bidders text) (auction.names_are ∙ tally.names) has in
     record {
       recognised = recognised;
-      are = recognised-of-book book kept auction.positions recognised tally auction.positions_are auction.recognised_are;
+      are = recognised-of-book book kept auction.positions recognised tally auction.positions_are
+          auction.recognised_are;
       is = inr (empty, (of_names.bidders, of_names.bidders_are, of_names.is));
     }

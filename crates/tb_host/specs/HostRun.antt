@@ -33,7 +33,8 @@ EndsAs (command.Report operator caller asked csv) moments ended input input' old
 EndsAs (command.Trial seed count) moments ended input input' old new = TrialEnds seed count ended old.out new.out
 EndsAs other moments ended input input' old new = ⊥
 
--- a text was read up to the line that ends what the command reads, and nothing behind that; a report and a trial read nothing
+-- a text was read up to the line that ends what the command reads, and nothing behind that; a report and a trial read
+-- nothing
 abbrev pub ReadsAlone : Command → ℕ → ℕ → List ℕ → Type 0
 ReadsAlone (command.Award full) before after text = ReadsBookAlone before after text
 ReadsAlone (command.Run operator) before after text = ReadsScriptAlone before after text

@@ -29,7 +29,8 @@ abbrev pub inquiry : List ℕ → Key → Query → Bool → Inquiry
 inquiry operator key query csv =
     record { sender = record { operator = operator; key = key }; query = query; csv = csv }
 
--- a reading as it is printed: as its table, where one is asked for and awards or holdings have one, and else as its lines
+-- a reading as it is printed: as its table, where one is asked for and awards or holdings have one, and else as its
+-- lines
 abbrev pub printed : Bool → Reading → List ℕ
 printed true (reading.Awards lines) = table_text (awards_table lines)
 printed true (reading.Holdings lines) = table_text (holdings_table lines)

@@ -37,15 +37,15 @@ pub record Handed (G : Type 0) : Type 0 where
   pub gates : List G
   pub out : SinkState
 
--- The calls met faults of the disk between these two counts, which lie no further apart than the disk's counts do, unless
--- that stands at its last value.
+-- The calls met faults of the disk between these two counts, which lie no further apart than the disk's counts do,
+-- unless that stands at its last value.
 pub record CountsOf (old new : DiskState) (made : List Made) : Type 0 where
   pub met : ℕ
   pub each : All (λ m. (m.before ≤ m.after) × (m.after ≤ met)) made
   pub within : (old.faults + met ≤ new.faults) ⊎ (new.faults ≡ last_count)
 
--- where a gate failed that is how it ends; else the two lines were written, or the output failed and has taken a part of
--- them
+-- where a gate failed that is how it ends; else the two lines were written, or the output failed and has taken a part
+-- of them
 abbrev pub ToldEnds : Bool → Ending → SinkState → SinkState → List ℕ → Type 0
 ToldEnds true ended out out' text = (ended ≡ ending.GateFault) × (out' ≡ out)
 ToldEnds false ending.Done out out' text = Takes out out' text
@@ -81,8 +81,8 @@ abbrev pub Served : ℕ → Type 0
 Served status = (status ≡ 0) ⊎ (status ≡ 5) ⊎ (status ≡ 10)
 
 module _ {G K : Type 0} (gate : G → GateState K) (source : K → SourceState) (sink : K → SinkState) where
-  -- The desk was opened on the disk, the disk handed back keeps the last history, and so did every crash on the way. These
-  -- runs are what became of the gates' links, and one history stands behind all their calls.
+  -- The desk was opened on the disk, the disk handed back keeps the last history, and so did every crash on the way.
+  -- These runs are what became of the gates' links, and one history stands behind all their calls.
   pub record Serves (operator : List ℕ) (clock : ClockState) (old new : Handed G) (first last : Standing)
       (runs : List (Run K)) : Type 0 where
     pub keeps : Keeps old.disk new.disk first last
@@ -92,7 +92,8 @@ module _ {G K : Type 0} (gate : G → GateState K) (source : K → SourceState) 
     pub counts : CountsOf old.disk new.disk (calls_of_gates runs)
 
   -- links were served, and this is so of the first and the last history and of what became of the gates
-  abbrev pub OnServed : List ℕ → ClockState → Handed G → Handed G → (Standing → Standing → List (Run K) → Type 0) → Type 0
+  abbrev pub OnServed : List ℕ → ClockState → Handed G → Handed G
+      → (Standing → Standing → List (Run K) → Type 0) → Type 0
   OnServed operator clock old new Holds =
       (first : Standing) × (last : Standing) × (runs : List (Run K))
       × Serves operator clock old new first last runs × Holds first last runs
@@ -123,8 +124,10 @@ module _ {D C G K : Type 0} (disk : D → DiskState) (clock : C → ClockState) 
     pub failed : Bool
     pub all : ServesAll disk clock gate source sink room old.gates after new.gates served accepted failed
     pub stays : Stays (standing new.disk after.desk) new.disk
-    pub since : CrashesLeave (IsBeginning after.desk.host.history after.desk.recovered) (disk after.desk.opened) new.disk
-    pub counted : ((disk after.desk.opened).faults + after.desk.faults ≤ new.disk.faults) ⊎ (new.disk.faults ≡ last_count)
+    pub since : CrashesLeave (IsBeginning after.desk.host.history after.desk.recovered)
+        (disk after.desk.opened) new.disk
+    pub counted : ((disk after.desk.opened).faults + after.desk.faults ≤ new.disk.faults)
+        ⊎ (new.disk.faults ≡ last_count)
     pub ends : ToldEnds failed ended old.out new.out (served_text served accepted)
 
   -- how that ends: so, or for want of memory with nothing done

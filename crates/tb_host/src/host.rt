@@ -60,12 +60,11 @@ pub struct Ended<D: Disk> {
 /// Does the command that the words are, tells `err` how it ended, and answers the status and the disk.
 ///
 /// 0: done. 2: the words are outside the command set. 3: the first line outside the grammar was reached, and is told.
-/// 4: the input failed. 5: the output failed. 6: the disk failed while it was opened. 7: the disk holds no journal; what
-/// it begins with is told. 8: the journal is damaged; the place is told. 9: out of memory. 10: a
-/// gate failed.
+/// 4: the input failed. 5: the output failed. 6: the disk failed while it was opened. 7: the disk holds no journal;
+/// what it begins with is told. 8: the journal is damaged; the place is told. 9: out of memory. 10: a gate failed.
 ///
-/// `run`, `import`, `report` and `serve` work on the journal that `disk` holds. `serve` alone touches the gates, of which
-/// there are as many as its words say; it and `import` read the clock. No command touches `spare`.
+/// `run`, `import`, `report` and `serve` work on the journal that `disk` holds. `serve` alone touches the gates, of
+/// which there are as many as its words say; it and `import` read the clock. No command touches `spare`.
 pub fn host_main<
     D: Disk + Send + Drop,
     G: Gate + Send + Drop,
@@ -176,8 +175,8 @@ pub fn host_main<
     // At 6, 7 and 8 the disk wasn't opened, and what is told is true of it.
     ensures run_unopened { (6 ≤ result.status) → (result.status ≤ 8)
         → ToldUnopened result.status (D.disk disk) (D.disk result.disk) (E.sink err.old) (E.sink err.new) }
-    // A script over a disk that stands for a legal history is answered, an input that leaves the grammar is told so, and
-    // so is a file that is no journal or is damaged, unless an object failed or memory ran out.
+    // A script over a disk that stands for a legal history is answered, an input that leaves the grammar is told so,
+    // and so is a file that is no journal or is damaged, unless an object failed or memory ran out.
     ensures run_complete { (operator : List ℕ) → AreRun operator (map string_bytes words.now)
         → HasHistory (D.disk disk)
         → WhereTold (I.source input.old).left (λ text. HasScript (lines text)
@@ -307,7 +306,8 @@ pub fn host_main<
         (λ first last runs. (accepted : ℕ) × HasAdded first last accepted
         × LinksEnd Ending.GateFault (O.sink out.old) (O.sink out.new) runs accepted) }
     // At every other status no link was taken and nothing written, and a disk that stood for a history does so still.
-    ensures serve_left_off { (¬ (Served result.status)) → (asked : Serving) → AreServe asked (map string_bytes words.now)
+    ensures serve_left_off { (¬ (Served result.status)) → (asked : Serving)
+        → AreServe asked (map string_bytes words.now)
         → (ending : Ending) × (status_of ending ≡ result.status)
         × Unserved ending
         (record { disk = D.disk disk; gates = gates.old.items; out = O.sink out.old })

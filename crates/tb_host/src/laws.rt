@@ -1,5 +1,5 @@
-//! Laws of the definitions: a text has at most one book or script, one line outside the grammar, and one text of its auction;
-//! a script has one run.
+//! Laws of the definitions: a text has at most one book or script, one line outside the grammar, and one text of its
+//! auction; a script has one run.
 ghost use Rattle.std.specs.Prelude.{◌≡◌, ◌≢◌, ℕ, List, [], Bool, Result};
 ghost use Rattle.tb_units.specs.declared.moment.Moment.{Moment};
 ghost use Rattle.tb_terms.specs.declared.refusal.Refusal.{Refusal};
@@ -53,8 +53,8 @@ pub fn one_script_or_bad_line()
     ensures never_both { (lines : List (List ℕ)) (number : ℕ) → HasScript lines → ¬ (LeavesScript number lines) }
 {}
 
-/// Where no fault occurs, lines have one text of replies, and leave one history, from where a script stands with nothing
-/// in doubt: both are a function of the history and the lines.
+/// Where no fault occurs, lines have one text of replies, and leave one history, from where a script stands with
+/// nothing in doubt: both are a function of the history and the lines.
 pub fn one_run()
     ensures replies { (operator : List ℕ) (start : Standing) (lines : List (List ℕ)) (one other : List ℕ)
         (last last' : Standing)

@@ -133,7 +133,8 @@ fn read_position(text: &str) -> Option<i64>
 // The number below zero whose digits these are.
 fn read_below_zero(digits: &str) -> Option<i64>
     ensures read { IfSome result (λ position. (hyphen ∷ digits.now ≡ signed_decimal position) × IsPosition position) }
-    ensures none { IfNone result ((position : ℤ) → IsPosition position → hyphen ∷ digits.now ≢ signed_decimal position) }
+    ensures none { IfNone result ((position : ℤ) → IsPosition position
+        → hyphen ∷ digits.now ≢ signed_decimal position) }
 {
     let below = Dollars::read(digits)?.value;
     if below == 0 {

@@ -10,8 +10,8 @@ use tb_history::Figures;
 use tb_link::Sink;
 use tb_units::{OutOfMemory, Short};
 
-/// Prints the figures of the auction of so many bids, 1 to 1,000,000, that follow from the seed. Nothing is written before
-/// they are all there.
+/// Prints the figures of the auction of so many bids, 1 to 1,000,000, that follow from the seed. Nothing is written
+/// before they are all there.
 pub fn trial<O: Sink>(alloc: Global, seed: u64, count: u64, out: &mut O) -> Ending
     requires some { 1 ≤ count }
     requires limited { count ≤ 10 ^ 6 }

@@ -38,7 +38,8 @@ returns-in-Ok-None-clause-usage g c =
     let usage = c.run_command-ending.ensures.usage in (
       λ is inside. elim inside [
         | inl command ↦ usage.0 is command
-        | inr serve ↦ found-none c.in-Ok-None.field-0 _ c.in-Ok-None.field-0-is c.in-Ok-None.ensures.none serve.0 serve.1
+        | inr serve ↦ found-none c.in-Ok-None.field-0 _ c.in-Ok-None.field-0-is
+            c.in-Ok-None.ensures.none serve.0 serve.1
       ],
       λ outside. usage.1 (λ command. outside (inl command)),
     )
@@ -63,4 +64,5 @@ returns-in-Err-clause-serve g c = λ asked are.
 pub returns-in-Ok-Some-clause-unopened : goal.returns-in-Ok-Some-clause-unopened
 returns-in-Ok-Some-clause-unopened g c = λ unopened.
     serve-not_begun g.G.Gate.gate g.G.Conn.Source.source g.G.Conn.Sink.sink c.in-Ok-Some.asked.operator
-    (g.C.Clock.clock c.args.clock) c.serve.result.0 _ _ (g.I.Source.source c.args.input.now) c.serve.ensures.ends unopened
+    (g.C.Clock.clock c.args.clock) c.serve.result.0 _ _ (g.I.Source.source c.args.input.now)
+    c.serve.ensures.ends unopened

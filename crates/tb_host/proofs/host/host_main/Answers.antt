@@ -265,8 +265,8 @@ returns-clause-serve_left_off g c = λ none asked are. (
 pub returns-clause-serve_complete : goal.returns-clause-serve_complete
 returns-clause-serve_complete g c = λ asked are stands no_gate no_write no_fault.
     rw c.status.ensures (serve-complete g.G.Gate.gate g.G.Conn.Source.source g.G.Conn.Sink.sink asked.operator
-    (g.C.Clock.clock c.args.clock) c.any_command-ending.result.0 _ _ (c.any_command-ending.ensures.serve asked are) stands
-    no_gate no_write no_fault)
+    (g.C.Clock.clock c.args.clock) c.any_command-ending.result.0 _ _
+    (c.any_command-ending.ensures.serve asked are) stands no_gate no_write no_fault)
 
 pub returns-clause-serve_refused_file : goal.returns-clause-serve_refused_file
 returns-clause-serve_refused_file g c = λ asked are.

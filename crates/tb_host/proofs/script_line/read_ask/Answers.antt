@@ -18,7 +18,8 @@ pub returns-then-is_empty-clause-none : goal.returns-then-is_empty-clause-none
 returns-then-is_empty-clause-none c =
     let rest = c.in_ok-moment.ensures.2 in
     let json = c.in_ok-key.ensures.2 ∙ ap (after_first is_blank) rest in
-    no_json c.args.text.now (ap length (sym json) ∙ eqb-true (length c.in_ok-key.json.now) 0 (sym c.is_empty.ensures ∙ c.if-is_empty.true))
+    no_json c.args.text.now
+    (ap length (sym json) ∙ eqb-true (length c.in_ok-key.json.now) 0 (sym c.is_empty.ensures ∙ c.if-is_empty.true))
 
 pub returns-in_err-moment-2-clause-none : goal.returns-in_err-moment-2-clause-none
 returns-in_err-moment-2-clause-none c =
