@@ -53,7 +53,8 @@ found test (y ∷ xs) x is =
     ]
 
 -- a registered submitter's key stays its key
-submitter-stays : (history more : List Entry) (word caller : List ℕ) → submitter_of (registrations history) word ≡ Some caller
+submitter-stays : (history more : List Entry) (word caller : List ℕ)
+    → submitter_of (registrations history) word ≡ Some caller
     → submitter_of (registrations (history ++ more)) word ≡ Some caller
 unfolding registrations
 submitter-stays history more word caller is =
@@ -67,7 +68,8 @@ submitter-stays history more word caller is =
     go None first same = absurd (let bad : ⊥ = cc in bad)
     go (Some r) first same =
         ap (λ o. option_map (λ (r : Registration). r.submitter) o)
-        (find-append (λ (r : Registration). is_same r.key word) (registrations history) (registrations more) r first) ∙ same
+        (find-append (λ (r : Registration). is_same r.key word) (registrations history) (registrations more) r first)
+        ∙ same
 
 -- whoever is the caller of a key stays its caller
 pub caller_on-append : (name : List ℕ) (history more : List Entry) (k : Key) (caller : List ℕ)
@@ -150,8 +152,8 @@ kept-repeat history submitter number n moment m message (Some e) rest is never s
           record {
             number_is = sym number_told ∙ number_same;
             stands = subst (λ (x : Entry). Contains history x)
-                (entry-is e submitter number m message (is_same-equal e.submitter submitter parts.0) number_same moment_told
-                (same_message-equal e.message message same))
+                (entry-is e submitter number m message (is_same-equal e.submitter submitter parts.0)
+                number_same moment_told (same_message-equal e.message message same))
                 one.has;
           }
       | inr differs ↦ let told : verdict.Refused refusal.NumberReused ≡ verdict.Repeat n m = rw differs at said in
@@ -167,9 +169,11 @@ repeat-is history submitter number n moment m message is =
     let said : Verdict = verdict.Repeat n m in
     let own : List (Verdict × Bool) = map refused (rows_of history submitter moment message) in
     let quota : Verdict × Bool = (verdict.Refused refusal.MessageQuota, nat_le 1048576 (sent_by history submitter)) in
-    let caller = row-passed (not (is_caller (registrations history) submitter)) (verdict.Refused refusal.UnknownKey) _ said is
+    let caller = row-passed (not (is_caller (registrations history) submitter))
+    (verdict.Refused refusal.UnknownKey) _ said is
     (refused-repeat refusal.UnknownKey n m) in
-    let permitted = row-passed (not (is_permitted submitter message)) (verdict.Refused refusal.NotPermitted) _ said caller
+    let permitted = row-passed (not (is_permitted submitter message))
+    (verdict.Refused refusal.NotPermitted) _ said caller
     (refused-repeat refusal.NotPermitted n m) in
     kept-repeat history submitter number n moment m message (kept history submitter number) (quota ∷ own) refl
     (λ repeat. rows-repeat (rows_of history submitter moment message) number n moment m
@@ -181,7 +185,8 @@ refused-accepted : (why : Refusal) (n : ℕ) (m : Moment) → verdict.Refused wh
 refused-accepted why n m is = cc
 
 -- no message stands under the number of one that is accepted
-unused-accepted : (kept_one : Option Entry) (message : Message) (rest : List (Verdict × Bool)) (last : Verdict) (n : ℕ) (m : Moment)
+unused-accepted : (kept_one : Option Entry) (message : Message) (rest : List (Verdict × Bool)) (last : Verdict)
+    (n : ℕ) (m : Moment)
     → first_of (number_rows kept_one message ++ rest) last ≡ verdict.Accepted n m
     → first_of rest last ≡ verdict.Accepted n m
 unused-accepted None message rest last n m said = said
@@ -212,9 +217,11 @@ accepted-is history submitter number n moment m message is =
     let said : Verdict = verdict.Accepted n m in
     let own : List (Verdict × Bool) = map refused (rows_of history submitter moment message) in
     let quota : Verdict × Bool = (verdict.Refused refusal.MessageQuota, nat_le 1048576 (sent_by history submitter)) in
-    let caller = row-passed (not (is_caller (registrations history) submitter)) (verdict.Refused refusal.UnknownKey) _ said is
+    let caller = row-passed (not (is_caller (registrations history) submitter))
+    (verdict.Refused refusal.UnknownKey) _ said is
     (refused-accepted refusal.UnknownKey n m) in
-    let permitted = row-passed (not (is_permitted submitter message)) (verdict.Refused refusal.NotPermitted) _ said caller
+    let permitted = row-passed (not (is_permitted submitter message))
+    (verdict.Refused refusal.NotPermitted) _ said caller
     (refused-accepted refusal.NotPermitted n m) in
     let unused = unused-accepted (kept history submitter number) message (quota ∷ own) last n m permitted in
     rows-accepted (rows_of history submitter moment message) last n m

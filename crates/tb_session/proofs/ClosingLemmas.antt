@@ -31,6 +31,7 @@ all-unmapped : {A B : Type 0} (P : B → Type 0) (f : A → B) (xs : List A) →
 all-unmapped P f xs all = λ k d within.
     subst P (get_or-map f xs k d within) (all k (f d) (omega (arith, length-map xs f)))
 
+-- what holds of the element at a place of a mapped list holds of what it is mapped from
 any-at : {A B : Type 0} (P : B → Type 0) (f : A → B) (xs : List A) (k : ℕ) (y : B) → k < length (map f xs)
     → get_or (map f xs) k y ≡ y → P y → Any (λ x. P (f x)) xs
 any-at P f [] k y within is holds = absurd (let bad : ⊥ = omega arith in bad)
@@ -54,7 +55,8 @@ made-by outcome.Lacked entry may is = absurd may
 module _ {D C G K : Type 0} (disk : D → DiskState) (clock : C → ClockState) (gate : G → GateState K)
     (source : K → SourceState) (sink : K → SinkState) (room after : Room D C) (v v' : View) (olds news : List G)
     (served : ℕ) (failed : Bool) (first : v ≡ newcomer (room_means disk clock) room)
-    (done : Turns gate source sink v v' olds news served failed) (closes : Closes (room_means disk clock) v' after) where
+    (done : Turns gate source sink v v' olds news served failed)
+    (closes : Closes (room_means disk clock) v' after) where
   abbrev turns : Turns gate source sink (newcomer (room_means disk clock) room) v' olds news served failed
   turns = subst (λ (x : View). Turns gate source sink x v' olds news served failed) first done
 
@@ -68,8 +70,8 @@ module _ {D C G K : Type 0} (disk : D → DiskState) (clock : C → ClockState) 
   any_made : (entry : List ℕ) → Any (Makes (room_means disk clock) v'.fixed entry) v'.mine
       → Any (MayHaveMade entry) calls
   any_made entry some =
-      any-weaker (λ m. Makes (room_means disk clock) v'.fixed entry (call_of m)) (MayHaveMade entry) (makes_it entry) calls
-      (any-unmapped (Makes (room_means disk clock) v'.fixed entry) call_of calls
+      any-weaker (λ m. Makes (room_means disk clock) v'.fixed entry (call_of m)) (MayHaveMade entry)
+      (makes_it entry) calls (any-unmapped (Makes (room_means disk clock) v'.fixed entry) call_of calls
       (subst (λ (l : List Call). Any (Makes (room_means disk clock) v'.fixed entry) l) turns.mine some))
 
   stand : All (λ m. Stands (room_means disk clock) v'.fixed (spelled_all after.desk.host.history) (call_of m)) calls
@@ -117,7 +119,8 @@ module _ {D C G K : Type 0} (disk : D → DiskState) (clock : C → ClockState) 
       → ServesAll disk clock gate source sink room olds after news served accepted failed
   serves_all accepted is = record {
     runs = turns.runs;
-    are_runs = AreRuns-house _ (house_of disk clock room) (operator-house disk clock room) (moments-house disk clock room)
+    are_runs = AreRuns-house _ (house_of disk clock room) (operator-house disk clock room)
+        (moments-house disk clock room)
         gate source sink olds news turns.runs turns.are_runs;
     history = record {
       later = only.later;

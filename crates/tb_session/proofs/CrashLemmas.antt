@@ -81,7 +81,8 @@ module _ {D C : Type 0} (disk : D → DiskState) (clock : C → ClockState) (bef
   pub leaves-seen : LeavesEither (disk old.desk.disk) old.desk.host.history old.desk.doubt
       → LeavesSeen before.seen (disk old.desk.disk)
   leaves-seen leaves =
-      known_of (λ past. (file : List ℕ) → MayLeave past file → StandsForEither old.desk.host.history old.desk.doubt file)
+      known_of (λ past. (file : List ℕ) → MayLeave past file
+      → StandsForEither old.desk.host.history old.desk.doubt file)
       (λ past. (file : List ℕ) → MayLeave past file → HasSeen before.seen file) (disk old.desk.disk).past
       (λ now left file may. has-seen before.seen (held old.desk) file taken.begins (left file may)) leaves
 

@@ -15,14 +15,17 @@ use Rattle.tb_session.specs.contracts.room.Room as Room
 use Rattle.tb_session.specs.contracts.worker.Worker as Worker
 
 module _ (D : RattleType) (g : Ghosts D.Denot) where
+  -- a journal may cross threads where its disk may
   journal_send : IsSend D → IsSend (Journal.the_row D g)
   journal_send d = search (sendable, crosses) depth 60 fits 20000
 
+  -- so may a desk on it
   desk_send : IsSend D → IsSend (Desk.the_row D g)
   desk_send d =
       let journal = journal_send d in
       search (sendable, crosses, host.the_send, entry.the_send) depth 60 fits 20000
 
+  -- so may a room, where its clock may too
   pub room_send : (C : RattleType) → IsSend D → IsSend C → IsSend (Room.the_row D C g)
   room_send C d c =
       let desk = desk_send d in

@@ -68,7 +68,8 @@ does-nothing operator old new low high c said history doubt faults none out give
 }
 
 -- a caller's message is told its verdict at the running moment
-pub tells-verdict : (operator : List ℕ) (history : List Entry) (k : Key) (caller : List ℕ) (number : ℕ) (moment : Moment)
+pub tells-verdict : (operator : List ℕ) (history : List Entry) (k : Key) (caller : List ℕ)
+    (number : ℕ) (moment : Moment)
     (message : Message) (said : Verdict)
     → caller_on operator history k ≡ Some caller
     → said ≡ verdict_on history caller number (running history moment) message
@@ -77,16 +78,19 @@ tells-verdict operator history k caller number moment message said known is =
     ap answer.Verdict (is ∙ ap (λ (o : Option (List ℕ)). verdict_for history o number moment message) (sym known))
 
 -- nobody's message is refused
-pub does-unknown : (operator : List ℕ) (old : Held) (faults : ℕ) (k : Key) (number : ℕ) (moment : Moment) (message : Message)
+pub does-unknown : (operator : List ℕ) (old : Held) (faults : ℕ) (k : Key) (number : ℕ)
+    (moment : Moment) (message : Message)
     → IsLegal old.history
     → caller_on operator old.history k ≡ None
-    → Does operator old old faults faults (message_call k number moment message outcome.Told) (refused refusal.UnknownKey)
+    → Does operator old old faults faults (message_call k number moment message outcome.Told)
+    (refused refusal.UnknownKey)
 does-unknown operator old faults k number moment message legal nobody =
     let tells : Tells old.history (caller_on operator old.history k) (ask.Message number message) (Some moment)
     (refused refusal.UnknownKey) =
     ap answer.Verdict (ap (λ (o : Option (List ℕ)). verdict_for old.history o number moment message) (sym nobody)) in
     does-nothing operator old old faults faults (message_call k number moment message outcome.Told)
-    (refused refusal.UnknownKey) refl refl refl refl (refused refusal.UnknownKey, tells, tt) (moment, refl) tells legal tt
+    (refused refusal.UnknownKey) refl refl refl refl (refused refusal.UnknownKey, tells, tt)
+    (moment, refl) tells legal tt
 
 -- a message for which there was no memory changes nothing
 pub does-lack : (operator : List ℕ) (old new : Held) (low high : ℕ) (k : Key) (number : ℕ) (moment : Moment)
@@ -97,8 +101,8 @@ pub does-lack : (operator : List ℕ) (old new : Held) (low high : ℕ) (k : Key
     → IsLegal old.history
     → Does operator old new low high (message_call k number moment message outcome.Lacked) answer.OutOfMemory
 does-lack operator old new low high k number moment message history doubt faults legal =
-    does-nothing operator old new low high (message_call k number moment message outcome.Lacked) answer.OutOfMemory history
-    doubt faults refl tt (moment, refl) refl legal tt
+    does-nothing operator old new low high (message_call k number moment message outcome.Lacked)
+    answer.OutOfMemory history doubt faults refl tt (moment, refl) refl legal tt
 
 -- what a caller asks of a desk
 abbrev pub one_asked : List ℕ → ℕ → Moment → Message → Asked
@@ -254,13 +258,15 @@ module _ (operator : List ℕ) (k : Key) (caller : List ℕ) (number : ℕ) (mom
   does-verdict gate disk old new low high said can known turns faults = go turns.turn
     where
       go : IsTurn gate disk (one_asked caller number moment message) old new (Some (said ∷ [])) turns.at
-          → Does operator old new low high (message_call k number moment message (outcome_by caller number message said))
+          → Does operator old new low high
+          (message_call k number moment message (outcome_by caller number message said))
           (answer.Verdict said)
       go (inl stuck) = absurd (let failed = stuck.0.failed in let bad : ⊥ = cc in bad)
       go (inr (resolves, inl answered)) =
           let is : said ≡ verdict_on turns.at caller number (running turns.at moment) message =
           (let given = answered.given in cc) in
-          by_verdict old new low high turns.at said can turns.legal resolves.0 (still_known old turns.at known resolves.0) is
+          by_verdict old new low high turns.at said can turns.legal resolves.0
+          (still_known old turns.at known resolves.0) is
           (answered.grown ∙ ap (λ (l : List Entry). turns.at ++ l) (group-said turns.at said is)) answered.sure faults
       go (inr (resolves, inr doubted)) = absurd (let failed = doubted.failed in let bad : ⊥ = cc in bad)
 
@@ -299,7 +305,8 @@ module _ (operator : List ℕ) (k : Key) (caller : List ℕ) (number : ℕ) (mom
       entry = entry_at (running new.history moment)
 
       out : (at : List Entry) → (at ≡ old.history) ⊎ (at ≡ old.history ++ old.doubt) → new.history ≡ at
-          → ComesOut operator at (message_call k number moment message (outcome.Doubted entry)) (outcome.Doubted entry) low
+          → ComesOut operator at (message_call k number moment message (outcome.Doubted entry))
+          (outcome.Doubted entry) low
           high
       out at settled is = (
         record { asked = refl; caller = still_known old at known settled },
@@ -308,7 +315,8 @@ module _ (operator : List ℕ) (k : Key) (caller : List ℕ) (number : ℕ) (mom
       )
 
       go : IsTurn gate disk (one_asked caller number moment message) old new None turns.at
-          → Does operator old new low high (message_call k number moment message (outcome.Doubted entry)) answer.DiskFault
+          → Does operator old new low high (message_call k number moment message (outcome.Doubted entry))
+          answer.DiskFault
       go (inl stuck) =
           let history : new.history ≡ old.history = ap (λ (h : Held). h.history) stuck.0.same in
           let is : new.history ≡ turns.at = history ∙ sym stuck.1 in
@@ -393,8 +401,8 @@ pub does-lack_query : (operator : List ℕ) (old : Held) (faults : ℕ) (k : Key
     → IsLegal old.history
     → Does operator old old faults faults (query_call k query outcome.Lacked) answer.OutOfMemory
 does-lack_query operator old faults k query legal =
-    does-nothing operator old old faults faults (query_call k query outcome.Lacked) answer.OutOfMemory refl refl refl refl tt
-    refl refl legal tt
+    does-nothing operator old old faults faults (query_call k query outcome.Lacked) answer.OutOfMemory
+    refl refl refl refl tt refl refl legal tt
 
 -- what is held by two desks with one history and one group in doubt is the same
 pub held-same : (old mid : Held) → mid.history ≡ old.history → mid.doubt ≡ old.doubt → mid ≡ old
@@ -451,7 +459,8 @@ pub does-read : (operator : List ℕ) (old : Held) (faults : ℕ) (k : Key) (cal
     → Does operator old old faults faults (query_call k query outcome.Told) (answer.Reading reading)
 does-read operator old faults k caller query reading legal known none is =
     does-tell operator old faults (query_call k query outcome.Told) (answer.Reading reading) refl refl
-    (subst (λ (o : Option (List ℕ)). TellsQuery old.history o query (answer.Reading reading)) (sym known) (none, is)) tt legal
+    (subst (λ (o : Option (List ℕ)). TellsQuery old.history o query (answer.Reading reading)) (sym known)
+    (none, is)) tt legal
 
 -- what couldn't be read has no entry
 fault-entryless : (o : Option (List ℕ)) (why : Refusal) → IsEntryless (fault_for o why)
@@ -473,18 +482,21 @@ pub does-fault : (operator : List ℕ) (old : Held) (faults : ℕ) (k : Key) (as
     → IsFaultOf asked why
     → Does operator old old faults faults (fault_call k asked) (fault_for (caller_on operator old.history k) why)
 does-fault operator old faults k ask.BadJson why legal is =
-    does-tell operator old faults (fault_call k ask.BadJson) (fault_for (caller_on operator old.history k) why) refl refl
+    does-tell operator old faults (fault_call k ask.BadJson)
+    (fault_for (caller_on operator old.history k) why) refl refl
     (ap (λ (r : Refusal). fault_for (caller_on operator old.history k) r) is)
     (fault-entryless (caller_on operator old.history k) why) legal
 does-fault operator old faults k (ask.BadShape member) why legal is =
-    does-tell operator old faults (fault_call k (ask.BadShape member)) (fault_for (caller_on operator old.history k) why)
+    does-tell operator old faults (fault_call k (ask.BadShape member))
+    (fault_for (caller_on operator old.history k) why)
     refl refl (ap (λ (r : Refusal). fault_for (caller_on operator old.history k) r) is)
     (fault-entryless (caller_on operator old.history k) why) legal
 does-fault operator old faults k (ask.Message number message) why legal is = absurd is
 does-fault operator old faults k (ask.Query query) why legal is = absurd is
 
 -- and so is a call of the room
-pub calls-fault : {D C : Type 0} (disk : D → DiskState) (clock : C → ClockState) (room : Room D C) (k : Key) (asked : Ask)
+pub calls-fault : {D C : Type 0} (disk : D → DiskState) (clock : C → ClockState) (room : Room D C)
+    (k : Key) (asked : Ask)
     (why : Refusal)
     → IsLegal room.desk.host.history
     → IsFaultOf asked why

@@ -29,7 +29,8 @@ gains-nothing v = record {
 }
 
 -- the calls of two steps are gained, one step's behind the other's
-pub gains-then : (a b c : View) (first later : List Made) → Gains a b first → Gains b c later → Gains a c (first ++ later)
+pub gains-then : (a b c : View) (first later : List Made) → Gains a b first → Gains b c later
+    → Gains a c (first ++ later)
 gains-then a b c first later one two = record {
   mine = two.mine
       ∙ (ap (λ (l : List Call). l ++ map call_of later) one.mine

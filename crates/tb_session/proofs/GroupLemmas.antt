@@ -37,7 +37,8 @@ use Rattle.tb_session.proofs.DoesLemmas.{held-same, tells-verdict, moment-in_ran
 use Rattle.tb_session.proofs.UnknownLemmas.{caller-known, verdict-known}
 
 -- the calls are of the messages, however they came out
-pub are-calls : (k : Key) (moment : Moment) (came : Grouped) (messages : List (ℕ × Message)) (places : List (Option Verdict))
+pub are-calls : (k : Key) (moment : Moment) (came : Grouped) (messages : List (ℕ × Message))
+    (places : List (Option Verdict))
     → AreCallsOf k moment messages (replied_by k moment came messages places)
 are-calls k moment came [] places = tt
 are-calls k moment came (asked ∷ messages) [] = (refl, refl, refl, are-calls k moment came messages [])
@@ -72,12 +73,15 @@ module _ (operator : List ℕ) (k : Key) (caller : List ℕ) (moment ran : Momen
     runs = ap (λ (t : Moment). t.seconds) is ∙ running-seconds history moment;
   }
 
+  -- the running moment is that of the history
   runs-at : (history : List Entry) → MayAnswer history → ran ≡ running history moment
   runs-at history may = sym (moment_of-seconds ran) ∙ ap moment_of may.runs
 
+  -- a history to which nothing is added is still such a one
   may-same : (history : List Entry) → MayAnswer history → MayAnswer (history ++ [])
   may-same history may = subst (λ (l : List Entry). MayAnswer l) (sym (append-nil history)) may
 
+  -- the entry of a numbered message of a named caller is in range
   entry-range : (number : ℕ) (message : Message) → is_name caller ≡ true → IsNumbered number message → (at : Moment)
       → IsInRange (record { submitter = caller; number = number; moment = at; message = message })
   entry-range number message named numbered at = record {
@@ -231,7 +235,8 @@ module _ (operator : List ℕ) (k : Key) (caller : List ℕ) (moment ran : Momen
   told-known (asked ∷ messages) history rest asks is named numbered may =
       let Numbered : ℕ × Message → Type 0 = λ (one : ℕ × Message). IsNumbered one.0 one.1 in
       let said : Verdict = verdict_on history caller asked.0 ran asked.1 in
-      All-cons (λ (r : Replied). TellsUnknown asks r.said) (replied_in k moment (grouped.Told caller) asked (Some said)) _
+      All-cons (λ (r : Replied). TellsUnknown asks r.said)
+      (replied_in k moment (grouped.Told caller) asked (Some said)) _
       (tells-known asks caller (answer.Verdict said) is
       (λ same. verdict-known history caller asked.0 ran asked.1 (caller-known operator history k caller may.known)
       (let unknown : said ≡ verdict.Refused refusal.UnknownKey = cc in unknown)))
@@ -241,9 +246,11 @@ module _ (operator : List ℕ) (k : Key) (caller : List ℕ) (moment ran : Momen
 
   -- ---- bids that met a fault
 
+  -- a group that met a fault, as this caller's at this moment
   abbrev doubted : Grouped
   doubted = grouped.Doubted caller ran
 
+  -- each of its bids is answered a disk fault, and may have left its entry
   one-doubted : (history : List Entry) (low high : ℕ) (asked : ℕ × Message) (place : Option Verdict)
       → is_name caller ≡ true
       → IsNumbered asked.0 asked.1
@@ -298,26 +305,31 @@ module _ (operator : List ℕ) (k : Key) (caller : List ℕ) (moment ran : Momen
 
   -- the entry of the first bid, where it is one of the group
   left-first : (asked : ℕ × Message) (place : Option Verdict) (others : List Replied) (said : Verdict)
-      → All (λ e. Any (MayHaveLeft e) (replied_in k moment doubted asked place ∷ others)) (added_as caller ran asked said)
+      → All (λ e. Any (MayHaveLeft e) (replied_in k moment doubted asked place ∷ others))
+      (added_as caller ran asked said)
   left-first asked place others (verdict.Accepted n m) =
       All-cons (λ (e : Entry). Any (MayHaveLeft e) (replied_in k moment doubted asked place ∷ others)) _ []
       (any-first _ (replied_in k moment doubted asked place) others refl) (All-nil _)
   left-first asked place others (verdict.Repeat n m) = All-nil _
   left-first asked place others (verdict.Refused why) = All-nil _
 
-  left-more : (asked : ℕ × Message) (place : Option Verdict) (others : List Replied) (said : Verdict) (group : List Entry)
+  -- the entries of a group with one bid more in front are of these bids
+  left-more : (asked : ℕ × Message) (place : Option Verdict) (others : List Replied) (said : Verdict)
+      (group : List Entry)
       → All (λ e. Any (MayHaveLeft e) others) group
       → All (λ e. Any (MayHaveLeft e) (replied_in k moment doubted asked place ∷ others))
       (added_as caller ran asked said ++ group)
   left-more asked place others said group all =
-      let Left : Entry → Type 0 = λ (e : Entry). Any (MayHaveLeft e) (replied_in k moment doubted asked place ∷ others) in
+      let Left : Entry → Type 0 =
+      λ (e : Entry). Any (MayHaveLeft e) (replied_in k moment doubted asked place ∷ others) in
       All-append Left (added_as caller ran asked said) group (left-first asked place others said)
-      (All-weaker (λ (e : Entry). Any (MayHaveLeft e) others) Left (λ e any. any-later (MayHaveLeft e) _ others any) group
-      all)
+      (All-weaker (λ (e : Entry). Any (MayHaveLeft e) others) Left
+      (λ e any. any-later (MayHaveLeft e) _ others any) group all)
 
   -- what is in doubt is of these bids
   pub all-left : (messages : List (ℕ × Message)) (places : List (Option Verdict)) (history : List Entry)
-      → All (λ e. Any (MayHaveLeft e) (replied_by k moment doubted messages places)) (group_on history caller ran messages)
+      → All (λ e. Any (MayHaveLeft e) (replied_by k moment doubted messages places))
+      (group_on history caller ran messages)
   all-left [] places history = All-nil _
   all-left (asked ∷ messages) [] history =
       left-more asked None _ (verdict_on history caller asked.0 ran asked.1) _
@@ -345,6 +357,7 @@ module _ (operator : List ℕ) (k : Key) (caller : List ℕ) (moment ran : Momen
 
 -- ---- bids of nobody, and bids for which there was no memory
 
+-- the verdict on the message of nobody
 abbrev unknown_said : Verdict
 unknown_said = verdict.Refused refusal.UnknownKey
 
@@ -367,6 +380,7 @@ places-more said places count few is =
     ∙ ap (λ (l : List Verdict). map Some l) (replicate_more count said))))
 
 module _ (operator : List ℕ) (k : Key) (moment : Moment) where
+  -- a bid with a key of nobody is told that the key is unknown
   one-unknown : (history : List Entry) (faults : ℕ) (asked : ℕ × Message) (place : Option Verdict)
       → IsLegal history
       → caller_on operator history k ≡ None
@@ -384,6 +398,7 @@ module _ (operator : List ℕ) (k : Key) (moment : Moment) where
         answer = tells;
       }
 
+  -- so is each bid of a group
   all-unknown : (messages : List (ℕ × Message)) (places : List (Option Verdict)) (history : List Entry) (faults : ℕ)
       → IsLegal history
       → caller_on operator history k ≡ None
@@ -396,16 +411,19 @@ module _ (operator : List ℕ) (k : Key) (moment : Moment) where
   )
   all-unknown (asked ∷ messages) (place ∷ places) history faults legal nobody = (
     one-unknown history faults asked place legal nobody,
-    subst (λ (l : List Entry). AreReplied operator l faults faults (replied_by k moment grouped.Unknown messages places))
+    subst (λ (l : List Entry). AreReplied operator l faults faults
+        (replied_by k moment grouped.Unknown messages places))
         (sym (append-nil history)) (all-unknown messages places history faults legal nobody),
   )
 
+  -- they add nothing
   unknown-grown : (messages : List (ℕ × Message)) (places : List (Option Verdict))
       → added_in (replied_by k moment grouped.Unknown messages places) ≡ []
   unknown-grown [] places = refl
   unknown-grown (asked ∷ messages) [] = unknown-grown messages []
   unknown-grown (asked ∷ messages) (place ∷ places) = unknown-grown messages places
 
+  -- each is answered that verdict
   unknown-said : (messages : List (ℕ × Message)) (places : List (Option Verdict))
       → said_in (replied_by k moment grouped.Unknown messages places)
       ≡ map answer.Verdict (replicate (length messages) unknown_said)
@@ -426,6 +444,7 @@ module _ (operator : List ℕ) (k : Key) (moment : Moment) where
         (sym (length-replicate (length messages) unknown_said)),
   )
 
+  -- the key of calls that are told so is unknown
   pub unknown-unknown : (messages : List (ℕ × Message)) (places : List (Option Verdict)) (asks : Option (List ℕ))
       → asks ≡ None
       → TellUnknown asks (replied_by k moment grouped.Unknown messages places)
@@ -457,6 +476,7 @@ module _ (operator : List ℕ) (k : Key) (moment : Moment) where
     least = omega arith;
   }
 
+  -- bids for which there was no memory are each answered so, on an unchanged history
   all-lacked : (messages : List (ℕ × Message)) (places : List (Option Verdict)) (history : List Entry) (low high : ℕ)
       → IsLegal history
       → AreReplied operator history low high (replied_by k moment grouped.Lacked messages places)
@@ -470,6 +490,7 @@ module _ (operator : List ℕ) (k : Key) (moment : Moment) where
     all-lacked messages places (history ++ []) low high (subst IsLegal (sym (append-nil history)) legal),
   )
 
+  -- they add nothing
   lacked-grown : (messages : List (ℕ × Message)) (places : List (Option Verdict))
       → added_in (replied_by k moment grouped.Lacked messages places) ≡ []
   lacked-grown [] places = refl
@@ -485,6 +506,7 @@ module _ (operator : List ℕ) (k : Key) (moment : Moment) where
   lacked-said (asked ∷ messages) (place ∷ places) =
       All-cons (λ (a : Answer). a ≡ answer.OutOfMemory) answer.OutOfMemory _ refl (lacked-said messages places)
 
+  -- and none is told that the key is unknown
   pub lacked-known : (messages : List (ℕ × Message)) (places : List (Option Verdict)) (asks : Option (List ℕ))
       (caller : List ℕ)
       → asks ≡ Some caller
@@ -575,7 +597,8 @@ module _ (operator : List ℕ) (k : Key) (caller : List ℕ) (moment : Moment) (
               settled = resolves.0;
               grown = answered.grown ∙ ap (λ (l : List Entry). turns.at ++ l)
                   (told-grown operator k caller moment ran messages turns.at rest
-                  ∙ ap (λ (l : List (Option Verdict)). added_in (replied_by k moment (grouped.Told caller) messages l)) same);
+                  ∙ ap (λ (l : List (Option Verdict)). added_in (replied_by k moment (grouped.Told caller) messages l))
+                  same);
               doubt = inl answered.sure;
               answered = subst (λ (l : List (Option Verdict)). AreReplied operator turns.at low high
                   (replied_by k moment (grouped.Told caller) messages l)) same

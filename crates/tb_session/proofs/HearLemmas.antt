@@ -14,6 +14,7 @@ use Rattle.tb_session.proofs.LeftLemmas.{none-empty}
 use Rattle.tb_session.proofs.SessionLemmas.{idle-ended, begins-self, never-end}
 
 module _ (a m : LinkState) (waiting now : List ℕ) (e : End) (receives : Receives a m waiting now (Err e)) where
+  -- what was received, where it is known how that ended
   received : (x : End) → e ≡ x → Receives a m waiting now (Err x)
   received x is = subst (λ (y : End). Receives a m waiting now (Err y)) is receives
 

@@ -27,14 +27,17 @@ pub no-elements : {A : Type 0} (xs : List A) → length xs ≡ 0 → xs ≡ []
 no-elements [] none = refl
 no-elements (x ∷ xs) none = absurd (let bad : ⊥ = omega arith in bad)
 
+-- "or" of three may be taken from either side
 either-both : (a b c : Bool) → ((a || b) || c) ≡ (a || (b || c))
 either-both true b c = refl
 either-both false b c = refl
 
+-- "or" with what never is changes nothing
 either-none : (a : Bool) → (a || false) ≡ a
 either-none true = refl
 either-none false = refl
 
+-- the gate that a worker serves
 abbrev gate_of : {D C G : Type 0} → Worker D C G → G
 gate_of w = w.gate
 
@@ -120,7 +123,8 @@ module _ {D C G : Type 0} (old : View) where
   }
 
   -- one more is
-  pub dismisses-more : (now after : View) (workers left others : List (Worker D C G)) (w : Worker D C G) (gates : List G)
+  pub dismisses-more : (now after : View) (workers left others : List (Worker D C G))
+      (w : Worker D C G) (gates : List G)
       (failed then_failed : Bool)
       → Dismisses old now workers left gates failed
       → left ≡ w ∷ others

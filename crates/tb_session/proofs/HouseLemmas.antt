@@ -45,6 +45,7 @@ module _ (fixed other : List ℕ) (operators : operator_in fixed ≡ operator_in
   )
   becomes-house r body (Ok key) None said is = is
 
+  -- a request became what it did by the one as by the other
   exchange-house : (e : Exchange) → IsExchange fixed e → IsExchange other e
   exchange-house e is = becomes-house e.request e.body (caller_key e.request) e.call e.said is
 
@@ -73,7 +74,8 @@ module _ (fixed other : List ℕ) (operators : operator_in fixed ≡ operator_in
     run-house old new run is = record {
       passed = is.passed;
       sessions = λ k d within. let s = get_or run.links k d in
-          session-house 0 [] (link_of source sink s.given) (link_of source sink s.back) s.session (is.sessions k d within);
+          session-house 0 [] (link_of source sink s.given) (link_of source sink s.back) s.session
+          (is.sessions k d within);
       order = is.order;
       fault = is.fault;
       finished = is.finished;

@@ -59,5 +59,6 @@ not-crowded text there r over (whole_head h rest reads is) =
     let again = subst (λ (t : List ℕ). ReadsRequest t h rest) (sym (append-nil text)) reads in
     not-bad r 431 (is ∙ too_many there h (over [] h rest again))
 
+-- so no request stands in front of bytes with more than 32 headers
 pub none-crowded : (bytes : List ℕ) → RequestOverflows 32 (seen bytes) → HoldsNone bytes
 none-crowded bytes over r whole = not-crowded (seen bytes) (length bytes) r over whole

@@ -114,6 +114,7 @@ tag-kind kind.Pledge = refl
 tag-kind kind.Release = refl
 tag-kind kind.Redeem = refl
 
+-- two kinds with one word are one
 kind-same : (k l : Kind) → tag_of k ≡ tag_of l → k ≡ l
 kind-same k l is =
     let found : Some k ≡ Some l = sym (tag-kind k) ∙ (ap kind_of_tag is ∙ tag-kind l) in
@@ -129,6 +130,7 @@ word-kind asked.Bids = refl
 word-kind asked.Holdings = refl
 word-kind asked.Redemption = refl
 
+-- two kinds of query with one word are one
 query-kind-same : (k l : QueryKind) → query_text k ≡ query_text l → k ≡ l
 query-kind-same k l is =
     let found : Some k ≡ Some l = sym (word-kind k) ∙ (ap query_of_text is ∙ word-kind l) in
@@ -144,17 +146,19 @@ query-same query.Holdings query.Holdings k p = refl
 query-same (query.Redemption a) (query.Redemption b) k p = let same = same_cusip a b cc in ap query.Redemption same
 query-same one other k p = cc
 
--- a member is found by its name
+-- all members that a message may have
 abbrev members : List Field
 members =
     field.Body ∷ field.Number ∷ field.Kind ∷ field.Submitter ∷ field.Key ∷ field.Bidder ∷ field.Day ∷ field.Auction
     ∷ field.Cusip ∷ field.Offering ∷ field.Minimum ∷ field.Ceiling ∷ field.Floor ∷ field.Threshold ∷ field.Date
-    ∷ field.NcClose ∷ field.CClose ∷ field.Issue ∷ field.Maturity ∷ field.Rate ∷ field.Amount ∷ field.Bid ∷ field.Position
-    ∷ field.To ∷ field.Holder ∷ field.Pledge ∷ []
+    ∷ field.NcClose ∷ field.CClose ∷ field.Issue ∷ field.Maturity ∷ field.Rate ∷ field.Amount
+    ∷ field.Bid ∷ field.Position ∷ field.To ∷ field.Holder ∷ field.Pledge ∷ []
 
+-- the member of a name
 abbrev member_named : List ℕ → Option Field
 member_named name = find (λ member. bytes_eq name (member_of member)) members
 
+-- a member is found by its name
 named-member : (m : Field) → member_named (member_of m) ≡ Some m
 named-member field.Body = refl
 named-member field.Number = refl
@@ -183,6 +187,7 @@ named-member field.To = refl
 named-member field.Holder = refl
 named-member field.Pledge = refl
 
+-- two members with one name are one
 member-same : (m n : Field) → member_of m ≡ member_of n → m ≡ n
 member-same m n is =
     let found : Some m ≡ Some n = sym (named-member m) ∙ (ap member_named is ∙ named-member n) in
@@ -225,7 +230,8 @@ key-same (key.Submitter a) (key.Operator b) r s is = absurd (let bad : ⊥ = cc 
 key-same (key.Operator a) (key.Submitter b) r s is = absurd (let bad : ⊥ = cc in bad)
 
 -- how a call came out has one code with its entry
-outcome-same : (o p : Outcome) → HasRange o → HasRange p → outcome_code o ≡ outcome_code p → entry_of o ≡ entry_of p → o ≡ p
+outcome-same : (o p : Outcome) → HasRange o → HasRange p → outcome_code o ≡ outcome_code p
+    → entry_of o ≡ entry_of p → o ≡ p
 outcome-same (outcome.Added e) (outcome.Added f) a b k is = ap outcome.Added (spelling-one e f a b is)
 outcome-same (outcome.Stood e) (outcome.Stood f) a b k is = ap outcome.Stood (spelling-one e f a b is)
 outcome-same (outcome.Doubted e) (outcome.Doubted f) a b k is = ap outcome.Doubted (spelling-one e f a b is)
@@ -233,6 +239,7 @@ outcome-same outcome.Told outcome.Told a b k is = refl
 outcome-same outcome.Lacked outcome.Lacked a b k is = refl
 outcome-same one other a b k is = absurd (let bad : ⊥ = omega (arith, k) in bad)
 
+-- two moments with one code are one
 moment-same : (a b : Option Moment) → moment_code a ≡ moment_code b → a ≡ b
 moment-same None None is = refl
 moment-same None (Some m) is = absurd (let bad : ⊥ = omega (arith, is) in bad)

@@ -102,7 +102,8 @@ record Parts (name name' : List ℕ) (opened opened' : DiskState) (recovered rec
   given : moments ≡ moments'
 
 -- equal fixed parts are made of the same
-lock-same : (name name' : List ℕ) (opened opened' : DiskState) (recovered recovered' : ℕ) (moments moments' : Option (List ℕ))
+lock-same : (name name' : List ℕ) (opened opened' : DiskState) (recovered recovered' : ℕ)
+    (moments moments' : Option (List ℕ))
     → lock_code name opened recovered moments ≡ lock_code name' opened' recovered' moments'
     → Parts name name' opened opened' recovered recovered' moments moments'
 lock-same name name' opened opened' recovered recovered' moments moments' is =
@@ -165,12 +166,14 @@ module _ {D C : Type 0} (disk : D → DiskState) (clock : C → ClockState) wher
       record { operator = parts.names; opened = parts.disks; recovered = parts.counts; moments = parts.given }
 
   -- the operator and the moments are those that calls are answered by
-  pub operator-house : (room : Room D C) → operator_in (fixed_of disk clock room) ≡ operator_in (house_of disk clock room)
+  pub operator-house : (room : Room D C)
+      → operator_in (fixed_of disk clock room) ≡ operator_in (house_of disk clock room)
   operator-house room =
       operator-locked room.operator (disk room.desk.opened) room.desk.recovered (clock room.clock).moments
       ∙ sym (operator-fixed room.operator (is_some (disk room.desk.opened).past) (disk room.desk.opened).faults
       (clock room.clock).moments)
 
+  -- and so are the moments
   pub moments-house : (room : Room D C) → moments_in (fixed_of disk clock room) ≡ moments_in (house_of disk clock room)
   moments-house room =
       moments-locked room.operator (disk room.desk.opened) room.desk.recovered (clock room.clock).moments

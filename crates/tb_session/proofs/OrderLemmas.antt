@@ -8,12 +8,13 @@ use Rattle.tb_lock.specs.declared.view.Call.{Call}
 use Rattle.tb_session.specs.Codes.{Made, call_of}
 use Rattle.tb_session.specs.Gains.{Follows, AreBeside, TurnFollows, AreInOrder, joined, turns_of}
 
--- what holds of all of two lists holds of all of the first, and of the second
+-- what holds of all of two lists holds of all of the first
 pub all-front : {A : Type 0} (P : A → Type 0) (xs ys : List A) → All P (xs ++ ys) → All P xs
 all-front P [] ys all = All-nil P
 all-front P (x ∷ xs) ys all =
     All-cons P x xs (All-head P x (xs ++ ys) all) (all-front P xs ys (All-tail P x (xs ++ ys) all))
 
+-- and of all of the second
 pub all-back : {A : Type 0} (P : A → Type 0) (xs ys : List A) → All P (xs ++ ys) → All P ys
 all-back P [] ys all = all
 all-back P (x ∷ xs) ys all = all-back P xs ys (All-tail P x (xs ++ ys) all)

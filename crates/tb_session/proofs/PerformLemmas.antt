@@ -55,7 +55,8 @@ calls-read k moment (asked ∷ messages) (r ∷ replied) old new are reads =
     (calls-read k moment messages replied old new are.3 reads)
 
 -- the bids became these calls
-became-calls : (operator fixed : List ℕ) (k : Key) (moment : Moment) (bids : List (ℕ × Message)) (replied : List Replied)
+became-calls : (operator fixed : List ℕ) (k : Key) (moment : Moment) (bids : List (ℕ × Message))
+    (replied : List Replied)
     (at : List Entry) (low high from upto : ℕ)
     → operator_in fixed ≡ operator
     → AreCallsOf k moment bids replied
@@ -72,7 +73,8 @@ became-calls operator fixed k moment (asked ∷ bids) (r ∷ replied) at low hig
 )
 
 -- each of which is a bid with this key
-are-bids : (k : Key) (moment : Moment) (bids : List (ℕ × Message)) (replied : List Replied) (at : List Entry) (low high : ℕ)
+are-bids : (k : Key) (moment : Moment) (bids : List (ℕ × Message)) (replied : List Replied)
+    (at : List Entry) (low high : ℕ)
     → AreBids bids
     → AreCallsOf k moment bids replied
     → All (IsBidWith k) (made_from at low high replied)
@@ -86,10 +88,12 @@ are-bids k moment (asked ∷ bids) (r ∷ replied) at low high all are =
     (are-bids k moment bids replied _ low high (All-tail Bid asked bids all) are.3)
 
 -- the verdicts in the places
-answers-given : (given : List Verdict) → map (λ place. answer_at group.Verdicts place) (map Some given) ≡ map answer.Verdict given
+answers-given : (given : List Verdict)
+    → map (λ place. answer_at group.Verdicts place) (map Some given) ≡ map answer.Verdict given
 answers-given [] = refl
 answers-given (said ∷ given) = ap (λ (l : List Answer). answer.Verdict said ∷ l) (answers-given given)
 
+-- no verdict takes memory
 all-plain : (given : List Verdict) → All IsPlain (map answer.Verdict given)
 all-plain [] = All-nil IsPlain
 all-plain (said ∷ given) = All-cons IsPlain (answer.Verdict said) (map answer.Verdict given) tt (all-plain given)
@@ -105,6 +109,7 @@ all-faults (a ∷ said) (suc n) long all =
     ap (λ (l : List Answer). answer.DiskFault ∷ l) (all-faults said n (omega (arith, long)) (All-tail Fault a said all))
     ∙ ap (λ (x : Answer). x ∷ said) (sym (All-head Fault a said all))
 
+-- nor does a disk fault
 faults-plain : (said : List Answer) → All (λ a. a ≡ answer.DiskFault) said → All IsPlain said
 faults-plain [] all = All-nil IsPlain
 faults-plain (a ∷ said) all =
@@ -128,7 +133,8 @@ answers-told places said n long tells =
       long,
     ) in (
       ap (λ (l : List (Option Verdict)). answers_at group.Verdicts l n) tells.2
-          ∙ (ap (λ (m : ℕ). map (λ place. answer_at group.Verdicts place) (take m (front ++ replicate (64 - length given) None)))
+          ∙ (ap (λ (m : ℕ). map (λ place. answer_at group.Verdicts place)
+          (take m (front ++ replicate (64 - length given) None)))
           (sym count)
           ∙ (ap (λ (l : List (Option Verdict)). map (λ place. answer_at group.Verdicts place) l)
           (take-append_seam front (replicate (64 - length given) None))
@@ -136,6 +142,7 @@ answers-told places said n long tells =
       subst (λ (l : List Answer). All IsPlain l) (sym tells.1) (all-plain given),
     )
 
+-- where the group met a fault the places tell nothing, and each call is answered the fault
 answers-failed : (places : List (Option Verdict)) (said : List Answer) (n : ℕ) → length said ≡ n → n ≤ 64
     → TellsGroup group.DiskFault places said
     → (answers_at group.DiskFault places n ≡ said) × All IsPlain said
@@ -165,14 +172,14 @@ module _ {D C : Type 0} (disk : D → DiskState) (clock : C → ClockState) (v0 
     one-none : new.desk.host.history ≡ old.desk.host.history → new.desk.doubt ≡ old.desk.doubt
         → MayGive (room_means disk clock) v [] new
     one-none history doubt =
-        may-nothing disk clock v0 v old new taken replied together.does together.same together.reads.moments reads history
-        doubt
+        may-nothing disk clock v0 v old new taken replied together.does together.same
+        together.reads.moments reads history doubt
 
     none-gained : new.desk.host.history ≡ old.desk.host.history → new.desk.doubt ≡ old.desk.doubt
         → Gains v0 (given (room_means disk clock) v [] new) []
     none-gained history doubt =
-        gains-none disk clock v0 v old new taken replied together.does together.same together.reads.moments reads history
-        doubt
+        gains-none disk clock v0 v old new taken replied together.does together.same
+        together.reads.moments reads history doubt
 
     abbrev made : List Made
     made = made_from together.does.at v.faults_taken new.desk.faults replied
@@ -215,7 +222,8 @@ module _ {D C : Type 0} (disk : D → DiskState) (clock : C → ClockState) (v0 
     }
 
   -- by how the group came out: the turn may end
-  pub group-may : (came : Grouped) → CallsTogether disk clock old new k bids moment (replied_by k moment came bids places)
+  pub group-may : (came : Grouped)
+      → CallsTogether disk clock old new k bids moment (replied_by k moment came bids places)
       → (came ≡ grouped.Lacked
       → (new.desk.host.history ≡ old.desk.host.history) × (new.desk.doubt ≡ old.desk.doubt))
       → MayGive (room_means disk clock) v

@@ -39,7 +39,8 @@ use Rattle.tb_session.specs.Session.{AreCut, Asks, Becomes, Exchange, IsExchange
 use Rattle.tb_session.proofs.SessionLemmas.{never-end, serves-ends, serves-then}
 
 -- a bid more stands in the row
-pub row-push : (k : Key) (bytes rest : List ℕ) (requests : List HttpRequest) (bids : List (ℕ × Message)) (r : HttpRequest)
+pub row-push : (k : Key) (bytes rest : List ℕ) (requests : List HttpRequest)
+    (bids : List (ℕ × Message)) (r : HttpRequest)
     (asked : ℕ × Message)
     → AreInRow k bytes rest requests bids
     → IsBidRequest k r rest asked
@@ -61,6 +62,7 @@ row-bids k bytes rest (r ∷ requests) (asked ∷ bids) are =
     All-cons (λ (one : ℕ × Message). IsBid one.1) asked bids are.0.bid
     (row-bids k (drop r.used bytes) rest requests bids are.1)
 
+-- and each is numbered
 pub row-numbered : (k : Key) (bytes rest : List ℕ) (requests : List HttpRequest) (bids : List (ℕ × Message))
     → AreInRow k bytes rest requests bids → AreNumbered bids
 row-numbered k bytes rest [] [] are = All-nil (λ (asked : ℕ × Message). IsNumbered asked.0 asked.1)
@@ -89,7 +91,8 @@ row-one k waiting r asked items before none is one =
     (sym (is ∙ ap (λ (l : List (ℕ × Message)). l ++ asked ∷ []) none)) (one, refl)
 
 -- one bid more in a row that uses so many bytes
-pub row-more : (k : Key) (waiting : List ℕ) (used : ℕ) (requests : List HttpRequest) (r : HttpRequest) (asked : ℕ × Message)
+pub row-more : (k : Key) (waiting : List ℕ) (used : ℕ) (requests : List HttpRequest) (r : HttpRequest)
+    (asked : ℕ × Message)
     (items before : List (ℕ × Message))
     → AreInRow k waiting (drop used waiting) requests before
     → items ≡ before ++ asked ∷ []
@@ -208,7 +211,8 @@ pub record AreServed (fixed : List ℕ) (bytes rest : List ℕ) (made : List Mad
   pub said : map (λ e. e.said) exchanges ≡ answers
 
 -- it is so
-pub are-served : (fixed : List ℕ) (k : Key) (bytes rest : List ℕ) (requests : List HttpRequest) (bids : List (ℕ × Message))
+pub are-served : (fixed : List ℕ) (k : Key) (bytes rest : List ℕ) (requests : List HttpRequest)
+    (bids : List (ℕ × Message))
     (made : List Made) (answers : List Answer)
     → AreInRow k bytes rest requests bids
     → BecameCalls fixed k bids made answers
@@ -330,12 +334,15 @@ at-place (suc p) (e ∷ exchanges) said others is = at-place p exchanges said ot
 module _ (turns : ℕ) (k : Key) (waiting rest : List ℕ) (v0 v1 : View) (a b : LinkState) (requests : List HttpRequest)
     (bids : List (ℕ × Message)) (answers : List Answer) (are : AreInRow k waiting rest requests bids)
     (gains : GainsTogether v0 v1 k bids answers) (few : turns + length bids < most_turns) where
+  -- what the requests became
   abbrev served : AreServed v0.fixed waiting rest gains.made answers
   served = are-served v0.fixed k waiting rest requests bids gains.made answers are gains.became gains.plain
 
+  -- their exchanges
   abbrev all : List Exchange
   all = served.exchanges
 
+  -- there is one for each bid
   long : length all ≡ length bids
   long =
       omega (
@@ -345,6 +352,7 @@ module _ (turns : ℕ) (k : Key) (waiting rest : List ℕ) (v0 v1 : View) (a b :
         (as-many v0.fixed k bids gains.made answers gains.became).0,
       )
 
+  -- the pass gained their calls
   gains_all : Gains v0 v1 (calls_in all)
   gains_all = subst (λ (l : List Made). Gains v0 v1 l) (sym served.calls) gains.gains
 
@@ -475,6 +483,7 @@ module _ (turns count : ℕ) (k : Key) (waiting rest : List ℕ) (v0 v1 : View) 
     (are : AreInRow k waiting rest requests bids) (is : count ≡ length bids)
     (gains : GainsTogether v0 v1 k bids (answers_at said places (length bids)))
     (few : turns + length bids < most_turns) where
+  -- the link goes on where all replies were written
   pub told-on : (left : List ℕ) → left ≡ rest → Moved a b [] (replies_to (answers_at said places count))
       → ServesOn turns count waiting v0 v1 a b left
   told-on left same moved =
@@ -483,6 +492,7 @@ module _ (turns count : ℕ) (k : Key) (waiting rest : List ℕ) (v0 v1 : View) 
       (row-on turns k waiting rest v0 v1 a b requests bids (answers_at said places (length bids)) are gains few
       (subst (λ (n : ℕ). Moved a b [] (replies_to (answers_at said places n))) is moved)))
 
+  -- and ends at the reply that wasn't
   pub told-unwritten : (place : ℕ) → FailsAt a b (answers_at said places count) place
       → ServesLink turns waiting v0 v1 a b end.WriteFault
   told-unwritten place fails =
@@ -492,6 +502,7 @@ module _ (turns count : ℕ) (k : Key) (waiting rest : List ℕ) (v0 v1 : View) 
 -- a turn in which no call was made, and then
 module _ (turns : ℕ) (waiting : List ℕ) (v0 v1 v2 : View) (a b : LinkState) (few : turns < most_turns)
     (none : Gains v0 v1 []) where
+  -- the link served nothing in that turn
   nothing : ServesOn turns 0 waiting v0 v1 a a waiting
   nothing = record {
     exchanges = [];
@@ -507,13 +518,16 @@ module _ (turns : ℕ) (waiting : List ℕ) (v0 v1 v2 : View) (a b : LinkState) 
     gains = none;
   }
 
+  -- so what it serves then is all that it serves
   pub after-none-on : (count : ℕ) (left : List ℕ) → ServesOn turns count waiting v1 v2 a b left
       → ServesOn turns count waiting v0 v2 a b left
   after-none-on count left on =
       subst (λ (n : ℕ). ServesOn turns n waiting v0 v2 a b left) (omega arith)
       (serves-then turns 0 count turns waiting waiting left v0 v1 v2 a a b (omega arith) nothing on)
 
-  pub after-none-ended : (ended : End) → ServesLink turns waiting v1 v2 a b ended → ServesLink turns waiting v0 v2 a b ended
+  -- and it ends as it does then
+  pub after-none-ended : (ended : End) → ServesLink turns waiting v1 v2 a b ended
+      → ServesLink turns waiting v0 v2 a b ended
   after-none-ended ended link =
       serves-ends turns 0 turns waiting waiting v0 v1 v2 a a b ended (omega arith) nothing link
 
@@ -524,6 +538,7 @@ module _ (turns : ℕ) (waiting : List ℕ) (v0 v1 v2 : View) (a b : LinkState) 
   after-none-ok (Ok count) left on = after-none-on count left on
   after-none-ok (Err ended) left on = tt
 
+  -- the same where it ended
   pub after-none-err : (result : Result ℕ End)
       → IfErr result (λ ended. ServesLink turns waiting v1 v2 a b ended)
       → IfErr result (λ ended. ServesLink turns waiting v0 v2 a b ended)

@@ -77,7 +77,8 @@ module _ {D C G K : Type 0} (gate : G → GateState K) (source : K → SourceSta
       mine = ap (λ (l : List Call). l ++ flat_map calls_with ns) mine_is
           ∙ (ap (λ (l : List Call). map call_of made ++ l) more.mine
           ∙ sym (map-append call_of made (calls_of_gates more.runs)));
-      answered = All-append (λ m. IsAnswered v.fixed m.history m.called m.before m.after) made (calls_of_gates more.runs)
+      answered = All-append (λ m. IsAnswered v.fixed m.history m.called m.before m.after) made
+          (calls_of_gates more.runs)
           one_answered more.answered;
       begin = All-append (λ m. IsPrefix v.seen (spelled_all m.history)) made (calls_of_gates more.runs) one_begin
           more.begin;
@@ -139,12 +140,15 @@ module _ {D C G K : Type 0} (gate : G → GateState K) (source : K → SourceSta
       → served ≡ sum_by served_of ws
       → failed ≡ list_any failed_of ws
       → Turns gate source sink v v2 gates back served failed
-  turns_done v1 v2 olds news ws gates back worked all hired dismissed mine kept none share lent first second served failed
+  turns_done v1 v2 olds news ws gates back worked all hired dismissed mine kept none share lent first
+      second served failed
       total failures = record {
         runs = worked.runs;
         are_runs = subst (λ (l : List G). AreRuns gate source sink v.fixed l back worked.runs) hired
-            (subst (λ (l : List G). AreRuns gate source sink v.fixed (map (λ (w : Worker D C G). w.gate) olds) l worked.runs)
-            (sym (dismissed ∙ ap (λ (l : List (Worker D C G)). map (λ (w : Worker D C G). w.gate) l) all)) worked.are_runs);
+            (subst (λ (l : List G). AreRuns gate source sink v.fixed
+            (map (λ (w : Worker D C G). w.gate) olds) l worked.runs)
+            (sym (dismissed ∙ ap (λ (l : List (Worker D C G)). map (λ (w : Worker D C G). w.gate) l) all))
+            worked.are_runs);
         mine = mine
             ∙ (ap (λ (l : List Call). l ++ flat_map calls_with ws) (kept ∙ none)
             ∙ (ap (λ (l : List (Worker D C G)). flat_map calls_with l) all ∙ worked.mine));

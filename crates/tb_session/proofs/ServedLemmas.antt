@@ -28,6 +28,7 @@ leaves-none turns end.WriteFault rest due tail ends =
 leaves-none turns end.OutOfMemory rest due tail ends =
     ⊎_elim (λ none. none.1) (λ one. absurd (let is = one.1 in let bad : ⊥ = cc in bad)) ends.1
 
+-- so a session that ended between two requests leaves none
 pub session-leaves : (fixed : List ℕ) (turns : ℕ) (waiting : List ℕ) (old new : LinkState) (s : Session)
     → IsSession fixed turns waiting old new s → s.last ≡ [] → HoldsNone s.rest
 session-leaves fixed turns waiting old new s is none =

@@ -342,6 +342,7 @@ module _ (a m b : LinkState) (waiting now read tail due : List ℕ) (ended : End
 -- a round of the link: a request is read, and it and maybe more are served
 module _ (count : ℕ) (waiting now after : List ℕ) (v0 v1 v2 : View) (a b m c : LinkState) (r : HttpRequest)
     (few : count < most_turns) (so_far : ServesOn 0 count waiting v0 v1 a b now) (waits : Waits b m now after r) where
+  -- the requests so far were served, and the bytes of the next are read
   heard : ServesOn 0 (count + 0) waiting v0 v1 a m after
   heard =
       serves-then 0 count 0 count waiting now after v0 v1 v1 a b m (omega arith) so_far

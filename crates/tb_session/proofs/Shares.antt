@@ -1,9 +1,11 @@
 -- Shares that are split.
 use Rattle.std.proofs.Common.{◌≡◌, ℕ, zero, suc, ◌-◌, ◌*◌, ◌/◌, ◌^◌, ◌<◌, ◌≤◌, ap, ◌∙◌, arith}
 
+-- the next power of two is twice as much
 power-more : (k : ℕ) → 2 ^ (suc k) ≡ 2 * 2 ^ k
 power-more k = grind arith
 
+-- a power of two is at least one
 power-some : (k : ℕ) → 1 ≤ 2 ^ k
 power-some zero = omega arith
 power-some (suc k) = let some = power-some k in let more = power-more k in omega arith
@@ -15,6 +17,7 @@ two-left n k share is enough =
     let some = power-some k in
     (omega (arith, power, some, enough), omega (arith, power, enough))
 
+-- powers of two rise with their exponents
 power-rises : (k n : ℕ) → k ≤ n → 2 ^ k ≤ 2 ^ n
 power-rises zero n less = power-some n
 power-rises (suc k) zero less = absurd (let bad : ⊥ = omega arith in bad)

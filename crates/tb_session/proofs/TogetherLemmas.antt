@@ -78,6 +78,7 @@ all-beside call (r ∷ replied) at low high before after begins =
     (prefix-trans (left_by call) (spelled_all at) (spelled_all (at ++ added_by r.called.outcome)) begins
     (spelled-begins at (added_by r.called.outcome) _ refl)))
 
+-- the calls of a group stand beside each other: each has what those before it left, and the same counts
 pub are-beside : (replied : List Replied) (at : List Entry) (low high : ℕ)
     → AreBeside (map call_of (made_from at low high replied))
 are-beside [] at low high = tt
@@ -169,7 +170,8 @@ module _ {D C : Type 0} (disk : D → DiskState) (clock : C → ClockState) (v0 
           begins;
     }
 
-    one_timed : Reads r.called.moment (clock old.clock) (clock new.clock) → IsTimed (room_means disk clock) v new (call_of one)
+    one_timed : Reads r.called.moment (clock old.clock) (clock new.clock)
+        → IsTimed (room_means disk clock) v new (call_of one)
     one_timed read seconds is =
         let found = reads-timed r.called.moment (clock old.clock) (clock new.clock) read seconds is in (
           found.0,
@@ -267,7 +269,8 @@ module _ {D C : Type 0} (disk : D → DiskState) (clock : C → ClockState) (v0 
       (⊎_elim (λ is. spelled-begins _ [] _ (is ∙ sym (append-nil _))) (λ is. spelled-begins _ old.desk.doubt _ is)
       does.settled)
 
-  all_seen : (first : History) → IsPrefix first (spelled_all does.at) → All (λ (c : Call). IsPrefix first c.prefix) calls
+  all_seen : (first : History) → IsPrefix first (spelled_all does.at)
+      → All (λ (c : Call). IsPrefix first c.prefix) calls
   all_seen first begins =
       All-mapped (λ (c : Call). IsPrefix first c.prefix) made
       (all-begin first replied does.at v.faults_taken new.desk.faults begins)

@@ -82,7 +82,8 @@ read-between before after is = elim (cases_lt before last_count) [
 ]
 
 -- the moment of a message is the clock's last reading, and the clock was read
-pub reads-timed : (m : Option Moment) (a b : ClockState) → Reads m a b → (seconds : ℕ) → moment_at (moment_code m) ≡ Some seconds
+pub reads-timed : (m : Option Moment) (a b : ClockState) → Reads m a b → (seconds : ℕ)
+    → moment_at (moment_code m) ≡ Some seconds
     → (seconds ≡ b.reading) × IsReadBetween a.readings b.readings
 reads-timed None a b reads seconds is = absurd (let bad : ⊥ = cc in bad)
 reads-timed (Some moment) a b reads seconds is =
@@ -161,7 +162,8 @@ module _ {D C : Type 0} (disk : D → DiskState) (clock : C → ClockState) (v0 
     in_range = called.does.in_range;
     comes_out = subst (λ (name : List ℕ). ComesOut name at t.called t.called.outcome
         old.desk.faults new.desk.faults)
-        (sym (operator-locked old.operator (disk old.desk.opened) old.desk.recovered (clock old.clock).moments)) called.does.comes_out;
+        (sym (operator-locked old.operator (disk old.desk.opened) old.desk.recovered (clock old.clock).moments))
+        called.does.comes_out;
     given = called.does.given;
     timed = reads-given old.operator (disk old.desk.opened) old.desk.recovered t.called.moment (clock old.clock)
         (clock new.clock) called.reads;
@@ -238,7 +240,8 @@ module _ {D C : Type 0} (disk : D → DiskState) (clock : C → ClockState) (v0 
         ap (λ (l : List Entry). spelled_all l) kept.1 ∙ sym seen_old,
       )))
       (λ lost. inr (inr (subst
-      (λ (l : List Entry). All (λ (e : List ℕ). Any (Leaves (room_means disk clock) v.fixed e) (call ∷ [])) (spelled_all l))
+      (λ (l : List Entry). All (λ (e : List ℕ). Any (Leaves (room_means disk clock) v.fixed e) (call ∷ []))
+      (spelled_all l))
       (sym lost.2)
       (All-cons (λ (e : List ℕ). Any (Leaves (room_means disk clock) v.fixed e) (call ∷ [])) (spelling lost.0) []
       (any-first _ call [] (leaves_it lost.0 lost.1)) (All-nil _)))))
@@ -255,7 +258,12 @@ module _ {D C : Type 0} (disk : D → DiskState) (clock : C → ClockState) (v0 
   -- the lock cuts the prefix itself
   told_is : calls_of (room_means disk clock) v new (told_of t) ≡ call ∷ []
   told_is =
-      ap (λ (l : History). record { code = code_of t.called; prefix = l; faults_before = v.faults_taken; faults_after = new.desk.faults } ∷ [])
+      ap (λ (l : History). record {
+        code = code_of t.called;
+        prefix = l;
+        faults_before = v.faults_taken;
+        faults_after = new.desk.faults;
+      } ∷ [])
       (take-prefix t.before (spelled_all at) (spelled_all new.desk.host.history) at_begins
       (before ∙ (before-is t.called.outcome at new.desk.host.history called.does.grown ∙ sym (length-map at spelling))))
 
@@ -317,5 +325,6 @@ module _ {D C : Type 0} (disk : D → DiskState) (clock : C → ClockState) (v0 
     ask_is = ask_is;
     answer_is = subst (λ (f : List ℕ). IsAnswerOf f made t.answer) taken.fixed
         (subst (λ (name : List ℕ). IsAnswerBy name at t.called t.called.outcome t.answer)
-        (sym (operator-locked old.operator (disk old.desk.opened) old.desk.recovered (clock old.clock).moments)) called.does.answer);
+        (sym (operator-locked old.operator (disk old.desk.opened) old.desk.recovered (clock old.clock).moments))
+        called.does.answer);
   }

@@ -41,14 +41,17 @@ use Rattle.tb_session.proofs.CallerLemmas.{row-passed}
 
 -- ---- no row of a table says that the key is unknown
 
+-- whether a refusal says that the key is unknown
 abbrev is_unknown : Refusal → Bool
 is_unknown refusal.UnknownKey = true
 is_unknown other = false
 
+-- whether a row of a table does
 abbrev has_unknown : List Row → Bool
 has_unknown [] = false
 has_unknown (row ∷ rows) = is_unknown row.0 || has_unknown rows
 
+-- neither of two holds where their "or" doesn't
 or-false : (a b : Bool) → a || b ≡ false → (a ≡ false) × (b ≡ false)
 or-false true b is = absurd (let bad : ⊥ = cc in bad)
 or-false false b is = (refl, is)
@@ -61,6 +64,7 @@ both_known (row ∷ rows) more none also =
     let parts = or-false (is_unknown row.0) (has_unknown rows) none in
     rw (parts.0, both_known rows more parts.1 also) refl
 
+-- the rows on the terms of an auction don't
 faults_known : (fault : Option TermsFault) → has_unknown (fault_rows fault) ≡ false
 faults_known None = refl
 faults_known (Some BadCusip) = refl
@@ -68,47 +72,56 @@ faults_known (Some BadDates) = refl
 faults_known (Some BadAmounts) = refl
 faults_known (Some BadClosing) = refl
 
+-- nor does the row on the maturity of a bill that is sold again
 maturity_known : (first : Option Announcement) (day : Day) → has_unknown (maturity_rows first day) ≡ false
 maturity_known None day = refl
 maturity_known (Some first) day = refl
 
+-- nor do the rows of a bid
 bid_known : (a : Option Announcement) (enrolled : Bool) (standing : Standing) (moment : Moment) (rate : Option Rate)
     (amount : ℕ)
     → has_unknown (bid_rows a enrolled standing moment rate amount) ≡ false
 bid_known None enrolled standing moment rate amount = refl
 bid_known (Some a) enrolled standing moment rate amount = refl
 
+-- of a cancel
 cancel_known : (a : Option Announcement) (bid : Option Bid) (cancelled : Bool) (moment : Moment)
     → has_unknown (cancel_rows a bid cancelled moment) ≡ false
 cancel_known None bid cancelled moment = refl
 cancel_known (Some a) None cancelled moment = refl
 cancel_known (Some a) (Some bid) cancelled moment = refl
 
+-- of a report of a position
 position_known : (a : Option Announcement) (enrolled : Bool) (moment : Moment)
     → has_unknown (position_rows a enrolled moment) ≡ false
 position_known None enrolled moment = refl
 position_known (Some a) enrolled moment = refl
 
+-- of a publication
 publish_known : (a : Option Announcement) (published : Bool) (moment : Moment)
     → has_unknown (publish_rows a published moment) ≡ false
 publish_known None published moment = refl
 publish_known (Some a) published moment = refl
 
+-- of a settlement
 settle_known : (a : Option Announcement) (published settled : Bool) (moment : Moment)
     → has_unknown (settle_rows a published settled moment) ≡ false
 settle_known None published settled moment = refl
 settle_known (Some a) published settled moment = refl
 
+-- of a transfer
 transfer_known : (a : Option Announcement) (known self redeemed : Bool) (free : ℕ) (moment : Moment) (amount : ℕ)
     → has_unknown (transfer_rows a known self redeemed free moment amount) ≡ false
 transfer_known None known self redeemed free moment amount = refl
 transfer_known (Some a) known self redeemed free moment amount = refl
 
+-- of a release
 mark_known : (mark : Option Mark) (left : ℕ) (sender : List ℕ) (amount : ℕ)
     → has_unknown (mark_rows mark left sender amount) ≡ false
 mark_known None left sender amount = refl
 mark_known (Some mark) left sender amount = refl
 
+-- of a redemption
 redeem_known : (a : Option Announcement) (redeemed : Bool) (unsettled : Option Announcement) (entered : List Day)
     (moment : Moment)
     → has_unknown (redeem_rows a redeemed unsettled entered moment) ≡ false
@@ -116,6 +129,7 @@ redeem_known None redeemed unsettled entered moment = refl
 redeem_known (Some a) redeemed None entered moment = refl
 redeem_known (Some a) redeemed (Some first) entered moment = refl
 
+-- so no row of a message does
 rows-known : (history : List Entry) (sender : List ℕ) (moment : Moment) (sent : Message)
     → has_unknown (rows_of history sender moment sent) ≡ false
 rows-known history sender moment (message.Register submitter word) = refl
@@ -142,11 +156,13 @@ rows-known history sender moment (message.Settle auction) =
     settle_known (announcement_of (announcements history) auction) (is_published history auction)
     (is_settled history auction) moment
 rows-known history sender moment (message.Transfer cusip to amount) =
-    transfer_known (bill_of (announcements history) cusip) (is_registered (registrations history) to) (is_same to sender)
+    transfer_known (bill_of (announcements history) cusip)
+    (is_registered (registrations history) to) (is_same to sender)
     (is_redeemed (redemptions history) cusip) (free_of history sender cusip) moment amount.value
 rows-known history sender moment (message.Pledge cusip to amount) =
     both_known (par_rows history sender moment cusip to amount.value) _
-    (transfer_known (bill_of (announcements history) cusip) (is_registered (registrations history) to) (is_same to sender)
+    (transfer_known (bill_of (announcements history) cusip)
+    (is_registered (registrations history) to) (is_same to sender)
     (is_redeemed (redemptions history) cusip) (free_of history sender cusip) moment amount.value)
     refl
 rows-known history sender moment (message.Release holder pledge amount) =
@@ -163,9 +179,11 @@ other-refusal why known is =
     let yes : is_unknown why ≡ true = ap is_unknown is in
     let bad : true ≡ false = sym yes ∙ known in cc
 
+-- and a verdict of such a refusal is another one than that the key is unknown
 other-verdict : (why : Refusal) → is_unknown why ≡ false → verdict.Refused why ≡ verdict.Refused refusal.UnknownKey → ⊥
 other-verdict why known is = other-refusal why known cc
 
+-- where the first row that holds says that the key is unknown, no row held and the last verdict says it
 rows-passed : (rows : List Row) (last : Verdict) → has_unknown rows ≡ false
     → first_of (map refused rows) last ≡ verdict.Refused refusal.UnknownKey
     → last ≡ verdict.Refused refusal.UnknownKey
@@ -185,10 +203,12 @@ number-passed (Some e) sent rest last said =
     elim (cases_Bool (same_message e.message sent)) [
       | inl same ↦ let told : verdict.Repeat e.number e.moment ≡ verdict.Refused refusal.UnknownKey = rw same at said in
           absurd (let bad : ⊥ = cc in bad)
-      | inr differs ↦ let told : verdict.Refused refusal.NumberReused ≡ verdict.Refused refusal.UnknownKey = rw differs at said in
+      | inr differs ↦
+          let told : verdict.Refused refusal.NumberReused ≡ verdict.Refused refusal.UnknownKey = rw differs at said in
           absurd (other-verdict refusal.NumberReused refl told)
     ]
 
+-- what is accepted isn't refused so
 not-accepted : (number : ℕ) (moment : Moment) → verdict.Accepted number moment ≡ verdict.Refused refusal.UnknownKey → ⊥
 not-accepted number moment is = cc
 
@@ -223,10 +243,13 @@ refusal-known (row ∷ rows) known is =
       | inr fails ↦ refusal-known rows parts.1 (rw fails at is)
     ]
 
-auction_known : (a : Option Announcement) (shows published : Bool) → has_unknown (auction_rows a shows published) ≡ false
+-- no row on an auction that is asked for does
+auction_known : (a : Option Announcement) (shows published : Bool)
+    → has_unknown (auction_rows a shows published) ≡ false
 auction_known None shows published = refl
 auction_known (Some a) shows published = refl
 
+-- so no row of a query does
 asked-known : (history : List Entry) (asked : Query) → has_unknown (asked_rows history asked) ≡ false
 asked-known history (query.Terms auction) =
     auction_known (announcement_of (announcements history) auction) false (is_published history auction)
@@ -250,6 +273,7 @@ query-known history caller asked known is =
 
 -- ---- the caller of a key is one
 
+-- "or" holds where the second holds
 or-later : (a b : Bool) → b ≡ true → a || b ≡ true
 or-later true b is = refl
 or-later false b is = is

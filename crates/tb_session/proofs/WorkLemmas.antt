@@ -31,6 +31,7 @@ module _ {K : Type 0} where
   before-none None = refl
   before-none (Some left) = refl
 
+  -- two lists of links before those left are one
   before-both : (a b : List K) (left : Option (List K))
       → before_links a (before_links b left) ≡ before_links (a ++ b) left
   before-both a b None = refl
@@ -41,6 +42,7 @@ module _ {K : Type 0} where
   after-none None = refl
   after-none (Some back) = ap Some (append-nil back)
 
+  -- two lists of links behind those handed back are one
   after-both : (back : Option (List K)) (a b : List K)
       → after_links (after_links back a) b ≡ after_links back (a ++ b)
   after-both None a b = refl
@@ -167,6 +169,7 @@ module _ {D C G K : Type 0} (gate : G → GateState K) (source : K → SourceSta
         → Works gate source sink w0 (record w { gate = opened; failed = true })
     works-failed opened fails = record {
       on = works_gate opened true (passed-failed (gate w.gate) (gate opened) fails);
-      failed = λ is. Rose-later (gate w0.gate).faults (gate w.gate).faults (gate opened).faults on.passed.count fails.rose;
+      failed = λ is. Rose-later (gate w0.gate).faults (gate w.gate).faults (gate opened).faults
+          on.passed.count fails.rose;
       finished = λ is. absurd (let bad : ⊥ = cc in bad);
     }

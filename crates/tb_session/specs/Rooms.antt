@@ -19,8 +19,8 @@ pub record IsCoded (fixed : List ℕ) (prefix : History) (code : List ℕ) (befo
   pub answered : IsAnswered fixed history called before after
 
 module _ {D C : Type 0} (disk : D → DiskState) (clock : C → ClockState) where
-  -- what calls are answered by: the operator's name, whether the disk tells its contents and its count of faults, as the
-  -- opening left it, and the moments of the clock
+  -- what calls are answered by: the operator's name, whether the disk tells its contents and its count of faults, as
+  -- the opening left it, and the moments of the clock
   abbrev pub house_of : Room D C → List ℕ
   house_of room =
       fixed_code room.operator (is_some (disk room.desk.opened).past) (disk room.desk.opened).faults

@@ -130,7 +130,8 @@ pub record ShareTurn (exchanges : List Exchange) : Type 0 where
 -- ---- sessions
 
 -- One link: the bytes read, the requests after whose replies the link went on, the one at which it ended, where there
--- is one, and those behind it that had shared its turn, the bytes left over, what was due to be written at the end, and the part of that which was written.
+-- is one, and those behind it that had shared its turn, the bytes left over, what was due to be written at the end, and
+-- the part of that which was written.
 pub record Session : Type 0 where
   pub read : List ℕ
   pub exchanges : List Exchange

@@ -142,8 +142,8 @@ fn begin_row(alloc: Global, request: &HttpRequest, waiting: &[u8]) -> Option<Row
     }
 }
 
-/// The bids that wait in a row from the request at the front on, so many at most. `None` where the request is no bid, or
-/// nothing waits behind it.
+/// The bids that wait in a row from the request at the front on, so many at most. `None` where the request is no bid,
+/// or nothing waits behind it.
 pub(crate) fn find_row(
     alloc: Global,
     routes: &Routes,

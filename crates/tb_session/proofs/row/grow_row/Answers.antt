@@ -13,7 +13,8 @@ returns-clause-row c =
     let found = subst (λ l. IsBidRequest row.key r l c.in-Some.bid) c.behind.ensures c.in-Some.ensures in
     record {
       requests = before.requests ++ r ∷ [];
-      are = row-more row.key waiting row.used before.requests r c.in-Some.bid c.push.new.self.items row.bids.items before.are
+      are = row-more row.key waiting row.used before.requests r c.in-Some.bid c.push.new.self.items
+          row.bids.items before.are
           (pushed c.push.result c.push.new.self.items row.bids.items c.in-Some.bid c.push.ensures.items
           (sym c.is_err.ensures.value ∙ c.if-is_err.false)) found;
       within = (let few = c.uses.ensures.used (drop row.used waiting) r found.front in

@@ -6,4 +6,9 @@ pub returns : goal.returns
 returns g c =
     let now = running-is c.args.self.now.desk.host.history c.args.moment c.last.result c.later.result c.last.ensures
     c.later.ensures in
-    λ i. record { submitter = c.args.submitter.now; number = c.args.number; moment = now i; message = c.args.message.now }
+    λ i. record {
+      submitter = c.args.submitter.now;
+      number = c.args.number;
+      moment = now i;
+      message = c.args.message.now;
+    }

@@ -9,7 +9,8 @@ returns-clause-calls g c = record {
   calls = are-calls c.args.key.now c.now-moment.result c.group_at-came.result c.args.messages.now
       c.group_at-came.new.verdicts;
   does = c.group_at-came.ensures.does;
-  reads = subst (λ n. ReadsClock (g.C.Clock.clock c.args.self.now.clock) (g.C.Clock.clock n) c.now-moment.result.seconds)
+  reads = subst (λ n. ReadsClock (g.C.Clock.clock c.args.self.now.clock) (g.C.Clock.clock n)
+      c.now-moment.result.seconds)
       (sym c.group_at-came.ensures.same.2) c.now-moment.ensures.reads;
   same = record {
     operator = c.group_at-came.ensures.same.0;

@@ -11,8 +11,8 @@ use Rattle.tb_session.proofs.room.Room.group_at.Goals as goal
 
 pub returns-in_default-clause-does : goal.returns-in_default-clause-does
 returns-in_default-clause-does g c =
-    together-unknown c.args.self.now.operator c.args.key.now c.args.moment c.args.messages.now c.refuse_each.new.verdicts
-    (held c.args.self.now.desk) c.args.self.now.desk.faults c.know_desk.ensures.legal
+    together-unknown c.args.self.now.operator c.args.key.now c.args.moment c.args.messages.now
+    c.refuse_each.new.verdicts (held c.args.self.now.desk) c.args.self.now.desk.faults c.know_desk.ensures.legal
     (sym c.caller.ensures ∙ none-of c.caller.result c.in_default.not-Some)
 
 pub returns-in_default-clause-tells : goal.returns-in_default-clause-tells
@@ -22,8 +22,8 @@ returns-in_default-clause-tells g c =
 
 pub returns-in_default-clause-unknown : goal.returns-in_default-clause-unknown
 returns-in_default-clause-unknown g c =
-    unknown-unknown c.args.self.now.operator c.args.key.now c.args.moment c.args.messages.now c.refuse_each.new.verdicts _
-    (sym c.caller.ensures ∙ none-of c.caller.result c.in_default.not-Some)
+    unknown-unknown c.args.self.now.operator c.args.key.now c.args.moment c.args.messages.now
+    c.refuse_each.new.verdicts _ (sym c.caller.ensures ∙ none-of c.caller.result c.in_default.not-Some)
 
 pub returns-then-is_err-clause-does : goal.returns-then-is_err-clause-does
 returns-then-is_err-clause-does g c =
@@ -83,7 +83,8 @@ returns-in-Verdicts-clause-unknown g c =
     (g.D.Disk.disk mid.disk) (held mid) (held c.submit_group.new.self) mid.faults c.submit_group.new.self.faults
     c.submit_group.new.verdicts c.in-Verdicts.ensures.turn.0 c.bytes-name.ensures.name c.requires.numbered known
     c.in-Verdicts.ensures.turn.1 c.in-Verdicts.ensures.turn.2 c.in-Verdicts.ensures.faults in
-    subst (λ o. TellUnknown o (replied_by c.args.key.now c.args.moment (grouped.Told c.in-Some.caller) c.args.messages.now
+    subst (λ o. TellUnknown o
+    (replied_by c.args.key.now c.args.moment (grouped.Told c.in-Some.caller) c.args.messages.now
     c.submit_group.new.verdicts)) (sym (sym c.caller.ensures ∙ c.in-Some.is)) told.known
 
 pub returns-in-DiskFault-clause-does : goal.returns-in-DiskFault-clause-does

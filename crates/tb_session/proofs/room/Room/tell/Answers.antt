@@ -31,7 +31,8 @@ returns-in-Err-Refused-clause-does g c =
     let failed = c.in-Err-Refused.is ∙ ap Err c.in-Err-Refused.field-0-is in
     subst (λ said. Does room.operator (held room.desk) (held room.desk) room.desk.faults room.desk.faults
     (query_call c.args.key.now c.args.query.now outcome.Told) said) (sym c.refused-in-Err-Refused.ensures)
-    (does-refused_query room.operator (held room.desk) room.desk.faults c.args.key.now c.in-Some.caller c.args.query.now why
+    (does-refused_query room.operator (held room.desk) room.desk.faults c.args.key.now c.in-Some.caller
+    c.args.query.now why
     c.know_desk.ensures.legal (sym c.caller.ensures ∙ c.in-Some.is) ((c.read.ensures.refused why).0 failed))
 
 pub returns-in-Err-OutOfMemory-clause-does : goal.returns-in-Err-OutOfMemory-clause-does
