@@ -1,18 +1,21 @@
 -- The records of one history are those of its entries: what is said of records is so of entries.
-use Rattle.std.proofs.Common.{◌≡◌, ℕ, List, [], ◌∷◌, ◌++◌, get_or, refl, sym, subst, ap, ◌∙◌, inl, inr, arith}
+use Rattle.std.proofs.Common.{◌≡◌, ℕ, ◌<◌, ◌≤◌, List, [], ◌∷◌, ◌++◌, length, get_or, refl, sym, subst, ap, ◌∙◌, inl, inr, ⊎_elim, arith}
 use Rattle.std.specs.Prelude.{All, Any}
+use Rattle.std.proofs.lemmas.Bool.{cases_lt}
 use Rattle.std.proofs.lemmas.List.{map-append}
 use Rattle.std.proofs.lemmas.List.Elements.{All-head, All-tail, All-cons, All-push}
 use Rattle.tb_message.specs.declared.message.Entry.{Entry}
 use Rattle.tb_message.specs.Spelling.{spelling, IsInRange}
 use Rattle.tb_message.proofs.RecordLaws.{spelling-one}
-use Rattle.tb_history.specs.Legal.{IsLegal}
+use Rattle.tb_history.specs.Legal.{IsLegal, IsOther}
+use Rattle.tb_history.proofs.HistoryLemmas.{IsLegal-ordered}
+use Rattle.tb_history.proofs.SameLemmas.{is_same-sym}
 use Rattle.tb_lock.specs.Meanings.{History, IsPrefix}
 use Rattle.tb_desk.proofs.GroupLemmas.{All-append_right, IsLegal-in_range}
 use Rattle.tb_session.specs.declared.called.Outcome.TheVariants as outcome
 use Rattle.tb_session.specs.Codes.{Made, IsAnswered, HasRange, spelled_all}
-use Rattle.tb_session.specs.Serve.{IsHistoryOf, MayHaveMade}
-use Rattle.tb_host.specs.Headline.{Begins, IsAnsweredIn, MayHaveAdded, OneHistory}
+use Rattle.tb_session.specs.Serve.{AreApart, IsHistoryOf, MayHaveMade}
+use Rattle.tb_host.specs.Headline.{AddOthers, Begins, IsAnsweredIn, MayHaveAdded, OneHistory}
 use Rattle.tb_host.specs.Standings.{Standing}
 
 -- a list whose records begin those of another begins it
@@ -112,6 +115,49 @@ answered-in fixed first last m legal legal' answered opens begins accepted =
           (accepted e is));
     }
 
+-- an entry right behind a beginning stands at the place of that length
+placed : (front whole : List Entry) (e d : Entry)
+    → Begins (front ++ e ∷ []) whole
+    → (length front < length whole) × (get_or whole (length front) d ≡ e)
+placed [] whole e d begins = (
+  omega (arith, ap (λ (l : List Entry). length l) begins.1),
+  ap (λ (l : List Entry). get_or l 0 d) begins.1,
+)
+placed (x ∷ front) [] e d begins =
+    let more : List Entry = begins.0 in
+    let is : [] ≡ x ∷ ((front ++ e ∷ []) ++ more) = begins.1 in
+    absurd (let bad : ⊥ = cc in bad)
+placed (x ∷ front) (y ∷ whole) e d begins =
+    let more : List Entry = begins.0 in
+    let is : y ∷ whole ≡ x ∷ ((front ++ e ∷ []) ++ more) = begins.1 in
+    let tail : whole ≡ (front ++ e ∷ []) ++ more = cc in
+    let there = placed front whole e d (more, tail) in
+    let within = there.0 in
+    (omega arith, there.1)
+
+-- accepted on histories of different lengths, two calls have entries at different places of the one history
+others : (fixed : List ℕ) (first last : List Entry) (m n : Made)
+    → IsLegal last
+    → IsAnsweredIn fixed first last m
+    → IsAnsweredIn fixed first last n
+    → AreApart m n
+    → AddOthers m n
+others fixed first last m n legal here there apart e f adds_e adds_f =
+    let one = placed m.history last e e (here.accepted e adds_e) in
+    let other = placed n.history last f e (there.accepted f adds_f) in
+    let numbers = (IsLegal-ordered last legal).numbers in
+    let different = apart e f adds_e adds_f in
+    ⊎_elim
+    (λ (earlier : length m.history < length n.history).
+    subst (λ (y : Entry × Entry). IsOther y.0 y.1) (λ i. (one.1 i, other.1 i))
+    (numbers (length m.history) (length n.history) e earlier other.0))
+    (λ (at_least : length n.history ≤ length m.history).
+    let later : length n.history < length m.history = omega arith in
+    let flipped = subst (λ (y : Entry × Entry). IsOther y.0 y.1) (λ i. (other.1 i, one.1 i))
+    (numbers (length n.history) (length m.history) e later one.0) in
+    λ same. flipped (is_same-sym e.submitter f.submitter same.0, sym same.1))
+    (cases_lt (length m.history) (length n.history))
+
 -- The one history of records is one of entries.
 pub OneHistory-spelled : (fixed : List ℕ) (first last : Standing) (more : List Entry) (low high : ℕ) (calls : List Made)
     → IsLegal first.history
@@ -126,11 +172,15 @@ OneHistory-spelled fixed first last more low high calls legal legal' accepted gr
     rest-spelled first.history more one.later (ap spelled_all (sym grown) ∙ one.grown) in
     let whole = IsLegal-in_range last.history legal' in
     let with_doubt = IsLegal-in_range (last.history ++ last.doubt) accepted in
+    let answered : All (IsAnsweredIn fixed first.history last.history) calls =
+    λ k d within. answered-in fixed first.history last.history (get_or calls k d) legal legal' (one.answered k d within)
+    (one.begins k d within) (one.prefixes k d within) (one.accepted k d within) in
     record {
       legal = legal';
-      answered = λ k d within.
-          answered-in fixed first.history last.history (get_or calls k d) legal legal' (one.answered k d within)
-          (one.begins k d within) (one.prefixes k d within) (one.accepted k d within);
+      answered = answered;
+      once = λ i j d earlier within.
+          others fixed first.history last.history (get_or calls i d) (get_or calls j d) legal'
+          (answered i d (omega arith)) (answered j d within) (one.once i j d earlier within);
       own = each-added more one.later calls records
           (All-append_right first.history more (subst (λ (l : List Entry). All IsInRange l) grown whole)) ranges
           one.entries;

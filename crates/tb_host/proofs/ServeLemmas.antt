@@ -100,8 +100,8 @@ module _ {D C G K : Type 0} (disk : D → DiskState) (clock : C → ClockState) 
       ∙ ap (λ (m : Option (List ℕ)). fixed_code operator (is_some old.past) old.faults m) moment))
 
   -- Where the desk was opened and its room's gates were served, links were served.
-  pub Serves-room : (operator : List ℕ) (moments : ClockState) (ended : Ending)
-      (old mid new : Handed G) (room : Room D C)
+  pub Serves-room : (operator : List ℕ) (moments : ClockState) (ended : Ending) (old mid new : Handed G)
+      (room : Room D C)
       → IsOpenedFrom disk clock operator moments old.disk room
       → mid.disk ≡ disk room.desk.disk
       → mid.gates ≡ old.gates
@@ -163,12 +163,12 @@ module _ {D C G K : Type 0} (disk : D → DiskState) (clock : C → ClockState) 
         grown = raw.grown;
         entries = raw.entries;
         doubted = raw.doubted;
-        answered = subst (λ (f : List ℕ). All
-            (λ (m : Made). Rattle.tb_session.specs.Codes.IsAnswered f m.history m.called m.before m.after)
-            (calls_of_gates done.all.runs)) fixed raw.answered;
+        answered = subst (λ (f : List ℕ). All (λ (m : Made). Rattle.tb_session.specs.Codes.IsAnswered f m.history
+            m.called m.before m.after) (calls_of_gates done.all.runs)) fixed raw.answered;
         begins = raw.begins;
         prefixes = raw.prefixes;
         accepted = raw.accepted;
+        once = raw.once;
         counts = raw.counts;
       }
 
@@ -226,8 +226,8 @@ module _ {D C G K : Type 0} (disk : D → DiskState) (clock : C → ClockState) 
       never fault.OutOfMemory were = were
 
   -- Where the desk was opened, the command ends as its room does.
-  pub ServeEnds-room : (operator : List ℕ) (moments : ClockState) (ended : Ending)
-      (old mid new : Handed G) (room : Room D C)
+  pub ServeEnds-room : (operator : List ℕ) (moments : ClockState) (ended : Ending) (old mid new : Handed G)
+      (room : Room D C)
       → IsOpenedFrom disk clock operator moments old.disk room
       → mid.disk ≡ disk room.desk.disk
       → mid.gates ≡ old.gates

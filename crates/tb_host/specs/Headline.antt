@@ -50,11 +50,20 @@ pub record IsAnsweredIn (fixed : List ℕ) (first last : List Entry) (m : Made) 
 abbrev pub MayHaveAdded : Entry → Made → Type 0
 MayHaveAdded e m = (m.called.outcome ≡ outcome.Added e) ⊎ (m.called.outcome ≡ outcome.Doubted e)
 
+-- where both calls were accepted their entries aren't of one submitter under one number
+abbrev pub AddOthers : Made → Made → Type 0
+AddOthers m n = (e f : Entry)
+    → m.called.outcome ≡ outcome.Added e
+    → n.called.outcome ≡ outcome.Added f
+    → IsOther e f
+
 -- All calls are answered in one legal history, which has nothing past the first but these entries, each of such a call;
--- and so is what is in doubt.
+-- and so is what is in doubt. No two calls, of one gate or of two, are told of one entry that it was accepted, nor of
+-- two of one submitter under one number.
 pub record OneHistory (fixed : List ℕ) (first last : Standing) (more : List Entry) (calls : List Made) : Type 0 where
   pub legal : IsLegal last.history
   pub answered : All (IsAnsweredIn fixed first.history last.history) calls
+  pub once : AllPairs AddOthers calls
   pub own : All (λ e. Any (MayHaveAdded e) calls) more
   pub doubted : All (λ e. Any (MayHaveAdded e) calls) last.doubt
 
@@ -93,8 +102,8 @@ IsInTime a e = (named bidder : List ℕ) (rate : Option Rate) (amount : Dollars)
     → named ≡ a.auction
     → e.moment.seconds < (closing_for a rate).seconds
 
--- What is read of the auction is published. It is that of the rule (31 CFR 356.20 to 356.22, and the choices marked ours)
--- on the live bids, all of them accepted before closing; and these are the live bids to the last.
+-- What is read of the auction is published. It is that of the rule (31 CFR 356.20 to 356.22, and the choices marked
+-- ours) on the live bids, all of them accepted before closing; and these are the live bids to the last.
 pub record IsByTheRule (last history : List Entry) (caller : List ℕ) (asked : Query) (auction : List ℕ)
     (reading : Reading) : Type 0 where
   pub published : is_published history auction ≡ true

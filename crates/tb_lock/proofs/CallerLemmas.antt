@@ -1,14 +1,16 @@
 -- For callers: turns with one call, and with several.
-use Rattle.std.proofs.Common.{◌≡◌, ◌⊎◌, ℕ, ◌≤◌, List, [], ◌∷◌, ◌++◌, length, take, refl, sym, ap, ◌∙◌, subst, append_assoc}
+use Rattle.std.proofs.Common.{◌≡◌, ◌⊎◌, ℕ, ◌≤◌, List, [], ◌∷◌, ◌++◌, length, take, refl, sym, ap, ◌∙◌, subst, append_assoc, arith, length-append}
 use Rattle.std.specs.Prelude.{All}
 use Rattle.std.proofs.lemmas.List.{append-nil}
 use Rattle.std.proofs.lemmas.List.Elements.{All-nil, All-cons, All-append, All-weaker}
 use Rattle.std.proofs.Math.Seq.{take-append_seam}
+use Rattle.tb_units.proofs.ListLemmas.{AllPairs-nil, AllPairs-one, AllPairs-append}
 use Rattle.tb_lock.specs.declared.view.Call.{Call}
 use Rattle.tb_lock.specs.declared.view.View.{View}
 use Rattle.tb_lock.specs.Meanings.{History, IsPrefix, Answer, accepted, repeated, faulted, entryless, Meanings}
-use Rattle.tb_lock.specs.Calls.{added_if, accepted_of, calls_on, entry_of, Stands}
+use Rattle.tb_lock.specs.Calls.{added_if, accepted_of, calls_on, AreApart, IsOnce, entry_of, Stands}
 use Rattle.tb_lock.specs.Turns.{IsTimed, Adds, Doubts, calls_of, MayGive}
+use Rattle.tb_lock.proofs.PrefixLemmas.{prefix-length}
 
 -- as many first entries as a beginning has are that beginning
 pub take-prefix : (n : ℕ) (first whole : History) → IsPrefix first whole → n ≡ length first → take n whole ≡ first
@@ -69,6 +71,7 @@ module _ {T : Type 0} (m : Meanings T) (v : View) (value : T) where
       let begin = λ (d : Call). IsPrefix v.seen d.prefix in record {
         stand = All-cons stand c [] stands (All-nil stand);
         begin = All-cons begin c [] begins (All-nil begin);
+        once = AllPairs-one (AreApart m) c;
         timed = All-cons (IsTimed m v value) c [] timed (All-nil (IsTimed m v value));
         fixed = fixed;
         faults = faults;
@@ -103,6 +106,7 @@ module _ {T : Type 0} (m : Meanings T) (v : View) (settled : History) where
   pub record AreMade (calls : List Call) (history : History) : Type 0 where
     pub stand : All (Stands m v.fixed history) calls
     pub begin : All (λ (c : Call). IsPrefix v.seen c.prefix) calls
+    pub once : IsOnce m calls
     pub grown : history ≡ settled ++ accepted_of m v.fixed calls
 
   -- before the first call it is the settled one
@@ -110,6 +114,7 @@ module _ {T : Type 0} (m : Meanings T) (v : View) (settled : History) where
   made-none = record {
     stand = All-nil (Stands m v.fixed settled);
     begin = All-nil (λ (c : Call). IsPrefix v.seen c.prefix);
+    once = AllPairs-nil (AreApart m);
     grown = sym (append-nil settled);
   }
 
@@ -138,6 +143,12 @@ module _ {T : Type 0} (m : Meanings T) (v : View) (settled : History) where
     );
   }
 
+  -- a call is accepted behind more entries than those that stand in its prefix
+  apart-later : (c d : Call) → Stands m v.fixed d.prefix c → AreApart m c d
+  apart-later c d stands first second same =
+      let within = prefix-length (c.prefix ++ entry_of m v.fixed c ∷ []) d.prefix (stands.entry first) in
+      absurd (omega (arith, length-append c.prefix (entry_of m v.fixed c ∷ [])))
+
   -- a call more, answered on the history so far
   pub made-more : (calls : List Call) (history : History) (c : Call)
       → AreMade calls history
@@ -155,11 +166,17 @@ module _ {T : Type 0} (m : Meanings T) (v : View) (settled : History) where
       subst (λ (first : History). All (Stands m v.fixed (first ++ added)) calls) (sym on)
       (All-weaker (Stands m v.fixed history) (Stands m v.fixed (history ++ added))
       (stands-longer history added) calls made.stand) in
+      let apart : All (λ d. All (AreApart m d) (c ∷ [])) calls =
+      All-weaker (Stands m v.fixed history) (λ d. All (AreApart m d) (c ∷ []))
+      (λ d stands. All-cons (AreApart m d) c []
+      (apart-later d c (subst (λ (l : History). Stands m v.fixed l d) (sym on) stands)) (All-nil (AreApart m d)))
+      calls made.stand in
       let seen : IsPrefix v.seen c.prefix =
       subst (λ (l : History). IsPrefix v.seen l) (sym (on ∙ made.grown))
       (prefix-longer v.seen settled (accepted_of m v.fixed calls) begins) in record {
         stand = All-append stand calls (c ∷ []) before (All-cons stand c [] (stands-last c answered) (All-nil stand));
         begin = All-append begin calls (c ∷ []) made.begin (All-cons begin c [] seen (All-nil begin));
+        once = AllPairs-append (AreApart m) calls (c ∷ []) made.once (AllPairs-one (AreApart m) c) apart;
         grown = ap (λ (l : History). l ++ added) (on ∙ made.grown)
             ∙ (append_assoc settled (accepted_of m v.fixed calls) added
             ∙ ap (λ (l : History). settled ++ l) (sym (accepted_of-append m v.fixed calls (c ∷ []))));
@@ -183,6 +200,7 @@ module _ {T : Type 0} (m : Meanings T) (v : View) (settled : History) where
   many-calls calls value made ends = record {
     stand = made.stand;
     begin = made.begin;
+    once = made.once;
     timed = ends.timed;
     fixed = ends.fixed;
     faults = ends.faults;

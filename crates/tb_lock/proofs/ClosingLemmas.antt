@@ -18,6 +18,7 @@ use Rattle.tb_lock.specs.Turns.{HasOnlyOwn, Closes, AreOut}
 use Rattle.tb_lock.specs.Closing.{IsLeft}
 use Rattle.tb_lock.proofs.ViewLemmas.{first-only, holding-taken, same-view, total-at, tickets-of_ticket, ticket-of_turn, turn-of_taken}
 use Rattle.tb_lock.proofs.ShareLemmas.{few-tickets, most-tickets, same-turn, whole-share_idle, whole-share_others}
+use Rattle.tb_lock.proofs.OnceLemmas.{view-once}
 use Rattle.tb_lock.proofs.PrefixLemmas.{prefix-self, prefix-trans, any-none}
 use Rattle.tb_lock.proofs.KeptLemmas.{home-value}
 
@@ -70,6 +71,7 @@ starts m x no_doubt =
       };
       answered = first-only (λ (u : View). All (Stands m (m.fixed x) (m.history x)) u.mine) first
           (All-nil (Stands m (m.fixed x) (m.history x)));
+      once = λ n. omega arith;
       made = record {
         later = [];
         history = sym (append-nil (m.history x));
@@ -257,6 +259,7 @@ module _ {T : Type 0} (m : Meanings T) (id : ℕ) (last : View) (ticket serving 
           has_opening = subst (λ (y : History × History). IsPrefix y.0 y.1) (λ i. (sym has.same i, sym history i))
               (prefix-trans rule.opening last.seen rule.counted has.has_opening has.begins);
           stand = stand;
+          once = view-once m left.final.0.views id last rule.once at;
           repeats = All-weaker (Stands m last.fixed (m.history value))
               (λ c. m.answer c.code ≡ repeated → Contains c.prefix (entry_of m last.fixed c))
               (λ c h is. law last.fixed c.prefix c.code c.faults_before c.faults_after h.answered is) last.mine stand;

@@ -18,6 +18,7 @@ use Rattle.tb_lock.proofs.QueueLemmas.{queue-same}
 use Rattle.tb_lock.proofs.ShareLemmas.{live-by_ticket, shares-same}
 use Rattle.tb_lock.proofs.KeptLemmas.{kept-same, kept-back, turn-once}
 use Rattle.tb_lock.proofs.EntryLemmas.{all-longer, answered-set, answered-longer, entries-set, entries-back}
+use Rattle.tb_lock.proofs.OnceLemmas.{once-set, once-back}
 use Rattle.tb_lock.proofs.SeenLemmas.{count-same, count-back, seen-same, seen-longer}
 use Rattle.tb_lock.proofs.FaultLemmas.{faults-raised, faults-back}
 
@@ -108,6 +109,7 @@ module _ {T : Type 0} (m : Meanings T) where
         count = count-same m r.counted s.homes s.views id v w r.count at (λ _ _. r.count.taken id n v at took);
         seen = seen-same r.opening r.counted s.views id v w r.seen at live live refl refl;
         answered = answered-set m r.fixed r.counted s.views id w r.answered (r.answered id v at);
+        once = once-set m s.views id v w r.once at refl;
         made = entries-set m r.fixed r.opening r.counted s.homes s.views id v w r.made at live refl
             (λ _ _. r.made.taken id n v at took);
         failed = faults-raised m r.opening_faults r.faults s.homes s.views id n more v w r.failed at live away holds
@@ -181,6 +183,8 @@ module _ {T : Type 0} (m : Meanings T) where
             (All-append (Stands m r.fixed (m.history x)) me.0.mine calls
             (all-longer m r.fixed r.counted (m.history x) grows me.0.mine (r.answered id me.0 at))
             (subst (λ (l : List ℕ). All (Stands m l (m.history x)) calls) same may.stand));
+        once = once-back m r.fixed r.counted s.views id me.0 w calls r.once r.answered at refl
+            (subst (λ (l : History). All (λ c. IsPrefix l c.prefix) calls) seen may.begin) may.once;
         made = entries-back m r.fixed r.opening r.counted s.homes s.views id me.0 w x calls group r.made at live refl
             (r.made.taken id n me.0 at took) free may.adds.resolved
             (subst (λ (l : List ℕ). m.history x ≡ r.counted ++ (group ++ accepted_of m l calls)) same history)
@@ -234,6 +238,7 @@ module _ {T : Type 0} (m : Meanings T) where
       record {
         stand = may.stand;
         begin = may.begin;
+        once = may.once;
         timed = may.timed;
         fixed = may.fixed;
         faults = may.faults;

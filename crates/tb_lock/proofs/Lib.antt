@@ -4,6 +4,7 @@ pub mod EntryLemmas
 pub mod FaultLemmas
 pub mod GiveLemmas
 pub mod KeptLemmas
+pub mod OnceLemmas
 pub mod PrefixLemmas
 pub mod QueueLemmas
 pub mod SeatLemmas

@@ -15,6 +15,7 @@ use Rattle.tb_lock.proofs.QueueLemmas.{queue-same, queue-more}
 use Rattle.tb_lock.proofs.ShareLemmas.{shares-split, shares-joined}
 use Rattle.tb_lock.proofs.KeptLemmas.{kept-same, kept-more, kept-spent, some-snoc}
 use Rattle.tb_lock.proofs.EntryLemmas.{answered-set, answered-more, made-joined, entries-same, entries-set}
+use Rattle.tb_lock.proofs.OnceLemmas.{once-set, once-more, once-joined}
 use Rattle.tb_lock.proofs.SeenLemmas.{count-same, count-more, seen-same, seen-more, seen-joined}
 use Rattle.tb_lock.proofs.FaultLemmas.{faults-free, faults-more}
 
@@ -54,6 +55,7 @@ module _ {T : Type 0} (m : Meanings T) where
             record { begins = h.begins; has_opening = h.has_opening; same = h.same });
         answered = answered-more m r.fixed r.counted (set s.views id left) right
             (answered-set m r.fixed r.counted s.views id left r.answered (r.answered id v at)) refl;
+        once = once-more m (set s.views id left) right (once-set m s.views id v left r.once at refl) refl;
         made = entries-same m r.fixed r.opening r.counted s.homes (set s.views id left)
             (set s.views id left ++ right ∷ [])
             (entries-set m r.fixed r.opening r.counted s.homes s.views id v left r.made at live_left refl
@@ -101,6 +103,7 @@ module _ {T : Type 0} (m : Meanings T) where
             (answered-set m r.fixed r.counted s.views id both r.answered
             (All-append (Stands m r.fixed r.counted) v.mine w.mine (r.answered id v at) (r.answered other w was)))
             (All-nil (Stands m r.fixed r.counted));
+        once = once-joined m s.views id v other w r.once at there;
         made = entries-same m r.fixed r.opening r.counted s.homes s.views (set (set s.views id both) other spent) r.made
             (made-joined m r.fixed s.views id v other w at was apart live)
             (λ j n. each-set (λ _ u. HasTaken n u.stage → All (IsMade m r.fixed s.views) u.doubt)

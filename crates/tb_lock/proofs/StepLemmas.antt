@@ -19,6 +19,7 @@ use Rattle.tb_lock.proofs.QueueLemmas.{queue-same, queue-drawn, queue-passed}
 use Rattle.tb_lock.proofs.ShareLemmas.{live-by_ticket, same-turn, shares-same}
 use Rattle.tb_lock.proofs.KeptLemmas.{kept-same, kept-passed, home-in_turn}
 use Rattle.tb_lock.proofs.EntryLemmas.{answered-set, entries-set}
+use Rattle.tb_lock.proofs.OnceLemmas.{once-set}
 use Rattle.tb_lock.proofs.SeenLemmas.{count-same, seen-same}
 use Rattle.tb_lock.proofs.FaultLemmas.{faults-free}
 
@@ -58,6 +59,7 @@ stepped-view m s r id v w at live live' seen mine opening least free drawn serve
   seen = seen-same r.opening r.counted s.views id v w r.seen at live live' seen opening;
   answered = answered-set m r.fixed r.counted s.views id w r.answered
       (subst (λ (l : List Call). All (Stands m r.fixed r.counted) l) (sym mine) (r.answered id v at));
+  once = once-set m s.views id v w r.once at mine;
   made = entries-set m r.fixed r.opening r.counted s.homes s.views id v w r.made at live' mine
       (λ n has. absurd (free n has));
   failed = faults-free m r.opening_faults r.faults s.homes s.views id w r.failed free

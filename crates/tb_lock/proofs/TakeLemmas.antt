@@ -18,6 +18,7 @@ use Rattle.tb_lock.proofs.QueueLemmas.{queue-same}
 use Rattle.tb_lock.proofs.ShareLemmas.{live-by_ticket, shares-same}
 use Rattle.tb_lock.proofs.KeptLemmas.{kept-taken, home-in_turn}
 use Rattle.tb_lock.proofs.EntryLemmas.{answered-set, entries-away}
+use Rattle.tb_lock.proofs.OnceLemmas.{view-once, once-set}
 use Rattle.tb_lock.proofs.SeenLemmas.{count-away, seen-taken}
 use Rattle.tb_lock.proofs.FaultLemmas.{faults-away}
 
@@ -62,6 +63,7 @@ module _ {T : Type 0} (m : Meanings T) where
         count = count-away m r.counted s.homes s.views id me.0 w r.count at seen;
         seen = seen-taken r.opening r.counted s.views id me.0 w r.seen at live live seen refl;
         answered = answered-set m r.fixed r.counted s.views id w r.answered (r.answered id me.0 at);
+        once = once-set m s.views id me.0 w r.once at refl;
         made = entries-away m r.fixed r.opening r.counted s.homes s.views id me.0 w r.made at live refl
             (r.made.value x home);
         failed = faults-away m r.opening_faults r.faults s.homes s.views id me.0 w r.failed at live failed failed refl
@@ -90,6 +92,7 @@ module _ {T : Type 0} (m : Meanings T) where
             (prefix-trans r.opening me.0.seen r.counted has.has_opening has.begins);
         stand = subst (λ (y : History × List ℕ). All (Stands m y.1 y.0) me.0.mine) (λ i. (sym seen i, sym same i))
             (r.answered id me.0 at);
+        once = view-once m s.views id me.0 r.once at;
         counts = subst (λ (y : ℕ × ℕ). All (IsBetween y.0 y.1) me.0.mine) (λ i. (sym opened i, sym failed i))
             (r.failed.calls id me.0 at);
         least = omega arith;

@@ -1,5 +1,5 @@
 -- Calls, and the entries that they make.
-use Rattle.std.specs.Prelude.{◌≡◌, ℕ, List, [], ◌∷◌, ◌++◌, ◌≤◌, take}
+use Rattle.std.specs.Prelude.{◌≡◌, ◌≢◌, ℕ, List, [], ◌∷◌, ◌++◌, ◌+◌, ◌≤◌, length, take, nat_eq, if◌then◌else◌, AllPairs}
 use Rattle.tb_lock.specs.declared.view.Call.{Call}
 use Rattle.tb_lock.specs.Meanings.{History, IsPrefix, Answer, accepted, repeated, faulted, entryless, Meanings}
 
@@ -30,6 +30,27 @@ pub record IsBetween (low high : ℕ) (c : Call) : Type 0 where
   pub least : low ≤ c.faults_before
   pub rising : c.faults_before ≤ c.faults_after
   pub most : c.faults_after ≤ high
+
+-- one, where a call so answered behind so many entries has its entry at place n of the history
+abbrev pub one_at : ℕ → Answer → ℕ → ℕ
+one_at n accepted place = if nat_eq place n then 1 else 0
+one_at n repeated place = 0
+one_at n faulted place = 0
+one_at n entryless place = 0
+
+module _ {T : Type 0} (m : Meanings T) where
+  -- how many of the calls were accepted behind exactly n entries
+  abbrev pub accepted_at : ℕ → List Call → ℕ
+  accepted_at n [] = 0
+  accepted_at n (c ∷ cs) = one_at n (m.answer c.code) (length c.prefix) + accepted_at n cs
+
+  -- the two calls weren't both accepted behind equally many entries
+  abbrev pub AreApart : Call → Call → Type 0
+  AreApart c d = m.answer c.code ≡ accepted → m.answer d.code ≡ accepted → length c.prefix ≢ length d.prefix
+
+  -- no entry of a history is told to two of the calls as accepted
+  abbrev pub IsOnce : List Call → Type 0
+  IsOnce calls = AllPairs AreApart calls
 
 module _ {T : Type 0} (m : Meanings T) (fixed : List ℕ) where
   abbrev pub entry_of : Call → List ℕ

@@ -5,7 +5,7 @@ use Rattle.atomic_table.specs.Table.{State}
 use Rattle.tb_lock.specs.declared.view.View.{View}
 use Rattle.tb_lock.specs.declared.view.Stage.TheVariants.{Holding}
 use Rattle.tb_lock.specs.Meanings.{History, IsPrefix, Meanings}
-use Rattle.tb_lock.specs.Calls.{IsBetween, Stands, Makes}
+use Rattle.tb_lock.specs.Calls.{IsBetween, Stands, Makes, accepted_at}
 use Rattle.tb_lock.specs.Views.{IsLive, spent, IsView, EachView, SomeView, total, share_of, tickets_of, HasTicket, HasTurn, HasTaken}
 
 -- Tickets. As many views have one as were drawn and not yet served. Their numbers are the one served now and those
@@ -63,6 +63,10 @@ pub record AreSeen (opening counted : History) (views : List View) : Type 0 wher
 abbrev pub AreAnswered : {T : Type 0} → Meanings T → List ℕ → History → List View → Type 0
 AreAnswered m fixed counted views = EachView views (λ v. All (Stands m fixed counted) v.mine)
 
+-- Places. At each place of the history at most one of all calls was accepted.
+abbrev pub AreOnce : {T : Type 0} → Meanings T → List View → Type 0
+AreOnce m views = (n : ℕ) → total (λ v. accepted_at m n v.mine) views ≤ 1
+
 -- the entry is that of a call of some live view, which was accepted or met a fault
 abbrev pub IsMade : {T : Type 0} → Meanings T → List ℕ → List View → List ℕ → Type 0
 IsMade m fixed views entry = SomeView views (λ v. IsLive v × Any (Makes m fixed entry) v.mine)
@@ -116,5 +120,6 @@ pub record Rule {T : Type 0} (m : Meanings T) (s : State (Option T) View) : Type
   pub count : IsCounted m counted s.homes s.views
   pub seen : AreSeen opening counted s.views
   pub answered : AreAnswered m fixed counted s.views
+  pub once : AreOnce m s.views
   pub made : AreMade m fixed opening counted s.homes s.views
   pub failed : AreFaults m opening_faults faults s.homes s.views

@@ -5,7 +5,7 @@ use Rattle.tb_lock.specs.declared.view.Call.{Call}
 use Rattle.tb_lock.specs.declared.view.View.{View}
 use Rattle.tb_lock.specs.declared.view.Stage.TheVariants.{Idle, Waiting, Come, Holding, Raised}
 use Rattle.tb_lock.specs.Meanings.{IsPrefix, Meanings}
-use Rattle.tb_lock.specs.Calls.{IsBetween, Stands}
+use Rattle.tb_lock.specs.Calls.{IsBetween, IsOnce, Stands}
 use Rattle.tb_lock.specs.Views.{at_stage, raised}
 use Rattle.tb_lock.specs.Turns.{taken, counted, HaveCounts, MayGive}
 
@@ -36,6 +36,7 @@ module _ {T : Type 0} (m : Meanings T) where
     pub begins : IsPrefix me.0.seen (m.history value)
     pub has_opening : IsPrefix me.0.opening (m.history value)
     pub stand : All (Stands m me.0.fixed (m.history value)) me.0.mine
+    pub once : IsOnce m me.0.mine
     pub counts : All (IsBetween me.0.opening_faults (m.faults value)) me.0.mine
     pub least : me.0.opening_faults ≤ m.faults value
 

@@ -5,7 +5,7 @@ use Rattle.tb_lock.specs.declared.view.View.{View}
 use Rattle.tb_lock.specs.declared.view.Stage.TheVariants.{Idle, Holding, Counted}
 use Rattle.tb_lock.specs.Meanings.{History, IsPrefix, repeated, Meanings}
 use Rattle.tb_lock.specs.Views.{at_stage}
-use Rattle.tb_lock.specs.Calls.{IsBetween, calls_on, entry_of, Stands, Makes, Leaves, accepted_of}
+use Rattle.tb_lock.specs.Calls.{IsBetween, calls_on, entry_of, IsOnce, Stands, Makes, Leaves, accepted_of}
 
 -- a clock whose readings were counted before and after was read in between: the number rose, or stands at its last
 -- value
@@ -44,6 +44,8 @@ module _ {T : Type 0} (m : Meanings T) where
     pub has_opening : IsPrefix before.opening (m.history value)
     -- and with the prefix of each call of the pass, and that call's entry where it was accepted
     pub stand : All (Stands m before.fixed (m.history value)) before.mine
+    -- and no entry was told to two of them as accepted
+    pub once : IsOnce m before.mine
     -- the counts of faults of these calls are at least the opening's and at most the value's
     pub counts : All (IsBetween before.opening_faults (m.faults value)) before.mine
     pub least : before.opening_faults ≤ m.faults value
@@ -74,11 +76,12 @@ module _ {T : Type 0} (m : Meanings T) where
   HaveCounts v value calls = All (λ c. (c.faults_before ≡ v.faults_taken) × (c.faults_after ≡ m.faults value)) calls
 
   -- What a turn with these calls has to show at its end. Each was answered on a beginning of the value's history, which
-  -- itself begins with the history taken, and its entry follows there where it was accepted. The fixed part is as it
-  -- was taken, and the count of faults is not less.
+  -- itself begins with the history taken, and its entry follows there where it was accepted. No entry is told to two of
+  -- them as accepted. The fixed part is as it was taken, and the count of faults is not less.
   pub record MayGive (v : View) (calls : List Call) (value : T) : Type 0 where
     pub stand : All (Stands m v.fixed (m.history value)) calls
     pub begin : All (λ c. IsPrefix v.seen c.prefix) calls
+    pub once : IsOnce m calls
     pub timed : All (IsTimed v value) calls
     pub fixed : m.fixed value ≡ v.fixed
     pub faults : v.faults_taken ≤ m.faults value
@@ -117,6 +120,8 @@ module _ {T : Type 0} (m : Meanings T) where
     pub has_opening : IsPrefix last.opening (m.history value)
     -- and with the prefix of each of its calls, and that call's entry where it was accepted
     pub stand : All (Stands m last.fixed (m.history value)) last.mine
+    -- and no entry was told to two of them as accepted
+    pub once : IsOnce m last.mine
     -- the entry of a repeat stands in that call's prefix
     pub repeats : All (λ c. m.answer c.code ≡ repeated → Contains c.prefix (entry_of m last.fixed c)) last.mine
     -- the counts of faults of these calls are at least the opening's and at most the value's

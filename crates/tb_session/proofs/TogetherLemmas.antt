@@ -2,7 +2,9 @@
 use Rattle.std.proofs.Common.{◌≡◌, ℕ, zero, suc, ◌-◌, ◌≤◌, ◌<◌, get_or, List, [], ◌∷◌, ◌++◌, length, map, Option, refl, sym, ap, ◌∙◌, subst, inl, inr, ⊎_elim, arith, append_assoc, length-append}
 use Rattle.std.specs.Prelude.{All, Any}
 use Rattle.std.proofs.lemmas.List.{append-nil, length-map}
-use Rattle.std.proofs.lemmas.List.Elements.{All-nil, All-cons, All-head, All-tail}
+use Rattle.std.proofs.lemmas.List.Elements.{All-nil, All-cons, All-head, All-tail, All-weaker}
+use Rattle.std.proofs.lemmas.List.Kept.{AllPairs-cons}
+use Rattle.tb_units.proofs.ListLemmas.{AllPairs-nil}
 use Rattle.tb_disk.specs.Disks.{DiskState}
 use Rattle.tb_gates.specs.Clocks.{ClockState}
 use Rattle.tb_desk.specs.Desks.{held}
@@ -10,11 +12,11 @@ use Rattle.tb_message.specs.declared.message.Entry.{Entry}
 use Rattle.tb_message.specs.Spelling.{spelling}
 use Rattle.tb_lock.specs.declared.view.Call.{Call}
 use Rattle.tb_lock.specs.declared.view.View.{View}
-use Rattle.tb_lock.specs.Meanings.{History, IsPrefix}
-use Rattle.tb_lock.specs.Calls.{Stands, Leaves, added_if, accepted_of, calls_on}
+use Rattle.tb_lock.specs.Meanings.{History, IsPrefix, Answer as Kind}
+use Rattle.tb_lock.specs.Calls.{AreApart, IsOnce, Stands, Leaves, added_if, accepted_of, calls_on}
 use Rattle.tb_lock.specs.Turns.{IsReadBetween, IsTaken, IsTimed, Adds, Doubts, MayGive, calls_of, given}
 use Rattle.tb_lock.proofs.CallerLemmas.{take-prefix}
-use Rattle.tb_lock.proofs.PrefixLemmas.{prefix-self, prefix-trans, any-first, any-later}
+use Rattle.tb_lock.proofs.PrefixLemmas.{prefix-self, prefix-trans, prefix-length, any-first, any-later}
 use Rattle.tb_session.specs.declared.called.Outcome.{Outcome}
 use Rattle.tb_session.specs.declared.called.Outcome.TheVariants as outcome
 use Rattle.tb_session.specs.declared.room.Room.{Room}
@@ -78,7 +80,7 @@ all-beside call (r ∷ replied) at low high before after begins =
     (prefix-trans (left_by call) (spelled_all at) (spelled_all (at ++ added_by r.called.outcome)) begins
     (spelled-begins at (added_by r.called.outcome) _ refl)))
 
--- the calls of a group stand beside each other: each has what those before it left, and the same counts
+-- so the calls are those of one turn, in order
 pub are-beside : (replied : List Replied) (at : List Entry) (low high : ℕ)
     → AreBeside (map call_of (made_from at low high replied))
 are-beside [] at low high = tt
@@ -89,6 +91,24 @@ are-beside (r ∷ replied) at low high =
           (sym (left-is r at low high)) (prefix-self (spelled_all (at ++ added_by r.called.outcome)))),
       are-beside replied (at ++ added_by r.called.outcome) low high,
     )
+
+module _ {D C : Type 0} (disk : D → DiskState) (clock : C → ClockState) where
+  -- a call stands on what an earlier call of its turn left, which is longer where that was accepted
+  beside-apart : (earlier later : Call) → StandsBeside earlier later → AreApart (room_means disk clock) earlier later
+  beside-apart earlier later stands first second same =
+      let entry = entry_in earlier.code in
+      let left : left_by earlier ≡ earlier.prefix ++ entry ∷ [] =
+      ap (λ (k : Kind). earlier.prefix ++ added_if k entry []) first in
+      let longer = prefix-length (left_by earlier) later.prefix stands.history in
+      absurd (omega (arith, ap (λ (l : History). length l) left, length-append earlier.prefix (entry ∷ [])))
+
+  -- so the calls of a turn are told no entry twice
+  beside-once : (calls : List Call) → AreBeside calls → IsOnce (room_means disk clock) calls
+  beside-once [] beside = AllPairs-nil (AreApart (room_means disk clock))
+  beside-once (call ∷ calls) beside =
+      AllPairs-cons (AreApart (room_means disk clock)) call calls
+      (All-weaker (StandsBeside call) (AreApart (room_means disk clock) call) (beside-apart call) calls beside.0)
+      (beside-once calls beside.1)
 
 -- there are as many
 pub made-length : (replied : List Replied) (at : List Entry) (low high : ℕ)
@@ -102,12 +122,15 @@ module _ {D C : Type 0} (disk : D → DiskState) (clock : C → ClockState) (v0 
     (does : DoTogether old.operator (held old.desk) (held new.desk) old.desk.faults new.desk.faults replied)
     (same : SameHouse disk clock old new) (moments : (clock new.clock).moments ≡ (clock old.clock).moments)
     (reads : All (λ r. Reads r.called.moment (clock old.clock) (clock new.clock)) replied) where
+  -- the history at the end
   abbrev last : History
   last = spelled_all new.desk.host.history
 
+  -- the calls as they were made
   abbrev made : List Made
   made = made_from does.at v.faults_taken new.desk.faults replied
 
+  -- and as the lock keeps them
   abbrev calls : List Call
   calls = map call_of made
 
@@ -115,6 +138,7 @@ module _ {D C : Type 0} (disk : D → DiskState) (clock : C → ClockState) (v0 
   fixed_old : fixed_of disk clock old ≡ v.fixed
   fixed_old = taken.fixed ∙ sym taken.same_fixed
 
+  -- also at the end
   fixed_same : fixed_of disk clock new ≡ v.fixed
   fixed_same =
       ap (λ (name : List ℕ). lock_code name (disk new.desk.opened) new.desk.recovered (clock new.clock).moments)
@@ -127,9 +151,11 @@ module _ {D C : Type 0} (disk : D → DiskState) (clock : C → ClockState) (v0 
 
   -- one call, on the history on which it was answered
   module _ (r : Replied) (at : List Entry) where
+    -- as it was made
     abbrev one : Made
     one = record { called = r.called; history = at; before = v.faults_taken; after = new.desk.faults }
 
+    -- it was answered there
     one_answered : IsReplied old.operator at old.desk.faults new.desk.faults r
         → Reads r.called.moment (clock old.clock) (clock new.clock)
         → IsAnswered v.fixed at r.called v.faults_taken new.desk.faults
@@ -149,6 +175,7 @@ module _ {D C : Type 0} (disk : D → DiskState) (clock : C → ClockState) (v0 
         (subst (λ (n : ℕ). IsAnswered (fixed_of disk clock old) at r.called n new.desk.faults) (sym taken.faults_taken)
         out)
 
+    -- it stands in the history at the end
     one_stands : IsReplied old.operator at old.desk.faults new.desk.faults r
         → Reads r.called.moment (clock old.clock) (clock new.clock)
         → IsPrefix (spelled_all (at ++ added_by r.called.outcome)) last
@@ -170,6 +197,7 @@ module _ {D C : Type 0} (disk : D → DiskState) (clock : C → ClockState) (v0 
           begins;
     }
 
+    -- it has the clock's reading of this turn
     one_timed : Reads r.called.moment (clock old.clock) (clock new.clock)
         → IsTimed (room_means disk clock) v new (call_of one)
     one_timed read seconds is =
@@ -195,6 +223,7 @@ module _ {D C : Type 0} (disk : D → DiskState) (clock : C → ClockState) (v0 
       (spelled-begins (at ++ added_by r.called.outcome) (added_in others) _ next))
       (all_stand others (at ++ added_by r.called.outcome) are.1 (All-tail Read r others read) next)
 
+  -- all of them were answered so
   all_answered : (others : List Replied) (at : List Entry)
       → AreReplied old.operator at old.desk.faults new.desk.faults others
       → All (λ r. Reads r.called.moment (clock old.clock) (clock new.clock)) others
@@ -207,6 +236,7 @@ module _ {D C : Type 0} (disk : D → DiskState) (clock : C → ClockState) (v0 
       (one_answered r at are.0 (All-head Read r others read))
       (all_answered others (at ++ added_by r.called.outcome) are.1 (All-tail Read r others read))
 
+  -- and have that reading
   all_timed : (others : List Replied) (at : List Entry)
       → All (λ r. Reads r.called.moment (clock old.clock) (clock new.clock)) others
       → All (IsTimed (room_means disk clock) v new) (map call_of (made_from at v.faults_taken new.desk.faults others))
@@ -260,15 +290,18 @@ module _ {D C : Type 0} (disk : D → DiskState) (clock : C → ClockState) (v0 
       (spelled-begins at (added_in (r ∷ others)) new.desk.host.history is) (counted ∙ sym (length-map at spelling)))
       ∙ ap (λ (l : List Call). call_of (one r at) ∷ l) (all_told others (at ++ added_by r.called.outcome) next)
 
+  -- what the pass shows is the history taken
   seen_old : v.seen ≡ spelled_all old.desk.host.history
   seen_old = taken.seen
 
+  -- which begins the one on which the calls were answered
   seen_at : IsPrefix v.seen (spelled_all does.at)
   seen_at =
       subst (λ (l : History). IsPrefix l (spelled_all does.at)) (sym seen_old)
       (⊎_elim (λ is. spelled-begins _ [] _ (is ∙ sym (append-nil _))) (λ is. spelled-begins _ old.desk.doubt _ is)
       does.settled)
 
+  -- so does what begins that one, for each call
   all_seen : (first : History) → IsPrefix first (spelled_all does.at)
       → All (λ (c : Call). IsPrefix first c.prefix) calls
   all_seen first begins =
@@ -281,12 +314,14 @@ module _ {D C : Type 0} (disk : D → DiskState) (clock : C → ClockState) (v0 
           All-cons P (call_of m) (map call_of ms) (All-head (λ (x : Made). P (call_of x)) m ms all)
           (All-mapped P ms (All-tail (λ (x : Made). P (call_of x)) m ms all))
 
+  -- the history at the end has the entries of those that were accepted
   new_is : last ≡ spelled_all does.at ++ accepted_of (room_means disk clock) v.fixed calls
   new_is =
       ap (λ (l : List Entry). spelled_all l) does.grown
       ∙ (spelled-append does.at (added_in replied)
       ∙ ap (λ (l : History). spelled_all does.at ++ l) (sym (all_added replied does.at)))
 
+  -- so these are what the turn adds
   adds_them : Adds (room_means disk clock) v calls last
   adds_them = ⊎_elim
       (λ is. record {
@@ -333,6 +368,7 @@ module _ {D C : Type 0} (disk : D → DiskState) (clock : C → ClockState) (v0 
           any-later (Leaves (room_means disk clock) v.fixed (spelling e)) (call_of (one r at)) _
           (later (k, x, omega (arith, lt), is, left))
 
+  -- and so is each of a list
   leaves_all : (entries : List Entry) → All (λ e. Any (MayHaveLeft e) replied) entries
       → All (λ (e : List ℕ). Any (Leaves (room_means disk clock) v.fixed e) calls) (spelled_all entries)
   leaves_all [] all = All-nil (λ (e : List ℕ). Any (Leaves (room_means disk clock) v.fixed e) calls)
@@ -341,6 +377,7 @@ module _ {D C : Type 0} (disk : D → DiskState) (clock : C → ClockState) (v0 
       All-cons (λ (x : List ℕ). Any (Leaves (room_means disk clock) v.fixed x) calls) (spelling e) (spelled_all entries)
       (leaves_one e replied does.at (All-head Left e entries all)) (leaves_all entries (All-tail Left e entries all))
 
+  -- what is in doubt at the end is what a turn may leave in doubt
   doubts_them : Doubts (room_means disk clock) v calls last (spelled_all new.desk.doubt)
   doubts_them = ⊎_elim
       (λ none. inl (ap (λ (l : List Entry). spelled_all l) none))
@@ -353,13 +390,16 @@ module _ {D C : Type 0} (disk : D → DiskState) (clock : C → ClockState) (v0 
       some)
       does.doubt
 
+  -- the count of faults isn't less
   least : v.faults_taken ≤ new.desk.faults
   least = omega (arith, does.least, taken.faults_taken)
 
+  -- so the turn may end with these calls
   may_calls : MayGive (room_means disk clock) v calls new
   may_calls = record {
     stand = all_stand replied does.at does.answered reads does.grown;
     begin = all_seen v.seen seen_at;
+    once = beside-once disk clock calls (are-beside replied does.at v.faults_taken new.desk.faults);
     timed = all_timed replied does.at reads;
     fixed = fixed_same;
     faults = least;
@@ -367,6 +407,7 @@ module _ {D C : Type 0} (disk : D → DiskState) (clock : C → ClockState) (v0 
     doubts = doubts_them;
   }
 
+  -- which are those that are told
   told_is : calls_of (room_means disk clock) v new (told_back (length new.desk.host.history) replied) ≡ calls
   told_is = all_told replied does.at does.grown
 
@@ -375,11 +416,13 @@ module _ {D C : Type 0} (disk : D → DiskState) (clock : C → ClockState) (v0 
       (calls_of (room_means disk clock) v new (told_back (length new.desk.host.history) replied)) new
   may-together = subst (λ (l : List Call). MayGive (room_means disk clock) v l new) (sym told_is) may_calls
 
+  -- the history on which they were answered begins with what the pass had seen
   begin : IsPrefix v0.seen (spelled_all does.at)
   begin =
       prefix-trans v0.seen v.seen (spelled_all does.at)
       (subst (λ (l : History). IsPrefix v0.seen l) (sym seen_old) taken.begins) seen_at
 
+  -- and with the history taken
   old_at : IsPrefix (spelled_all old.desk.host.history) (spelled_all does.at)
   old_at = subst (λ (l : History). IsPrefix l (spelled_all does.at)) seen_old seen_at
 
@@ -395,6 +438,7 @@ module _ {D C : Type 0} (disk : D → DiskState) (clock : C → ClockState) (v0 
       (prefix-trans (left_by c) (spelled_all at) (spelled_all (at ++ added_by r.called.outcome)) begins
       (spelled-begins at (added_by r.called.outcome) _ refl)) most)
 
+  -- whichever call that is
   follows_all : All (λ c. All (Follows c) calls) v0.mine
   follows_all = λ k d lt.
       let c = get_or v0.mine k d in
@@ -404,6 +448,7 @@ module _ {D C : Type 0} (disk : D → DiskState) (clock : C → ClockState) (v0 
       (left-begins c (kind_in c.code) (entry_in c.code) (spelled_all old.desk.host.history) s.prefix s.entry) old_at)
       (let most = (taken.counts k d lt).most in omega (arith, most, taken.faults_taken))
 
+  -- so the pass gained them
   gains_calls : IsTurn made
       → Gains v0 (given (room_means disk clock) v calls new) made
   gains_calls turn = record {
@@ -436,6 +481,7 @@ module _ {D C : Type 0} (disk : D → DiskState) (clock : C → ClockState) (v0 
     may-nothing = record {
       stand = All-nil (Stands (room_means disk clock) v.fixed last);
       begin = All-nil (λ (c : Call). IsPrefix v.seen c.prefix);
+      once = AllPairs-nil (AreApart (room_means disk clock));
       timed = All-nil (IsTimed (room_means disk clock) v new);
       fixed = fixed_same;
       faults = least;

@@ -1,5 +1,5 @@
 -- A whole run: several gates over one room.
-use Rattle.std.specs.Prelude.{◌≡◌, ℕ, ◌+◌, ◌*◌, ◌^◌, ◌<◌, ◌≤◌, ◌⊎◌, ◌||◌, List, [], ◌∷◌, ◌++◌, map, flat_map, length, sum_by, Bool, true, false, IfSome, All, Any}
+use Rattle.std.specs.Prelude.{◌≡◌, ◌≢◌, ℕ, ◌+◌, ◌*◌, ◌^◌, ◌<◌, ◌≤◌, ◌⊎◌, ◌||◌, List, [], ◌∷◌, ◌++◌, map, flat_map, length, sum_by, Bool, true, false, IfSome, All, AllPairs, Any}
 use Rattle.std.specs.List.{list_any}
 use Rattle.tb_link.specs.Counts.{Rose}
 use Rattle.tb_link.specs.Sources.{SourceState}
@@ -39,7 +39,8 @@ links_of_gates runs = sum_by (λ run. length run.links) runs
 abbrev pub some_failed : {K : Type 0} → List (Run K) → Bool
 some_failed runs = list_any (λ run. run.failed) runs
 
-module _ {G K : Type 0} (gate : G → GateState K) (source : K → SourceState) (sink : K → SinkState) (fixed : List ℕ) where
+module _ {G K : Type 0} (gate : G → GateState K) (source : K → SourceState) (sink : K → SinkState) (fixed : List ℕ)
+    where
   -- A gate gave these links, each was served, and their calls are turns along which the histories grow and the counts
   -- rise. It gave all that it had, or failed, and its count of faults rose.
   pub record IsRun (old new : G) (run : Run K) : Type 0 where
@@ -60,8 +61,16 @@ abbrev pub MayHaveMade : List ℕ → Made → Type 0
 MayHaveMade entry m =
     (e : Entry) × ((m.called.outcome ≡ outcome.Added e) ⊎ (m.called.outcome ≡ outcome.Doubted e)) × (spelling e ≡ entry)
 
+-- the two calls weren't both accepted on histories of one length
+abbrev pub AreApart : Made → Made → Type 0
+AreApart m n = (e f : Entry)
+    → m.called.outcome ≡ outcome.Added e
+    → n.called.outcome ≡ outcome.Added f
+    → length m.history ≢ length n.history
+
 -- One history for all calls: it begins with the opening, and past that has only entries of these calls.
-pub record IsHistoryOf (fixed : List ℕ) (opening history doubt : History) (low high : ℕ) (calls : List Made) : Type 0 where
+pub record IsHistoryOf (fixed : List ℕ) (opening history doubt : History) (low high : ℕ) (calls : List Made)
+    : Type 0 where
   pub later : History
   pub grown : history ≡ opening ++ later
   pub entries : All (λ entry. Any (MayHaveMade entry) calls) later
@@ -73,7 +82,9 @@ pub record IsHistoryOf (fixed : List ℕ) (opening history doubt : History) (low
   -- behind which the entry stands of one that was accepted
   pub accepted : All (λ m. (e : Entry) → m.called.outcome ≡ outcome.Added e
       → IsPrefix (spelled_all m.history ++ spelling e ∷ []) history) calls
-  -- and its counts of faults lie between those at the opening and at the end
+  -- no two calls of whatever gates were accepted at one place of it
+  pub once : AllPairs AreApart calls
+  -- and the counts of faults of each lie between those at the opening and at the end
   pub counts : All (λ m. (low ≤ m.before) × (m.before ≤ m.after) × (m.after ≤ high)) calls
 
 module _ {D C G K : Type 0} (disk : D → DiskState) (clock : C → ClockState) (gate : G → GateState K)
@@ -135,7 +146,8 @@ module _ {D C G : Type 0} where
     pub same : SameLock v (view w.pass)
     pub unserved : w.served ≡ 0
 
-  -- So far these workers are hired, with a part of the share each, and what is left of it is enough for the other gates.
+  -- So far these workers are hired, with a part of the share each, and what is left of it is enough for the other
+  -- gates.
   pub record Hires (shared : TurnLock (Room D C)) (old new : View) (gates left : List G) (workers : List (Worker D C G))
       : Type 0 where
     pub in_order : map (λ (w : Worker D C G). w.gate) workers ++ left ≡ gates

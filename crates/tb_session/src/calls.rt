@@ -55,6 +55,7 @@ impl<D: Disk, C: Clock> Room<D, C> {
     pub fn read(&mut self, alloc: Global, key: &Key, query: &Query) -> Answer
         ensures calls { (c : Called) × (c.key ≡ key.now) × (c.ask ≡ ask.Query query.now)
             × Calls D.disk C.clock self.old self.new c result }
+        ensures same { self.new ≡ self.old }
         ensures unknown { TellsUnknown (caller_on self.old.operator self.old.desk.host.history key.now) result }
     {
         let Turn {

@@ -58,7 +58,9 @@ fn work_all<D: Disk + Send, C: Clock + Send, G: Gate + Send, R: Threads + Wait +
 )
     requires ready { All (IsReady shared.now) workers.old }
     requires few { All (λ w. w.served ≤ most_links) workers.old }
-    ensures worked { (i : ℕ) (d : _) → i < length workers.old → WorkedOn G.gate G.Conn.source G.Conn.sink shared.now (slice_index_or workers.old i d) (slice_index_or workers.new i d) }
+    ensures worked { (i : ℕ) (d : _) → i < length workers.old
+        → WorkedOn G.gate G.Conn.source G.Conn.sink shared.now
+        (slice_index_or workers.old i d) (slice_index_or workers.new i d) }
 {
     if workers.is_empty() {
         return;
@@ -131,7 +133,8 @@ fn turns<D: Disk + Send, C: Clock + Send, G: Gate + Send, R: Threads + Wait + Sy
     requires room { (workers.items ≡ []) × (vec_len gates.old ≤ vec_capacity workers) }
     ensures own { IsPassOf shared.now pass.new }
     ensures idle { IsIdle pass.new }
-    ensures turns { Turns G.gate G.Conn.source G.Conn.sink (view pass.old) (view pass.new) gates.old.items gates.new.items result.0 result.1 }
+    ensures turns { Turns G.gate G.Conn.source G.Conn.sink (view pass.old) (view pass.new) gates.old.items
+        gates.new.items result.0 result.1 }
 {
     hire(shared, pass, gates, &mut workers);
     work_all(rt, alloc, shared, workers.as_mut_slice());
@@ -147,8 +150,8 @@ pub struct Ended<D: Disk, C: Clock> {
     pub failed: bool,
 }
 
-/// Serves up to 64 gates over the room, each with a worker of its own, and gives the room and the gates back, the gates in
-/// their order. Want of memory is answered before the first link is taken.
+/// Serves up to 64 gates over the room, each with a worker of its own, and gives the room and the gates back, the gates
+/// in their order. Want of memory is answered before the first link is taken.
 pub fn serve_gates<
     D: Disk + Send + Drop,
     C: Clock + Send + Drop,
@@ -162,7 +165,8 @@ pub fn serve_gates<
 ) -> Result<Ended<D, C>, (Room<D, C>, OutOfMemory)>
     requires sure { room.desk.doubt ≡ [] }
     requires few { vec_len gates.old ≤ 64 }
-    ensures served { IfOk result (λ ended. ServesAll D.disk C.clock G.gate G.Conn.source G.Conn.sink room gates.old.items ended.room gates.new.items ended.served ended.accepted ended.failed) }
+    ensures served { IfOk result (λ ended. ServesAll D.disk C.clock G.gate G.Conn.source G.Conn.sink room
+        gates.old.items ended.room gates.new.items ended.served ended.accepted ended.failed) }
     ensures unserved { IfErr result (λ back. back.0 ≡ room) }
     ensures untouched { OnErr result (gates.new ≡ gates.old) }
 {
