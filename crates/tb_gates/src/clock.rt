@@ -7,7 +7,7 @@ use tb_units::Moment;
 
 /// Tells the moment. It always answers.
 pub trait Clock {
-    /// The last reading, how many readings there were, and the moments that it may give, where it tells them.
+    /// The last reading, how many readings there were, and the moments that it gives, in order, where it tells them.
     ghost clock: { Self → ClockState };
 
     /// Reads the clock.

@@ -15,6 +15,7 @@ pub struct ListClock {
     readings: u64,
     ghost few: { readings ≤ last_count },
     ghost within: { at < vec_len moments },
+    ghost in_turn: { at ≡ min readings (vec_len moments - 1) },
 }
 
 impl ListClock {
