@@ -4,6 +4,7 @@ use Rattle.std.specs.Prelude.{Option}
 use Rattle.tb_link.specs.Counts.{Rose}
 use Rattle.tb_link.specs.Sources.{SourceState}
 use Rattle.tb_link.specs.Sinks.{SinkState}
+use Rattle.tb_gates.specs.Clocks.{ClockState}
 use Rattle.tb_words.specs.Commands as all
 use Rattle.tb_words.specs.declared.command.Command.{Command}
 use Rattle.tb_words.specs.declared.command.Command.TheVariants as command
@@ -27,14 +28,15 @@ use Rattle.tb_host.proofs.ExactLemmas.{memory-not_begun}
 use Rattle.tb_host.proofs.HostLemmas.{on_desk_of}
 
 -- words that are of one command are done as that
-pub ends-asked : (said asked : Command) (texts : List (List ℕ)) (moments : Option (List ℕ)) (ended : Ending)
+pub ends-asked : (said asked : Command) (texts : List (List ℕ)) (clock clock' : ClockState) (ended : Ending)
     (input input' : SourceState) (old new : Devices)
     → all.AreWordsOf said texts
-    → EndsAs said moments ended input input' old new
+    → EndsAs said clock clock' ended input input' old new
     → all.AreWordsOf asked texts
-    → EndsAs asked moments ended input input' old new
-ends-asked said asked texts moments ended input input' old new are ends are' =
-    subst (λ (c : Command). EndsAs c moments ended input input' old new) (one_command texts said asked are are') ends
+    → EndsAs asked clock clock' ended input input' old new
+ends-asked said asked texts clock clock' ended input input' old new are ends are' =
+    subst (λ (c : Command). EndsAs c clock clock' ended input input' old new) (one_command texts said asked are are')
+    ends
 
 -- and read as much as that
 pub reads-asked : (said asked : Command) (texts : List (List ℕ)) (before after : ℕ) (told : Option (List ℕ))
@@ -53,8 +55,8 @@ pub not-import : (said : Command) (texts : List (List ℕ))
 not-import said texts are none sent = none (sent.0, subst (λ (c : Command). all.AreWordsOf c texts) sent.1 are)
 
 -- a command on the disk that ended as none does on a desk wasn't begun
-pub not_begun_of : (Holds : Standing → Standing → Type 0) (ended : Ending)
-    (input input' : SourceState) (old new : Devices)
+pub not_begun_of : (Holds : Standing → Standing → Type 0) (ended : Ending) (input input' : SourceState)
+    (old new : Devices)
     → ((first last : Standing) → ¬ (Holds first last))
     → EndsOnDisk Holds ended input input' old new
     → NotBegun ended input input' old new
@@ -101,25 +103,25 @@ report-not asked ending.OutOfMemory out out' first last (inr none) ends = none
 report-not asked ending.GateFault out out' first last is ends = ends.1
 
 -- and no import
-table-not : (sender : Sender) (moments : Option (List ℕ)) (ended : Ending) (input input' : SourceState)
+table-not : (sender : Sender) (clock clock' : ClockState) (ended : Ending) (input input' : SourceState)
     (out out' : SinkState) (first last : Standing)
     → (ended ≡ ending.Usage) ⊎ IsUnopened ended
-    → ¬ (TableEnds sender moments ended input input' out out' first last)
-table-not sender moments ending.Done input input' out out' first last (inl is) ends = absurd (cc)
-table-not sender moments ending.Done input input' out out' first last (inr none) ends = none
-table-not sender moments ending.Usage input input' out out' first last is ends = ends
-table-not sender moments (ending.BadInput number) input input' out out' first last (inl is) ends = absurd (cc)
-table-not sender moments (ending.BadInput number) input input' out out' first last (inr none) ends = none
-table-not sender moments ending.ReadFault input input' out out' first last (inl is) ends = absurd (cc)
-table-not sender moments ending.ReadFault input input' out out' first last (inr none) ends = none
-table-not sender moments ending.WriteFault input input' out out' first last (inl is) ends = absurd (cc)
-table-not sender moments ending.WriteFault input input' out out' first last (inr none) ends = none
-table-not sender moments ending.DiskFault input input' out out' first last is ends = ends
-table-not sender moments (ending.NotAJournal found) input input' out out' first last is ends = ends
-table-not sender moments (ending.Damaged place) input input' out out' first last is ends = ends
-table-not sender moments ending.OutOfMemory input input' out out' first last (inl is) ends = absurd (cc)
-table-not sender moments ending.OutOfMemory input input' out out' first last (inr none) ends = none
-table-not sender moments ending.GateFault input input' out out' first last is ends = ends
+    → ¬ (TableEnds sender clock clock' ended input input' out out' first last)
+table-not sender clock clock' ending.Done input input' out out' first last (inl is) ends = absurd (cc)
+table-not sender clock clock' ending.Done input input' out out' first last (inr none) ends = none
+table-not sender clock clock' ending.Usage input input' out out' first last is ends = ends
+table-not sender clock clock' (ending.BadInput number) input input' out out' first last (inl is) ends = absurd (cc)
+table-not sender clock clock' (ending.BadInput number) input input' out out' first last (inr none) ends = none
+table-not sender clock clock' ending.ReadFault input input' out out' first last (inl is) ends = absurd (cc)
+table-not sender clock clock' ending.ReadFault input input' out out' first last (inr none) ends = none
+table-not sender clock clock' ending.WriteFault input input' out out' first last (inl is) ends = absurd (cc)
+table-not sender clock clock' ending.WriteFault input input' out out' first last (inr none) ends = none
+table-not sender clock clock' ending.DiskFault input input' out out' first last is ends = ends
+table-not sender clock clock' (ending.NotAJournal found) input input' out out' first last is ends = ends
+table-not sender clock clock' (ending.Damaged place) input input' out out' first last is ends = ends
+table-not sender clock clock' ending.OutOfMemory input input' out out' first last (inl is) ends = absurd (cc)
+table-not sender clock clock' ending.OutOfMemory input input' out out' first last (inr none) ends = none
+table-not sender clock clock' ending.GateFault input input' out out' first last is ends = ends
 
 -- `award` opens no disk
 award-opens_none : (full : Bool) (ended : Ending) (input input' : SourceState) (out out' : SinkState)
@@ -152,153 +154,155 @@ trial-opens_none seed count ending.OutOfMemory out out' trial none = none
 trial-opens_none seed count ending.GateFault out out' trial none = none
 
 -- a command that ended as a disk that wasn't opened wasn't begun
-pub unopened-not_begun : (said : Command) (moments : Option (List ℕ)) (ended : Ending) (input input' : SourceState)
+pub unopened-not_begun : (said : Command) (clock clock' : ClockState) (ended : Ending) (input input' : SourceState)
     (old new : Devices)
-    → EndsAs said moments ended input input' old new
+    → EndsAs said clock clock' ended input input' old new
     → IsUnopened ended
     → NotBegun ended input input' old new
-unopened-not_begun (command.Award full) moments ended input input' old new ends is =
+unopened-not_begun (command.Award full) clock clock' ended input input' old new ends is =
     absurd (award-opens_none full ended input input' old.out new.out ends is)
-unopened-not_begun (command.Run operator) moments ended input input' old new ends is =
+unopened-not_begun (command.Run operator) clock clock' ended input input' old new ends is =
     not_begun_of (ScriptEnds operator ended input input' old.out new.out) ended input input' old new
     (λ first last. script-not operator ended input input' old.out new.out first last (inr is)) ends
-unopened-not_begun (command.Serve operator port workers links) moments ended input input' old new ends is = absurd ends
-unopened-not_begun (command.Import operator caller) moments ended input input' old new ends is =
+unopened-not_begun (command.Serve operator port workers links) clock clock' ended input input' old new ends is =
+    absurd ends
+unopened-not_begun (command.Import operator caller) clock clock' ended input input' old new ends is =
     let sender : Sender = record { operator = operator; key = caller } in
-    not_begun_of (TableEnds sender moments ended input input' old.out new.out) ended input input' old new
-    (λ first last. table-not sender moments ended input input' old.out new.out first last (inr is)) ends
-unopened-not_begun (command.Report operator caller asked csv) moments ended input input' old new ends is =
+    not_begun_of (TableEnds sender clock clock' ended input input' old.out new.out) ended input input' old new
+    (λ first last. table-not sender clock clock' ended input input' old.out new.out first last (inr is)) ends
+unopened-not_begun (command.Report operator caller asked csv) clock clock' ended input input' old new ends is =
     not_begun_of (ReadsDesk (inquiry operator caller asked csv) ended old.out new.out) ended input input' old new
     (λ first last. report-not (inquiry operator caller asked csv) ended old.out new.out first last (inr is)) ends.ends
-unopened-not_begun (command.Trial seed count) moments ended input input' old new ends is =
+unopened-not_begun (command.Trial seed count) clock clock' ended input input' old new ends is =
     absurd (trial-opens_none seed count ended old.out new.out ends is)
 
 -- it is one of those that open the disk
-pub unopened-opens : (said : Command) (texts : List (List ℕ)) (moments : Option (List ℕ)) (ended : Ending)
+pub unopened-opens : (said : Command) (texts : List (List ℕ)) (clock clock' : ClockState) (ended : Ending)
     (input input' : SourceState) (old new : Devices)
     → all.AreWordsOf said texts
-    → EndsAs said moments ended input input' old new
+    → EndsAs said clock clock' ended input input' old new
     → IsUnopened ended
     → OpenDisk texts
-unopened-opens (command.Award full) texts moments ended input input' old new are ends is =
+unopened-opens (command.Award full) texts clock clock' ended input input' old new are ends is =
     absurd (award-opens_none full ended input input' old.out new.out ends is)
-unopened-opens (command.Run operator) texts moments ended input input' old new are ends is = inl (operator, are)
-unopened-opens (command.Serve operator port workers links) texts moments ended input input' old new are ends is =
+unopened-opens (command.Run operator) texts clock clock' ended input input' old new are ends is = inl (operator, are)
+unopened-opens (command.Serve operator port workers links) texts clock clock' ended input input' old new are ends is =
     absurd ends
-unopened-opens (command.Import operator caller) texts moments ended input input' old new are ends is =
+unopened-opens (command.Import operator caller) texts clock clock' ended input input' old new are ends is =
     inr (inl (record { operator = operator; key = caller }, are))
-unopened-opens (command.Report operator caller asked csv) texts moments ended input input' old new are ends is =
+unopened-opens (command.Report operator caller asked csv) texts clock clock' ended input input' old new are ends is =
     inr (inr (inquiry operator caller asked csv, are))
-unopened-opens (command.Trial seed count) texts moments ended input input' old new are ends is =
+unopened-opens (command.Trial seed count) texts clock clock' ended input input' old new are ends is =
     absurd (trial-opens_none seed count ended old.out new.out ends is)
 
 -- no command ends as words outside the command set do
-not-usage_at : (said : Command) (moments : Option (List ℕ)) (input input' : SourceState) (old new : Devices)
-    → ¬ (EndsAs said moments ending.Usage input input' old new)
-not-usage_at (command.Award full) moments input input' old new ends = ends
-not-usage_at (command.Run operator) moments input input' old new ends =
+not-usage_at : (said : Command) (clock clock' : ClockState) (input input' : SourceState) (old new : Devices)
+    → ¬ (EndsAs said clock clock' ending.Usage input input' old new)
+not-usage_at (command.Award full) clock clock' input input' old new ends = ends
+not-usage_at (command.Run operator) clock clock' input input' old new ends =
     let Holds = ScriptEnds operator ending.Usage input input' old.out new.out in
     let none = not_begun_of Holds ending.Usage input input' old new
     (λ first last. script-not operator ending.Usage input input' old.out new.out first last (inl refl)) ends in
     usage-unopened none.why (sym none.ended_is)
-not-usage_at (command.Serve operator port workers links) moments input input' old new ends = ends
-not-usage_at (command.Import operator caller) moments input input' old new ends =
+not-usage_at (command.Serve operator port workers links) clock clock' input input' old new ends = ends
+not-usage_at (command.Import operator caller) clock clock' input input' old new ends =
     let sender : Sender = record { operator = operator; key = caller } in
-    let Holds = TableEnds sender moments ending.Usage input input' old.out new.out in
+    let Holds = TableEnds sender clock clock' ending.Usage input input' old.out new.out in
     let none = not_begun_of Holds ending.Usage input input' old new
-    (λ first last. table-not sender moments ending.Usage input input' old.out new.out first last (inl refl)) ends in
+    (λ first last. table-not sender clock clock' ending.Usage input input' old.out new.out first last (inl refl))
+    ends in
     usage-unopened none.why (sym none.ended_is)
-not-usage_at (command.Report operator caller asked csv) moments input input' old new ends =
+not-usage_at (command.Report operator caller asked csv) clock clock' input input' old new ends =
     let Holds = ReadsDesk (inquiry operator caller asked csv) ending.Usage old.out new.out in
     let none = not_begun_of Holds ending.Usage input input' old new
     (λ first last. report-not (inquiry operator caller asked csv) ending.Usage old.out new.out first last (inl refl))
     ends.ends in
     usage-unopened none.why (sym none.ended_is)
-not-usage_at (command.Trial seed count) moments input input' old new ends = ends
+not-usage_at (command.Trial seed count) clock clock' input input' old new ends = ends
 
 -- no such command ends as one whose gate failed
-not-gate_at : (said : Command) (moments : Option (List ℕ)) (input input' : SourceState) (old new : Devices)
-    → ¬ (EndsAs said moments ending.GateFault input input' old new)
-not-gate_at (command.Award full) moments input input' old new ends = ends
-not-gate_at (command.Run operator) moments input input' old new ends =
+not-gate_at : (said : Command) (clock clock' : ClockState) (input input' : SourceState) (old new : Devices)
+    → ¬ (EndsAs said clock clock' ending.GateFault input input' old new)
+not-gate_at (command.Award full) clock clock' input input' old new ends = ends
+not-gate_at (command.Run operator) clock clock' input input' old new ends =
     let Holds = ScriptEnds operator ending.GateFault input input' old.out new.out in
     let none = not_begun_of Holds ending.GateFault input input' old new (λ first last ends. ends) ends in
     gate-unopened none.why (sym none.ended_is)
-not-gate_at (command.Serve operator port workers links) moments input input' old new ends = ends
-not-gate_at (command.Import operator caller) moments input input' old new ends =
+not-gate_at (command.Serve operator port workers links) clock clock' input input' old new ends = ends
+not-gate_at (command.Import operator caller) clock clock' input input' old new ends =
     let sender : Sender = record { operator = operator; key = caller } in
-    let Holds = TableEnds sender moments ending.GateFault input input' old.out new.out in
+    let Holds = TableEnds sender clock clock' ending.GateFault input input' old.out new.out in
     let none = not_begun_of Holds ending.GateFault input input' old new (λ first last ends. ends) ends in
     gate-unopened none.why (sym none.ended_is)
-not-gate_at (command.Report operator caller asked csv) moments input input' old new ends =
+not-gate_at (command.Report operator caller asked csv) clock clock' input input' old new ends =
     let Holds = ReadsDesk (inquiry operator caller asked csv) ending.GateFault old.out new.out in
     let none = not_begun_of Holds ending.GateFault input input' old new (λ first last ends. ends.1) ends.ends in
     gate-unopened none.why (sym none.ended_is)
-not-gate_at (command.Trial seed count) moments input input' old new ends = ends
+not-gate_at (command.Trial seed count) clock clock' input input' old new ends = ends
 
 -- where a command tells of a read that failed the count of the input has risen
-read-rose_at : (said : Command) (moments : Option (List ℕ)) (input input' : SourceState) (old new : Devices)
-    → EndsAs said moments ending.ReadFault input input' old new
+read-rose_at : (said : Command) (clock clock' : ClockState) (input input' : SourceState) (old new : Devices)
+    → EndsAs said clock clock' ending.ReadFault input input' old new
     → Rose input.faults input'.faults
-read-rose_at (command.Award full) moments input input' old new ends = ends.1
-read-rose_at (command.Run operator) moments input input' old new ends =
-    (on_desk_of (ScriptEnds operator ending.ReadFault input input' old.out new.out) ending.ReadFault
-    input input' old new (omega arith) ends).3.0
-read-rose_at (command.Serve operator port workers links) moments input input' old new ends = absurd ends
-read-rose_at (command.Import operator caller) moments input input' old new ends =
-    (on_desk_of (TableEnds (record { operator = operator; key = caller }) moments ending.ReadFault input input' old.out
-    new.out) ending.ReadFault input input' old new (omega arith) ends).3.1
-read-rose_at (command.Report operator caller asked csv) moments input input' old new ends =
+read-rose_at (command.Award full) clock clock' input input' old new ends = ends.1
+read-rose_at (command.Run operator) clock clock' input input' old new ends =
+    (on_desk_of (ScriptEnds operator ending.ReadFault input input' old.out new.out) ending.ReadFault input input' old
+    new (omega arith) ends).3.0
+read-rose_at (command.Serve operator port workers links) clock clock' input input' old new ends = absurd ends
+read-rose_at (command.Import operator caller) clock clock' input input' old new ends =
+    (on_desk_of (TableEnds (record { operator = operator; key = caller }) clock clock' ending.ReadFault input input'
+    old.out new.out) ending.ReadFault input input' old new (omega arith) ends).3.1
+read-rose_at (command.Report operator caller asked csv) clock clock' input input' old new ends =
     absurd ((on_desk_of (ReadsDesk (inquiry operator caller asked csv) ending.ReadFault old.out new.out)
     ending.ReadFault input input' old new (omega arith) ends.ends).3.1)
-read-rose_at (command.Trial seed count) moments input input' old new ends = absurd ends
+read-rose_at (command.Trial seed count) clock clock' input input' old new ends = absurd ends
 
 -- of a write that failed, the count of the output
-write-rose_at : (said : Command) (moments : Option (List ℕ)) (input input' : SourceState) (old new : Devices)
-    → EndsAs said moments ending.WriteFault input input' old new
+write-rose_at : (said : Command) (clock clock' : ClockState) (input input' : SourceState) (old new : Devices)
+    → EndsAs said clock clock' ending.WriteFault input input' old new
     → Rose old.out.faults new.out.faults
-write-rose_at (command.Award full) moments input input' old new ends = ends.0
-write-rose_at (command.Run operator) moments input input' old new ends =
+write-rose_at (command.Award full) clock clock' input input' old new ends = ends.0
+write-rose_at (command.Run operator) clock clock' input input' old new ends =
     (on_desk_of (ScriptEnds operator ending.WriteFault input input' old.out new.out) ending.WriteFault input input' old
     new (omega arith) ends).3.0
-write-rose_at (command.Serve operator port workers links) moments input input' old new ends = absurd ends
-write-rose_at (command.Import operator caller) moments input input' old new ends =
-    (on_desk_of (TableEnds (record { operator = operator; key = caller }) moments ending.WriteFault input input' old.out
-    new.out) ending.WriteFault input input' old new (omega arith) ends).3.0
-write-rose_at (command.Report operator caller asked csv) moments input input' old new ends =
-    (on_desk_of (ReadsDesk (inquiry operator caller asked csv) ending.WriteFault old.out new.out)
-    ending.WriteFault input input' old new (omega arith) ends.ends).3.1.3
-write-rose_at (command.Trial seed count) moments input input' old new ends = ends.0
+write-rose_at (command.Serve operator port workers links) clock clock' input input' old new ends = absurd ends
+write-rose_at (command.Import operator caller) clock clock' input input' old new ends =
+    (on_desk_of (TableEnds (record { operator = operator; key = caller }) clock clock' ending.WriteFault input input'
+    old.out new.out) ending.WriteFault input input' old new (omega arith) ends).3.0
+write-rose_at (command.Report operator caller asked csv) clock clock' input input' old new ends =
+    (on_desk_of (ReadsDesk (inquiry operator caller asked csv) ending.WriteFault old.out new.out) ending.WriteFault
+    input input' old new (omega arith) ends.ends).3.1.3
+write-rose_at (command.Trial seed count) clock clock' input input' old new ends = ends.0
 
 -- and of a disk that failed, the count of the disk
-disk-rose_at : (said : Command) (moments : Option (List ℕ)) (input input' : SourceState) (old new : Devices)
-    → EndsAs said moments ending.DiskFault input input' old new
+disk-rose_at : (said : Command) (clock clock' : ClockState) (input input' : SourceState) (old new : Devices)
+    → EndsAs said clock clock' ending.DiskFault input input' old new
     → Rose old.disk.faults new.disk.faults
-disk-rose_at said moments input input' old new ends =
-    let none = unopened-not_begun said moments ending.DiskFault input input' old new ends tt in
+disk-rose_at said clock clock' input input' old new ends =
+    let none = unopened-not_begun said clock clock' ending.DiskFault input input' old new ends tt in
     none.unopened.rose (disk-unopened none.why (sym none.ended_is))
 
 -- the same of the ending that a command has
-module _ (said : Command) (moments : Option (List ℕ)) (ended : Ending) (input input' : SourceState)
+module _ (said : Command) (clock clock' : ClockState) (ended : Ending) (input input' : SourceState)
     (old new : Devices)
-    (ends : EndsAs said moments ended input input' old new) where
-  ends_at : (at : Ending) → ended ≡ at → EndsAs said moments at input input' old new
-  ends_at at is = subst (λ (e : Ending). EndsAs said moments e input input' old new) is ends
+    (ends : EndsAs said clock clock' ended input input' old new) where
+  ends_at : (at : Ending) → ended ≡ at → EndsAs said clock clock' at input input' old new
+  ends_at at is = subst (λ (e : Ending). EndsAs said clock clock' e input input' old new) is ends
 
   pub not-gate : ended ≢ ending.GateFault
-  not-gate is = not-gate_at said moments input input' old new (ends_at ending.GateFault is)
+  not-gate is = not-gate_at said clock clock' input input' old new (ends_at ending.GateFault is)
 
   pub not-usage : ended ≢ ending.Usage
-  not-usage is = not-usage_at said moments input input' old new (ends_at ending.Usage is)
+  not-usage is = not-usage_at said clock clock' input input' old new (ends_at ending.Usage is)
 
   pub read-rose : ended ≡ ending.ReadFault → Rose input.faults input'.faults
-  read-rose is = read-rose_at said moments input input' old new (ends_at ending.ReadFault is)
+  read-rose is = read-rose_at said clock clock' input input' old new (ends_at ending.ReadFault is)
 
   pub write-rose : ended ≡ ending.WriteFault → Rose old.out.faults new.out.faults
-  write-rose is = write-rose_at said moments input input' old new (ends_at ending.WriteFault is)
+  write-rose is = write-rose_at said clock clock' input input' old new (ends_at ending.WriteFault is)
 
   pub disk-rose : ended ≡ ending.DiskFault → Rose old.disk.faults new.disk.faults
-  disk-rose is = disk-rose_at said moments input input' old new (ends_at ending.DiskFault is)
+  disk-rose is = disk-rose_at said clock clock' input input' old new (ends_at ending.DiskFault is)
 
 -- a report over a disk that stands for a legal history is answered
 reads-complete : (asked : Inquiry) (ended : Ending) (out out' : SinkState) (first last : Standing)

@@ -5,6 +5,7 @@ use Rattle.std.specs.Global.{Vec}
 use Rattle.tb_link.specs.Counts.{Rose}
 use Rattle.tb_link.specs.Sources.{SourceState}
 use Rattle.tb_link.specs.Sinks.{SinkState}
+use Rattle.tb_gates.specs.Clocks.{ClockState}
 use Rattle.tb_import.specs.Tables.{IsFirstBad, IsTable}
 use Rattle.tb_host.specs.DiskRun.{HasGrown}
 use Rattle.tb_host.specs.Endings.{status_of}
@@ -31,13 +32,13 @@ pub rows-read : (input input' : SourceState) (result : Result (Vec SentRow) Endi
 rows-read input input' result rows items is same answers =
     subst (HasRows input input') (sym same) (subst (AnswersInput input input') is answers)
 
-module _ (sender : Sender) (moments : Option (List ℕ)) (input input' : SourceState) (out out' : SinkState)
+module _ (sender : Sender) (clock clock' : ClockState) (input input' : SourceState) (out out' : SinkState)
     (first last : Standing) where
   -- once the rows were read, as the sending of them ends
   pub TableEnds-rows : (ended : Ending) (rows : List SentRow)
       → HasRows input input' rows
-      → RowsEnd sender moments rows ended out out' first last
-      → TableEnds sender moments ended input input' out out' first last
+      → RowsEnd sender clock clock' rows ended out out' first last
+      → TableEnds sender clock clock' ended input input' out out' first last
   TableEnds-rows ending.Done rows has ends = record {
     text = ends.0;
     sent = record { rows = rows; table = has.table; sent = ends.1 };
@@ -67,32 +68,32 @@ module _ (sender : Sender) (moments : Option (List ℕ)) (input input' : SourceS
   })
 
 -- without rows nothing was sent
-pub TableEnds-none : (sender : Sender) (moments : Option (List ℕ)) (input input' : SourceState) (out : SinkState)
+pub TableEnds-none : (sender : Sender) (clock : ClockState) (input input' : SourceState) (out : SinkState)
     (stands : Standing) (ended : Ending)
     → AnswersInput input input' (Err ended)
-    → TableEnds sender moments ended input input' out out stands stands
-TableEnds-none sender moments input input' out stands ending.Done none = absurd none
-TableEnds-none sender moments input input' out stands ending.Usage none = none
-TableEnds-none sender moments input input' out stands (ending.BadInput number) none = ((refl, refl), none)
-TableEnds-none sender moments input input' out stands ending.ReadFault none = ((refl, refl), none)
-TableEnds-none sender moments input input' out stands ending.WriteFault none = absurd none
-TableEnds-none sender moments input input' out stands ending.DiskFault none = none
-TableEnds-none sender moments input input' out stands (ending.NotAJournal found) none = none
-TableEnds-none sender moments input input' out stands (ending.Damaged place) none = none
-TableEnds-none sender moments input input' out stands ending.OutOfMemory none = inl (refl, refl)
-TableEnds-none sender moments input input' out stands ending.GateFault none = none
+    → TableEnds sender clock clock ended input input' out out stands stands
+TableEnds-none sender clock input input' out stands ending.Done none = absurd none
+TableEnds-none sender clock input input' out stands ending.Usage none = none
+TableEnds-none sender clock input input' out stands (ending.BadInput number) none = ((refl, refl, refl), none)
+TableEnds-none sender clock input input' out stands ending.ReadFault none = ((refl, refl, refl), none)
+TableEnds-none sender clock input input' out stands ending.WriteFault none = absurd none
+TableEnds-none sender clock input input' out stands ending.DiskFault none = none
+TableEnds-none sender clock input input' out stands (ending.NotAJournal found) none = none
+TableEnds-none sender clock input input' out stands (ending.Damaged place) none = none
+TableEnds-none sender clock input input' out stands ending.OutOfMemory none = inl (refl, refl, refl)
+TableEnds-none sender clock input input' out stands ending.GateFault none = none
 
 -- bytes that are a table aren't told of as bad
 table-good : (bytes : List ℕ) (rows : List SentRow) (number : ℕ) → IsTable bytes rows → ¬ (IsFirstBad bytes number)
 table-good bytes rows number table bad = never_both bytes rows number table bad
 
 -- what is so of a table that was sent on a desk, whose input is told
-module _ (sender : Sender) (moments : Option (List ℕ)) (input input' : SourceState) (out out' : SinkState)
+module _ (sender : Sender) (clock clock' : ClockState) (input input' : SourceState) (out out' : SinkState)
     (first last : Standing) (bytes : List ℕ) (told : input.left ≡ Some bytes)
     (no_read : ¬ (Rose input.faults input'.faults)) where
   -- a table is answered
   table-complete : (ended : Ending) (rows : List SentRow)
-      → TableEnds sender moments ended input input' out out' first last
+      → TableEnds sender clock clock' ended input input' out out' first last
       → IsTable bytes rows
       → ¬ (Rose out.faults out'.faults)
       → (status_of ended ≡ 0) ⊎ (status_of ended ≡ 9)
@@ -110,7 +111,7 @@ module _ (sender : Sender) (moments : Option (List ℕ)) (input input' : SourceS
 
   -- and an input that is none is refused
   table-refused : (ended : Ending) (number : ℕ)
-      → TableEnds sender moments ended input input' out out' first last
+      → TableEnds sender clock clock' ended input input' out out' first last
       → IsFirstBad bytes number
       → (status_of ended ≡ 3) ⊎ (status_of ended ≡ 9)
   table-refused ending.Done number ends bad =
@@ -127,9 +128,9 @@ module _ (sender : Sender) (moments : Option (List ℕ)) (input input' : SourceS
   table-refused ending.OutOfMemory number ends bad = inr refl
 
 -- so the command answers a table
-pub import-complete : (sender : Sender) (moments : Option (List ℕ)) (ended : Ending) (input input' : SourceState)
+pub import-complete : (sender : Sender) (clock clock' : ClockState) (ended : Ending) (input input' : SourceState)
     (old new : Devices) (bytes : List ℕ) (rows : List SentRow)
-    → ImportEnds sender moments ended input input' old new
+    → ImportEnds sender clock clock' ended input input' old new
     → HasHistory old.disk
     → input.left ≡ Some bytes
     → IsTable bytes rows
@@ -137,53 +138,54 @@ pub import-complete : (sender : Sender) (moments : Option (List ℕ)) (ended : E
     → ¬ (Rose old.out.faults new.out.faults)
     → ¬ (Rose old.disk.faults new.disk.faults)
     → (status_of ended ≡ 0) ⊎ (status_of ended ≡ 9)
-import-complete sender moments ended input input' old new bytes rows (inl ends) stands told table no_read no_write
+import-complete sender clock clock' ended input input' old new bytes rows (inl ends) stands told table no_read no_write
     no_fault =
-    table-complete sender moments input input' old.out new.out ends.0 ends.1 bytes told no_read ended rows ends.3 table
-    no_write
-import-complete sender moments ended input input' old new bytes rows (inr none) stands told table no_read no_write
+    table-complete sender clock clock' input input' old.out new.out ends.0 ends.1 bytes told no_read ended rows ends.3
+    table no_write
+import-complete sender clock clock' ended input input' old new bytes rows (inr none) stands told table no_read no_write
     no_fault =
     inr (memory-not_begun ended input input' old new none stands no_fault)
 
 -- and refuses an input that is none
-pub import-refused : (sender : Sender) (moments : Option (List ℕ)) (ended : Ending) (input input' : SourceState)
+pub import-refused : (sender : Sender) (clock clock' : ClockState) (ended : Ending) (input input' : SourceState)
     (old new : Devices) (bytes : List ℕ) (number : ℕ)
-    → ImportEnds sender moments ended input input' old new
+    → ImportEnds sender clock clock' ended input input' old new
     → HasHistory old.disk
     → input.left ≡ Some bytes
     → IsFirstBad bytes number
     → ¬ (Rose input.faults input'.faults)
     → ¬ (Rose old.disk.faults new.disk.faults)
     → (status_of ended ≡ 3) ⊎ (status_of ended ≡ 9)
-import-refused sender moments ended input input' old new bytes number (inl ends) stands told bad no_read no_fault =
-    table-refused sender moments input input' old.out new.out ends.0 ends.1 bytes told no_read ended number ends.3 bad
-import-refused sender moments ended input input' old new bytes number (inr none) stands told bad no_read no_fault =
+import-refused sender clock clock' ended input input' old new bytes number (inl ends) stands told bad no_read no_fault =
+    table-refused sender clock clock' input input' old.out new.out ends.0 ends.1 bytes told no_read ended number ends.3
+    bad
+import-refused sender clock clock' ended input input' old new bytes number (inr none) stands told bad no_read no_fault =
     inr (memory-not_begun ended input input' old new none stands no_fault)
 
 -- rows keep the history
-pub rows-grown : (sender : Sender) (moments : Option (List ℕ)) (rows : List SentRow) (ended : Ending)
+pub rows-grown : (sender : Sender) (clock clock' : ClockState) (rows : List SentRow) (ended : Ending)
     (out out' : SinkState) (first last : Standing)
-    → RowsEnd sender moments rows ended out out' first last
+    → RowsEnd sender clock clock' rows ended out out' first last
     → HasGrown first last
-rows-grown sender moments rows ending.Done out out' first last ends =
-    import-grown sender moments ends.1.runs first last ends.0 ends.1.sent
-rows-grown sender moments rows ending.Usage out out' first last ends = absurd ends
-rows-grown sender moments rows (ending.BadInput number) out out' first last ends = absurd ends
-rows-grown sender moments rows ending.ReadFault out out' first last ends = absurd ends
-rows-grown sender moments rows ending.WriteFault out out' first last ends =
-    import-grown sender moments ends.1.1.runs first last ends.1.0 ends.1.1.sent
-rows-grown sender moments rows ending.DiskFault out out' first last ends = absurd ends
-rows-grown sender moments rows (ending.NotAJournal found) out out' first last ends = absurd ends
-rows-grown sender moments rows (ending.Damaged place) out out' first last ends = absurd ends
-rows-grown sender moments rows ending.GateFault out out' first last ends = absurd ends
-rows-grown sender moments rows ending.OutOfMemory out out' first last ends =
-    import-grown sender moments ends.1.1.runs first last ends.1.0 ends.1.1.sent
+rows-grown sender clock clock' rows ending.Done out out' first last ends =
+    import-grown sender clock clock' ends.1.runs first last ends.0 ends.1.sent
+rows-grown sender clock clock' rows ending.Usage out out' first last ends = absurd ends
+rows-grown sender clock clock' rows (ending.BadInput number) out out' first last ends = absurd ends
+rows-grown sender clock clock' rows ending.ReadFault out out' first last ends = absurd ends
+rows-grown sender clock clock' rows ending.WriteFault out out' first last ends =
+    import-grown sender clock clock' ends.1.1.runs first last ends.1.0 ends.1.1.sent
+rows-grown sender clock clock' rows ending.DiskFault out out' first last ends = absurd ends
+rows-grown sender clock clock' rows (ending.NotAJournal found) out out' first last ends = absurd ends
+rows-grown sender clock clock' rows (ending.Damaged place) out out' first last ends = absurd ends
+rows-grown sender clock clock' rows ending.GateFault out out' first last ends = absurd ends
+rows-grown sender clock clock' rows ending.OutOfMemory out out' first last ends =
+    import-grown sender clock clock' ends.1.1.runs first last ends.1.0 ends.1.1.sent
 
 -- where all were sent no fault was passed over
-pub rows-no_fault : (sender : Sender) (moments : Option (List ℕ)) (rows : List SentRow) (ended : Ending)
+pub rows-no_fault : (sender : Sender) (clock clock' : ClockState) (rows : List SentRow) (ended : Ending)
     (out out' : SinkState) (first last : Standing)
-    → RowsEnd sender moments rows ended out out' first last
+    → RowsEnd sender clock clock' rows ended out out' first last
     → ended ≡ ending.Done
     → out'.faults ≡ out.faults
-rows-no_fault sender moments rows ended out out' first last ends is =
-    (subst (λ (e : Ending). RowsEnd sender moments rows e out out' first last) is ends).2.no_fault
+rows-no_fault sender clock clock' rows ended out out' first last ends is =
+    (subst (λ (e : Ending). RowsEnd sender clock clock' rows e out out' first last) is ends).2.no_fault

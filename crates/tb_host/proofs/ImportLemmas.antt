@@ -7,6 +7,7 @@ use Rattle.tb_link.specs.Counts.{NeverFalls, Rose}
 use Rattle.tb_link.specs.Sinks.{SinkState, Takes}
 use Rattle.tb_disk.specs.Disks.{DiskState}
 use Rattle.tb_units.specs.declared.moment.Moment.{Moment}
+use Rattle.tb_gates.specs.Clocks.{ClockState, ReadsClock}
 use Rattle.tb_terms.specs.declared.refusal.Refusal.TheVariants as refusal
 use Rattle.tb_message.specs.declared.verdict.Verdict.{Verdict}
 use Rattle.tb_history.specs.Answer.{caller_of}
@@ -20,7 +21,7 @@ use Rattle.tb_desk.specs.declared.reply.GroupReply.{GroupReply}
 use Rattle.tb_desk.specs.declared.reply.GroupReply.TheVariants as group
 use Rattle.tb_desk.proofs.JudgeLemmas.{verdicts_on-length}
 use Rattle.tb_host.specs.DiskRun.{HasGrown}
-use Rattle.tb_host.specs.ImportRun.{AreSent, BeginWithRuns, HasSentRuns, IsImport, MayGive, SentRow, group_text, longest_run, same_lines}
+use Rattle.tb_host.specs.ImportRun.{AreSent, BeginWithRuns, HasSentRuns, IsImport, SentRow, group_text, longest_run, same_lines}
 use Rattle.tb_host.specs.ImportSteps.{AreAsMany, GroupEnds, RowsEnd, SendsRuns}
 use Rattle.tb_host.specs.Standings.{Standing, held_at}
 use Rattle.tb_host.specs.Replies.{refused}
@@ -43,59 +44,63 @@ BeginWithRuns-append [] more rows mid rest first second =
 BeginWithRuns-append (run ∷ runs) more rows mid rest first second =
     (first.0, first.1, BeginWithRuns-append runs more (drop longest_run rows) mid rest first.2 second)
 
-module _ (sender : Sender) (moments : Option (List ℕ)) where
-  -- what they are answered stands behind what was answered before
-  pub IsImport-append : (first mid last : Standing) (runs more : List (List SentRow)) (text text' : List ℕ)
-      → IsImport sender moments first runs text mid
-      → IsImport sender moments mid more text' last
-      → IsImport sender moments first (runs ++ more) (text ++ text') last
-  IsImport-append first mid last [] more text text' one other =
-      subst (λ (t : List ℕ). IsImport sender moments first more (t ++ text') last) (sym one.0)
-      (subst (λ (s : Standing). IsImport sender moments s more text' last) one.1 other)
-  IsImport-append first mid last (run ∷ runs) more text text' one other = (
+module _ (sender : Sender) where
+  -- what they are answered stands behind what was answered before, and their readings of the clock behind those before
+  pub IsImport-append : (clock read clock' : ClockState) (first mid last : Standing) (runs more : List (List SentRow))
+      (text text' : List ℕ)
+      → IsImport sender clock read first runs text mid
+      → IsImport sender read clock' mid more text' last
+      → IsImport sender clock clock' first (runs ++ more) (text ++ text') last
+  IsImport-append clock read clock' first mid last [] more text text' one other =
+      subst (λ (t : List ℕ). IsImport sender clock clock' first more (t ++ text') last) (sym one.0)
+      (subst (λ (s : Standing). IsImport sender clock clock' s more text' last) one.1
+      (subst (λ (c : ClockState). IsImport sender c clock' mid more text' last) one.2 other))
+  IsImport-append clock read clock' first mid last (run ∷ runs) more text text' one other = (
     one.0,
     one.1,
     one.2,
     one.3 ++ text',
     one.4,
-    one.5,
-    IsImport-append one.2 mid last runs more one.3 text' one.6 other,
-    ap (λ (t : List ℕ). t ++ text') one.7 ∙ append_assoc one.1 one.3 text',
+    IsImport-append one.0 read clock' one.2 mid last runs more one.3 text' one.5 other,
+    ap (λ (t : List ℕ). t ++ text') one.6 ∙ append_assoc one.1 one.3 text',
   )
 
   -- rows that are sent keep the history
-  sent-grown : (caller : Option (List ℕ)) (moment : Moment) (run : List SentRow) (old new : Standing) (text : List ℕ)
-      → AreSent caller moment run old text new
+  sent-grown : (caller : Option (List ℕ)) (clock clock' : ClockState) (run : List SentRow) (old new : Standing)
+      (text : List ℕ)
+      → AreSent caller clock clock' run old text new
       → HasGrown old new
-  sent-grown None moment run old new text sent = HasGrown-same old new sent.1
-  sent-grown (Some caller) moment run old new text sent =
-      HasGrown-turn (record { submitter = caller; moment = moment; messages = run }) old new sent.0 sent.1
+  sent-grown None clock clock' run old new text sent = HasGrown-same old new sent.1
+  sent-grown (Some caller) clock clock' run old new text sent =
+      HasGrown-turn (record { submitter = caller; moment = sent.0; messages = run }) old new sent.2 sent.3
 
-  pub import-grown : (runs : List (List SentRow)) (first last : Standing) (text : List ℕ)
-      → IsImport sender moments first runs text last
+  pub import-grown : (clock clock' : ClockState) (runs : List (List SentRow)) (first last : Standing) (text : List ℕ)
+      → IsImport sender clock clock' first runs text last
       → HasGrown first last
-  import-grown [] first last text sent = HasGrown-same first last sent.1
-  import-grown (run ∷ runs) first last text sent =
+  import-grown clock clock' [] first last text sent = HasGrown-same first last sent.1
+  import-grown clock clock' (run ∷ runs) first last text sent =
       HasGrown-both first sent.2 last
-      (sent-grown (caller_of (registrations first.history) sender.operator sender.key) sent.0 run first sent.2 sent.1
-      sent.5)
-      (import-grown runs sent.2 last sent.3 sent.6)
+      (sent-grown (caller_of (registrations first.history) sender.operator sender.key) clock sent.0 run first sent.2
+      sent.1 sent.4)
+      (import-grown sent.0 clock' runs sent.2 last sent.3 sent.5)
 
   -- no run was sent so far
-  pub HasSentRuns-start : (rows : List SentRow) (first : Standing) → HasSentRuns sender moments rows first first [] rows
-  HasSentRuns-start rows first = record { runs = []; begin = refl; sent = (refl, refl) }
+  pub HasSentRuns-start : (clock : ClockState) (rows : List SentRow) (first : Standing)
+      → HasSentRuns sender clock clock rows first first [] rows
+  HasSentRuns-start clock rows first = record { runs = []; begin = refl; sent = (refl, refl, refl) }
 
   -- one more was sent
-  pub HasSentRuns-more : (rows rest run : List SentRow) (first mid last : Standing) (text text' : List ℕ)
-      → HasSentRuns sender moments rows first mid text rest
+  pub HasSentRuns-more : (clock read clock' : ClockState) (rows rest run : List SentRow) (first mid last : Standing)
+      (text text' : List ℕ)
+      → HasSentRuns sender clock read rows first mid text rest
       → 1 ≤ length rest
       → run ≡ take longest_run rest
-      → IsImport sender moments mid (run ∷ []) text' last
-      → HasSentRuns sender moments rows first last (text ++ text') (drop longest_run rest)
-  HasSentRuns-more rows rest run first mid last text text' so_far some is more = record {
+      → IsImport sender read clock' mid (run ∷ []) text' last
+      → HasSentRuns sender clock clock' rows first last (text ++ text') (drop longest_run rest)
+  HasSentRuns-more clock read clock' rows rest run first mid last text text' so_far some is more = record {
     runs = so_far.runs ++ run ∷ [];
     begin = BeginWithRuns-append so_far.runs (run ∷ []) rows rest (drop longest_run rest) so_far.begin (some, is, refl);
-    sent = IsImport-append first mid last so_far.runs (run ∷ []) text text' so_far.sent more;
+    sent = IsImport-append clock read clock' first mid last so_far.runs (run ∷ []) text text' so_far.sent more;
   }
 
 -- what the desk says of a group that it was given
@@ -137,32 +142,33 @@ AreAsMany-turn asked old new (Some given) turn = elim turn.way [
 ]
 
 -- a run that was sent is an import of one run
-pub IsImport-one : (sender : Sender) (moments : Option (List ℕ)) (moment : Moment) (run : List SentRow)
-    (old new : Standing) (lines : List ℕ)
-    → MayGive moments moment
-    → AreSent (caller_of (registrations old.history) sender.operator sender.key) moment run old lines new
-    → IsImport sender moments old (run ∷ []) lines new
-IsImport-one sender moments moment run old new lines may sent =
-    (moment, lines, new, [], may, sent, (refl, refl), sym (append-nil lines))
+pub IsImport-one : (sender : Sender) (clock clock' : ClockState) (run : List SentRow) (old new : Standing)
+    (lines : List ℕ)
+    → AreSent (caller_of (registrations old.history) sender.operator sender.key) clock clock' run old lines new
+    → IsImport sender clock clock' old (run ∷ []) lines new
+IsImport-one sender clock clock' run old new lines sent =
+    (clock', lines, new, [], sent, (refl, refl, refl), sym (append-nil lines))
 
 -- where the key is nobody's each row is refused
-pub AreSent-nobody : (caller : Option (List ℕ)) (moment : Moment) (run : List SentRow) (stands : Standing)
+pub AreSent-nobody : (caller : Option (List ℕ)) (clock : ClockState) (run : List SentRow) (stands : Standing)
     (text : List ℕ)
     → caller ≡ None
     → text ≡ same_lines (refused refusal.UnknownKey) run
-    → AreSent caller moment run stands text stands
-AreSent-nobody None moment run stands text is lines = (lines, refl)
-AreSent-nobody (Some name) moment run stands text is lines = absurd (cc)
+    → AreSent caller clock clock run stands text stands
+AreSent-nobody None clock run stands text is lines = (lines, refl, refl)
+AreSent-nobody (Some name) clock run stands text is lines = absurd (cc)
 
--- and a caller's rows made a turn
-pub AreSent-caller : (caller : Option (List ℕ)) (name : List ℕ) (moment : Moment) (run : List SentRow)
-    (old new : Standing) (text : List ℕ) (replies : Replies)
+-- and a caller's rows made a turn, at the moment that was read
+pub AreSent-caller : (caller : Option (List ℕ)) (name : List ℕ) (clock clock' : ClockState) (moment : Moment)
+    (run : List SentRow) (old new : Standing) (text : List ℕ) (replies : Replies)
     → caller ≡ Some name
+    → ReadsClock clock clock' moment.seconds
     → MakesTurn (record { submitter = name; moment = moment; messages = run }) old new replies
     → text ≡ group_text run replies
-    → AreSent caller moment run old text new
-AreSent-caller caller name moment run old new text replies is turn lines =
-    subst (λ (who : Option (List ℕ)). AreSent who moment run old text new) (sym is) (replies, turn, lines)
+    → AreSent caller clock clock' run old text new
+AreSent-caller caller name clock clock' moment run old new text replies is reads turn lines =
+    subst (λ (who : Option (List ℕ)). AreSent who clock clock' run old text new) (sym is)
+    (moment, reads, replies, turn, lines)
 
 -- where the rows that are left aren't empty there is one
 pub some-left : (rest : List SentRow) (empty : Bool)
@@ -210,59 +216,60 @@ run-sendable rest run is sendable = (
 )
 
 -- Rows of which the first were sent, and their text was taken.
-module _ (sender : Sender) (moments : Option (List ℕ)) (rows : List SentRow) (first : Standing) (out : SinkState) where
+module _ (sender : Sender) (clock : ClockState) (rows : List SentRow) (first : Standing) (out : SinkState) where
   -- none so far
-  pub SendsRuns-start : SendsRuns sender moments rows first first rows (Takes out out)
+  pub SendsRuns-start : SendsRuns sender clock clock rows first first rows (Takes out out)
   SendsRuns-start = (
     [],
-    HasSentRuns-start sender moments rows first,
+    HasSentRuns-start sender clock rows first,
     record { taken = after_taken-nothing out.taken; no_fault = refl },
   )
 
-  module _ (mid last : Standing) (rest run : List SentRow) (now new : SinkState)
-      (so_far : SendsRuns sender moments rows first mid rest (Takes out now))
+  module _ (read clock' : ClockState) (mid last : Standing) (rest run : List SentRow) (now new : SinkState)
+      (so_far : SendsRuns sender clock read rows first mid rest (Takes out now))
       (some : 1 ≤ length rest)
       (is : run ≡ take longest_run rest) where
     -- one run more
     pub SendsRuns-next : (result : Option Ending)
         → ((ended : Ending) → result ≡ Some ended → ⊥)
-        → GroupEnds sender moments run result now new mid last
-        → SendsRuns sender moments rows first last (drop longest_run rest) (Takes out new)
+        → GroupEnds sender read clock' run result now new mid last
+        → SendsRuns sender clock clock' rows first last (drop longest_run rest) (Takes out new)
     SendsRuns-next None on ends = (
       so_far.0 ++ ends.0,
-      HasSentRuns-more sender moments rows rest run first mid last so_far.0 ends.0 so_far.1 some is ends.1,
+      HasSentRuns-more sender clock read clock' rows rest run first mid last so_far.0 ends.0 so_far.1 some is ends.1,
       Takes-both out now new so_far.0 ends.0 so_far.2 ends.2,
     )
     SendsRuns-next (Some ended) on ends = absurd (on ended refl)
 
     -- or the output failed
-    RowsEnd-write : GroupEnds sender moments run (Some ending.WriteFault) now new mid last
-        → RowsEnd sender moments rows ending.WriteFault out new first last
+    RowsEnd-write : GroupEnds sender read clock' run (Some ending.WriteFault) now new mid last
+        → RowsEnd sender clock clock' rows ending.WriteFault out new first last
     RowsEnd-write ends = (
       drop longest_run rest,
       (
         so_far.0 ++ ends.0,
-        HasSentRuns-more sender moments rows rest run first mid last so_far.0 ends.0 so_far.1 some is ends.1,
+        HasSentRuns-more sender clock read clock' rows rest run first mid last so_far.0 ends.0 so_far.1 some is ends.1,
         Fails-second out now new so_far.0 ends.0 so_far.2 ends.2,
       ),
     )
 
     -- or memory ran out
-    RowsEnd-memory : GroupEnds sender moments run (Some ending.OutOfMemory) now new mid last
-        → RowsEnd sender moments rows ending.OutOfMemory out new first last
+    RowsEnd-memory : GroupEnds sender read clock' run (Some ending.OutOfMemory) now new mid last
+        → RowsEnd sender clock clock' rows ending.OutOfMemory out new first last
     RowsEnd-memory ends = (
       rest,
       (
         so_far.0,
-        subst (λ (s : Standing). HasSentRuns sender moments rows first s so_far.0 rest) (sym ends.0) so_far.1,
+        subst (λ (c : ClockState). HasSentRuns sender clock c rows first last so_far.0 rest) (sym ends.2)
+            (subst (λ (s : Standing). HasSentRuns sender clock read rows first s so_far.0 rest) (sym ends.0) so_far.1),
         subst (λ (o : SinkState). Takes out o so_far.0) (sym ends.1) so_far.2,
       ),
     )
 
     -- so the import ends in one of these ways
     pub RowsEnd-here : (ended : Ending)
-        → GroupEnds sender moments run (Some ended) now new mid last
-        → RowsEnd sender moments rows ended out new first last
+        → GroupEnds sender read clock' run (Some ended) now new mid last
+        → RowsEnd sender clock clock' rows ended out new first last
     RowsEnd-here ending.Done ends = absurd ends
     RowsEnd-here ending.Usage ends = ends
     RowsEnd-here (ending.BadInput number) ends = ends
@@ -275,9 +282,9 @@ module _ (sender : Sender) (moments : Option (List ℕ)) (rows : List SentRow) (
     RowsEnd-here ending.GateFault ends = ends
 
   -- all were sent
-  pub RowsEnd-done : (last : Standing) (rest : List SentRow) (now : SinkState)
-      → SendsRuns sender moments rows first last rest (Takes out now)
+  pub RowsEnd-done : (clock' : ClockState) (last : Standing) (rest : List SentRow) (now : SinkState)
+      → SendsRuns sender clock clock' rows first last rest (Takes out now)
       → rest ≡ []
-      → RowsEnd sender moments rows ending.Done out now first last
-  RowsEnd-done last rest now so_far none =
-      subst (λ (r : List SentRow). SendsRuns sender moments rows first last r (Takes out now)) none so_far
+      → RowsEnd sender clock clock' rows ending.Done out now first last
+  RowsEnd-done clock' last rest now so_far none =
+      subst (λ (r : List SentRow). SendsRuns sender clock clock' rows first last r (Takes out now)) none so_far

@@ -4,6 +4,7 @@ use Rattle.tb_link.specs.Sources.{SourceState}
 use Rattle.tb_link.specs.Sinks.{SinkState}
 use Rattle.tb_disk.specs.Disks.{DiskState}
 use Rattle.tb_disk.specs.Past.{Past, contents_of}
+use Rattle.tb_gates.specs.Clocks.{ClockState}
 use Rattle.tb_message.specs.declared.message.Entry.{Entry}
 use Rattle.tb_history.specs.Legal.{IsLegal}
 use Rattle.tb_desk.specs.Stands.{StandsForHistory}
@@ -22,16 +23,16 @@ use Rattle.tb_host.specs.Endings.{status_of, ending_of, message_of, bad_input_me
 use Rattle.tb_host.specs.declared.ending.Ending.{Ending}
 use Rattle.tb_host.specs.declared.ending.Ending.TheVariants as ending
 
--- how a command ends, of those that there are so far, where the clock may give these moments
-abbrev pub EndsAs : Command → Option (List ℕ) → Ending → SourceState → SourceState → Devices → Devices → Type 0
-EndsAs (command.Award full) moments ended input input' old new = AwardEnds full ended input input' old.out new.out
-EndsAs (command.Run operator) moments ended input input' old new = RunEnds operator ended input input' old new
-EndsAs (command.Import operator caller) moments ended input input' old new =
-    ImportEnds (record { operator = operator; key = caller }) moments ended input input' old new
-EndsAs (command.Report operator caller asked csv) moments ended input input' old new =
+-- how a command ends that serves no links, where the clock goes from the first state to the second
+abbrev pub EndsAs : Command → ClockState → ClockState → Ending → SourceState → SourceState → Devices → Devices → Type 0
+EndsAs (command.Award full) clock clock' ended input input' old new = AwardEnds full ended input input' old.out new.out
+EndsAs (command.Run operator) clock clock' ended input input' old new = RunEnds operator ended input input' old new
+EndsAs (command.Import operator caller) clock clock' ended input input' old new =
+    ImportEnds (record { operator = operator; key = caller }) clock clock' ended input input' old new
+EndsAs (command.Report operator caller asked csv) clock clock' ended input input' old new =
     ReportEnds (inquiry operator caller asked csv) ended input input' old new
-EndsAs (command.Trial seed count) moments ended input input' old new = TrialEnds seed count ended old.out new.out
-EndsAs other moments ended input input' old new = ⊥
+EndsAs (command.Trial seed count) clock clock' ended input input' old new = TrialEnds seed count ended old.out new.out
+EndsAs other clock clock' ended input input' old new = ⊥
 
 -- a text was read up to the line that ends what the command reads, and nothing behind that; a report and a trial read
 -- nothing

@@ -1,5 +1,5 @@
 -- What the command `import` sends and prints, and what it does to its input, its output and its disk.
-use Rattle.std.specs.Prelude.{◌≡◌, ◌⊎◌, ℕ, ◌≤◌, List, [], ◌∷◌, ◌++◌, length, take, drop, Option, Some, None, IfSome, Contains}
+use Rattle.std.specs.Prelude.{◌≡◌, ◌⊎◌, ℕ, ◌≤◌, List, [], ◌∷◌, ◌++◌, length, take, drop, Option, Some, None}
 use Rattle.std.specs.Fmt.{decimal}
 use Rattle.std.specs.List.{flat_map}
 use Rattle.tb_units.specs.Bytes.{blank}
@@ -7,6 +7,7 @@ use Rattle.tb_units.specs.declared.moment.Moment.{Moment}
 use Rattle.tb_link.specs.Counts.{Rose}
 use Rattle.tb_link.specs.Sources.{SourceState}
 use Rattle.tb_link.specs.Sinks.{SinkState, after_taken, TakesPrefix}
+use Rattle.tb_gates.specs.Clocks.{ClockState, ReadsClock}
 use Rattle.tb_terms.specs.declared.refusal.Refusal.TheVariants as refusal
 use Rattle.tb_message.specs.declared.message.Message.{Message}
 use Rattle.tb_message.specs.declared.verdict.Verdict.{Verdict}
@@ -46,28 +47,25 @@ abbrev pub group_text : List SentRow → Replies → List ℕ
 group_text rows (Some verdicts) = verdict_lines rows verdicts
 group_text rows None = same_lines unavailable rows
 
--- Rows are sent together at a moment, and answered so: nobody's key is refused for each of them, and a caller's rows
--- make one turn.
-abbrev pub AreSent : Option (List ℕ) → Moment → List SentRow → Standing → List ℕ → Standing → Type 0
-AreSent None moment rows old text new = (text ≡ same_lines (refused refusal.UnknownKey) rows) × (new ≡ old)
-AreSent (Some caller) moment rows old text new =
-    (replies : Replies)
+-- Rows are sent together, and answered so: nobody's key is refused for each of them, and a caller's rows make one turn,
+-- at the one reading of the clock that is taken for it.
+abbrev pub AreSent : Option (List ℕ) → ClockState → ClockState → List SentRow → Standing → List ℕ → Standing → Type 0
+AreSent None clock clock' rows old text new =
+    (text ≡ same_lines (refused refusal.UnknownKey) rows) × (new ≡ old) × (clock' ≡ clock)
+AreSent (Some caller) clock clock' rows old text new =
+    (moment : Moment) × ReadsClock clock clock' moment.seconds
+    × (replies : Replies)
     × MakesTurn (record { submitter = caller; moment = moment; messages = rows }) old new replies
     × (text ≡ group_text rows replies)
 
--- the clock may give the moment, where it tells those that it may give
-abbrev pub MayGive : Option (List ℕ) → Moment → Type 0
-MayGive moments moment = IfSome moments (λ may. Contains may moment.seconds)
-
--- Runs of rows are sent one after another in the name of a key, each at one moment of the clock, and where those
--- before it left the history: the text of what they are answered, and where the history stands in the end.
-abbrev pub IsImport : Sender → Option (List ℕ) → Standing → List (List SentRow) → List ℕ → Standing → Type 0
-IsImport sender moments old [] text last = (text ≡ []) × (last ≡ old)
-IsImport sender moments old (run ∷ runs) text last =
-    (moment : Moment) × (lines : List ℕ) × (next : Standing) × (later : List ℕ)
-    × MayGive moments moment
-    × AreSent (caller_of (registrations old.history) sender.operator sender.key) moment run old lines next
-    × IsImport sender moments next runs later last
+-- Runs of rows are sent one after another in the name of a key, each where those before it left the clock and the
+-- history: the text of what they are answered, and where clock and history stand in the end.
+abbrev pub IsImport : Sender → ClockState → ClockState → Standing → List (List SentRow) → List ℕ → Standing → Type 0
+IsImport sender clock clock' old [] text last = (text ≡ []) × (last ≡ old) × (clock' ≡ clock)
+IsImport sender clock clock' old (run ∷ runs) text last =
+    (read : ClockState) × (lines : List ℕ) × (next : Standing) × (later : List ℕ)
+    × AreSent (caller_of (registrations old.history) sender.operator sender.key) clock read run old lines next
+    × IsImport sender read clock' next runs later last
     × (text ≡ lines ++ later)
 
 -- rows of one turn, at most
@@ -81,68 +79,69 @@ BeginWithRuns (run ∷ runs) rows rest =
     (1 ≤ length rows) × (run ≡ take longest_run rows) × BeginWithRuns runs (drop longest_run rows) rest
 
 -- of the rows the first runs were sent, and this text is what they are answered; these rows follow
-pub record HasSentRuns (sender : Sender) (moments : Option (List ℕ)) (rows : List SentRow) (first last : Standing)
+pub record HasSentRuns (sender : Sender) (clock clock' : ClockState) (rows : List SentRow) (first last : Standing)
     (text : List ℕ) (rest : List SentRow) : Type 0
   where
     pub runs : List (List SentRow)
     pub begin : BeginWithRuns runs rows rest
-    pub sent : IsImport sender moments first runs text last
+    pub sent : IsImport sender clock clock' first runs text last
 
 -- the whole input was read, and is a table; of its rows the first runs were sent
-pub record HasSent (sender : Sender) (moments : Option (List ℕ)) (input input' : SourceState) (first last : Standing)
+pub record HasSent (sender : Sender) (clock clock' : ClockState) (input input' : SourceState) (first last : Standing)
     (text : List ℕ) (rest : List SentRow) : Type 0
   where
     pub rows : List SentRow
     pub table : WhereTold input.left (λ bytes. IsTable bytes rows × (input'.left ≡ Some []))
-    pub sent : HasSentRuns sender moments rows first last text rest
+    pub sent : HasSentRuns sender clock clock' rows first last text rest
 
 -- all rows of the table were sent, and the output has taken the text
-pub record Imported (sender : Sender) (moments : Option (List ℕ)) (input input' : SourceState) (out out' : SinkState)
+pub record Imported (sender : Sender) (clock clock' : ClockState) (input input' : SourceState) (out out' : SinkState)
     (first last : Standing) : Type 0
   where
     pub text : List ℕ
-    pub sent : HasSent sender moments input input' first last text []
+    pub sent : HasSent sender clock clock' input input' first last text []
     pub taken : out'.taken ≡ after_taken out.taken text
 
 -- the first rows were sent, and the output has taken their text
-pub record ImportedInPart (sender : Sender) (moments : Option (List ℕ)) (input input' : SourceState)
+pub record ImportedInPart (sender : Sender) (clock clock' : ClockState) (input input' : SourceState)
     (out out' : SinkState) (first last : Standing) : Type 0
   where
     pub rest : List SentRow
     pub text : List ℕ
-    pub sent : HasSent sender moments input input' first last text rest
+    pub sent : HasSent sender clock clock' input input' first last text rest
     pub taken : out'.taken ≡ after_taken out.taken text
 
 -- the first rows were sent, and the output has taken a part of their text
-pub record ImportBrokenOff (sender : Sender) (moments : Option (List ℕ)) (input input' : SourceState)
+pub record ImportBrokenOff (sender : Sender) (clock clock' : ClockState) (input input' : SourceState)
     (out out' : SinkState) (first last : Standing) : Type 0
   where
     pub rest : List SentRow
     pub text : List ℕ
-    pub sent : HasSent sender moments input input' first last text rest
+    pub sent : HasSent sender clock clock' input input' first last text rest
     pub part : TakesPrefix out out' text
 
--- no row was sent, and nothing written
-abbrev pub NoneSent : SinkState → SinkState → Standing → Standing → Type 0
-NoneSent out out' first last = (last ≡ first) × (out' ≡ out)
+-- no row was sent, nothing written, and the clock not read
+abbrev pub NoneSent : ClockState → ClockState → SinkState → SinkState → Standing → Standing → Type 0
+NoneSent clock clock' out out' first last = (last ≡ first) × (out' ≡ out) × (clock' ≡ clock)
 
 -- how an import ends on a desk
-abbrev pub TableEnds : Sender → Option (List ℕ) → Ending → SourceState → SourceState → SinkState → SinkState → Standing
-    → Standing
+abbrev pub TableEnds : Sender → ClockState → ClockState → Ending → SourceState → SourceState → SinkState → SinkState
+    → Standing → Standing
     → Type 0
-TableEnds sender moments ending.Done input input' out out' first last =
-    Imported sender moments input input' out out' first last
-TableEnds sender moments (ending.BadInput number) input input' out out' first last =
-    NoneSent out out' first last × WhereTold input.left (λ bytes. IsFirstBad bytes number)
-TableEnds sender moments ending.ReadFault input input' out out' first last =
-    NoneSent out out' first last × Rose input.faults input'.faults
-TableEnds sender moments ending.WriteFault input input' out out' first last =
-    Rose out.faults out'.faults × ImportBrokenOff sender moments input input' out out' first last
-TableEnds sender moments ending.OutOfMemory input input' out out' first last =
-    NoneSent out out' first last ⊎ ImportedInPart sender moments input input' out out' first last
-TableEnds sender moments ended input input' out out' first last = ⊥
+TableEnds sender clock clock' ending.Done input input' out out' first last =
+    Imported sender clock clock' input input' out out' first last
+TableEnds sender clock clock' (ending.BadInput number) input input' out out' first last =
+    NoneSent clock clock' out out' first last × WhereTold input.left (λ bytes. IsFirstBad bytes number)
+TableEnds sender clock clock' ending.ReadFault input input' out out' first last =
+    NoneSent clock clock' out out' first last × Rose input.faults input'.faults
+TableEnds sender clock clock' ending.WriteFault input input' out out' first last =
+    Rose out.faults out'.faults × ImportBrokenOff sender clock clock' input input' out out' first last
+TableEnds sender clock clock' ending.OutOfMemory input input' out out' first last =
+    NoneSent clock clock' out out' first last ⊎ ImportedInPart sender clock clock' input input' out out' first last
+TableEnds sender clock clock' ended input input' out out' first last = ⊥
 
 -- how the command ends
-abbrev pub ImportEnds : Sender → Option (List ℕ) → Ending → SourceState → SourceState → Devices → Devices → Type 0
-ImportEnds sender moments ended input input' old new =
-    EndsOnDisk (TableEnds sender moments ended input input' old.out new.out) ended input input' old new
+abbrev pub ImportEnds : Sender → ClockState → ClockState → Ending → SourceState → SourceState → Devices → Devices
+    → Type 0
+ImportEnds sender clock clock' ended input input' old new =
+    EndsOnDisk (TableEnds sender clock clock' ended input input' old.out new.out) ended input input' old new

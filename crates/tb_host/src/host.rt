@@ -1,5 +1,20 @@
 //! The top call: it does all that the program does.
-ghost use Rattle.std.specs.Prelude.{◌≡◌, ◌≢◌, ◌⊎◌, ◌↔◌, ◌<◌, ◌≤◌, Bool, ℕ, List, map, string_bytes, vec_len, Err, IfSome};
+ghost use Rattle.std.specs.Prelude.{
+  ◌≡◌,
+  ◌≢◌,
+  ◌⊎◌,
+  ◌↔◌,
+  ◌<◌,
+  ◌≤◌,
+  Bool,
+  ℕ,
+  List,
+  map,
+  string_bytes,
+  vec_len,
+  Err,
+  IfSome,
+};
 ghost use Rattle.std.specs.Str.Lines.{lines};
 ghost use Rattle.tb_link.specs.Counts.{Rose};
 ghost use Rattle.tb_disk.specs.Past.{contents_of};
@@ -8,7 +23,16 @@ ghost use Rattle.tb_desk.specs.declared.fault.OpenFault.{OpenFault};
 ghost use Rattle.tb_host.specs.AwardRun.{AwardEnds, Printed, PrintedPrefix};
 ghost use Rattle.tb_host.specs.Told.{WhereTold};
 ghost use Rattle.tb_host.specs.Books.{HasBadLine, HasBook, IsBadLine};
-ghost use Rattle.tb_host.specs.Commands.{AreAward, AreCommand, AreImport, AreReport, AreRun, AreTrial, ServesNoLinks, OpenDisk};
+ghost use Rattle.tb_host.specs.Commands.{
+  AreAward,
+  AreCommand,
+  AreImport,
+  AreReport,
+  AreRun,
+  AreTrial,
+  ServesNoLinks,
+  OpenDisk,
+};
 ghost use Rattle.tb_host.specs.DiskRun.{CrashesKeep, OnDesk};
 ghost use Rattle.tb_host.specs.Endings.{ending_of, status_of, IsUnopened};
 ghost use Rattle.tb_host.specs.Reads.{ReadsBookAlone, ReadsScriptAlone};
@@ -22,6 +46,7 @@ ghost use Rattle.tb_host.specs.HostRun.{EndsAs, EndsWith, HasHistory, ReadsAlone
 ghost use Rattle.tb_host.specs.TrialRun.{TrialEnds, TrialPrinted, TrialPrintedPrefix};
 ghost use Rattle.tb_words.specs.Commands.{IsInRange};
 ghost use Rattle.tb_message.specs.declared.message.Entry.{Entry};
+ghost use Rattle.tb_gates.specs.Clocks.{ClockState};
 ghost use Rattle.tb_session.specs.Serve.{calls_of_gates};
 ghost use Rattle.tb_host.specs.Headline.{OneHistory, KeepsAcknowledged, TellsByTheRule, AreSealed, HoldingsAddUp};
 ghost use Rattle.tb_host.specs.ServeRun.{ServeEnds, OnServed, HasAdded, LinksEnd, Unserved, OneRose, Served, fixed_at};
@@ -197,10 +222,11 @@ pub fn host_main<
         → (¬ (Rose (D.disk disk).faults (D.disk result.disk).faults))
         → (result.status ≡ status_of (ending_of why)) ⊎ (result.status ≡ 9)) }
 
-    // `import` opens the disk, reads and checks the whole input, and then sends its rows, turn by turn.
+    // `import` opens the disk, reads and checks the whole input, and then sends its rows, turn by turn, each turn at
+    // the reading of the clock that is taken for it.
     ensures import { (sender : Sender) → AreImport sender (map string_bytes words.now)
-        → EndsWith result.status (E.sink err.old) (E.sink err.new) (λ ended. ImportEnds sender
-        (C.clock clock).moments ended (I.source input.old) (I.source input.new)
+        → EndsWith result.status (E.sink err.old) (E.sink err.new) (λ ended. (read : ClockState)
+        × ImportEnds sender (C.clock clock) read ended (I.source input.old) (I.source input.new)
         (record { out = O.sink out.old; disk = D.disk disk })
         (record { out = O.sink out.new; disk = D.disk result.disk })) }
     // A table over a disk that stands for a legal history is answered, and an input that is no table is told so, unless
@@ -364,7 +390,8 @@ fn any_command<
         (record { out = O.sink out.old; disk = D.disk disk })
         (record { out = O.sink out.new; disk = D.disk result.1 }) }
     ensures import { (sender : Sender) → AreImport sender (map string_bytes words.now)
-        → ImportEnds sender (C.clock clock).moments result.0 (I.source input.old) (I.source input.new)
+        → (read : ClockState) × ImportEnds sender (C.clock clock) read result.0
+        (I.source input.old) (I.source input.new)
         (record { out = O.sink out.old; disk = D.disk disk })
         (record { out = O.sink out.new; disk = D.disk result.1 }) }
     ensures report { (asked : Inquiry) → AreReport asked (map string_bytes words.now)
@@ -429,7 +456,7 @@ fn run_command<D: Disk, C: Clock, I: Source, O: Sink>(
         (record { out = O.sink out.old; disk = D.disk disk })
         (record { out = O.sink out.new; disk = D.disk result.1 }) }
     ensures import { (sender : Sender) → AreImport sender (map string_bytes words.now)
-        → ImportEnds sender (C.clock clock).moments result.0 (I.source input.old) (I.source input.new)
+        → ImportEnds sender (C.clock clock) (C.clock result.2) result.0 (I.source input.old) (I.source input.new)
         (record { out = O.sink out.old; disk = D.disk disk })
         (record { out = O.sink out.new; disk = D.disk result.1 }) }
     ensures report { (asked : Inquiry) → AreReport asked (map string_bytes words.now)
@@ -478,7 +505,8 @@ fn do_command<D: Disk, C: Clock, I: Source, O: Sink>(
 ) -> (Ending, D, C)
     requires links { ServesNoLinks command.now }
     requires in_range { IsInRange command.now }
-    ensures ends { EndsAs command.now (C.clock clock).moments result.0 (I.source input.old) (I.source input.new)
+    ensures ends { EndsAs command.now (C.clock clock) (C.clock result.2) result.0
+        (I.source input.old) (I.source input.new)
         (record { out = O.sink out.old; disk = D.disk disk })
         (record { out = O.sink out.new; disk = D.disk result.1 }) }
     ensures award_disk { (full : Bool) → command.now ≡ every.Award full → result.1 ≡ disk }

@@ -1,5 +1,7 @@
 //! The command `import`.
 ghost use Rattle.std.specs.Prelude.{◌≡◌, ◌≤◌, [], length, Option, None, IfOk, OnOk, OnErr, vec_capacity};
+ghost use Rattle.tb_units.specs.declared.moment.Moment.{Moment};
+ghost use Rattle.tb_gates.specs.Clocks.{ReadsClock};
 ghost use Rattle.tb_terms.specs.declared.refusal.Refusal.TheVariants as refusal;
 ghost use Rattle.tb_desk.specs.Desks.{Tells};
 ghost use Rattle.tb_desk.specs.Turn.{Replies, AreBids, AreNumbered};
@@ -25,7 +27,7 @@ use tb_gates::Clock;
 use tb_link::{Sink, Source};
 use tb_message::{Message, Verdict, verdict_line};
 use tb_terms::Refusal;
-use tb_units::{Ident, Moment, OutOfMemory};
+use tb_units::{Ident, OutOfMemory};
 
 /// Rows of one turn, at most.
 const LONGEST_RUN: usize = 64;
@@ -35,8 +37,9 @@ const LONGEST_TEXT: usize = LONGEST_RUN * LONGEST_ROW;
 
 /// Sends the rows of the table that the input is, in the name of a key, and hands the disk back. The journal is opened
 /// before the input is read, and the whole input is read and checked before the first row is sent. The rows make turns
-/// of 64 and a last one of fewer, each at one reading of the clock; what a turn's rows are answered is written before
-/// the next turn is made.
+/// of 64 and a last one of fewer, each at one reading of the clock, which is taken for it; what a turn's rows are
+/// answered is written before the next turn is made. Where the key is nobody's the rows are refused, and the clock
+/// isn't read.
 pub fn import<D: Disk, C: Clock, I: Source, O: Sink>(
     alloc: Global,
     sender: &Sender,
@@ -45,7 +48,8 @@ pub fn import<D: Disk, C: Clock, I: Source, O: Sink>(
     disk: D,
     clock: &mut C,
 ) -> (Ending, D)
-    ensures ends { ImportEnds sender.now (C.clock clock.old).moments result.0 (I.source input.old) (I.source input.new)
+    ensures ends { ImportEnds sender.now (C.clock clock.old) (C.clock clock.new) result.0
+        (I.source input.old) (I.source input.new)
         (record { out = O.sink out.old; disk = D.disk disk })
         (record { out = O.sink out.new; disk = D.disk result.1 }) }
     ensures no_fault { result.0 ≡ Ending.Done → ((I.source input.new).faults ≡ (I.source input.old).faults)
@@ -69,9 +73,9 @@ fn import_table<D: Disk, C: Clock, I: Source, O: Sink>(
     out: &mut O,
     clock: &mut C,
 ) -> Ending
-    ensures ends { TableEnds sender.now (C.clock clock.old).moments result (I.source input.old) (I.source input.new)
-        (O.sink out.old) (O.sink out.new) (standing (D.disk desk.old.disk) desk.old)
-        (standing (D.disk desk.new.disk) desk.new) }
+    ensures ends { TableEnds sender.now (C.clock clock.old) (C.clock clock.new) result
+        (I.source input.old) (I.source input.new) (O.sink out.old) (O.sink out.new)
+        (standing (D.disk desk.old.disk) desk.old) (standing (D.disk desk.new.disk) desk.new) }
     ensures grown { HasGrown (standing (D.disk desk.old.disk) desk.old) (standing (D.disk desk.new.disk) desk.new) }
     ensures kept { (desk.new.opened ≡ desk.old.opened) × (desk.new.recovered ≡ desk.old.recovered) }
     ensures no_fault { result ≡ Ending.Done → ((I.source input.new).faults ≡ (I.source input.old).faults)
@@ -94,7 +98,8 @@ fn send_rows<D: Disk, C: Clock, O: Sink>(
 ) -> Ending
     requires bids { AreBids rows.now }
     requires numbered { AreNumbered rows.now }
-    ensures ends { RowsEnd sender.now (C.clock clock.old).moments rows.now result (O.sink out.old) (O.sink out.new)
+    ensures ends { RowsEnd sender.now (C.clock clock.old) (C.clock clock.new) rows.now result
+        (O.sink out.old) (O.sink out.new)
         (standing (D.disk desk.old.disk) desk.old) (standing (D.disk desk.new.disk) desk.new) }
     ensures grown { HasGrown (standing (D.disk desk.old.disk) desk.old) (standing (D.disk desk.new.disk) desk.new) }
     ensures kept { (desk.new.opened ≡ desk.old.opened) × (desk.new.recovered ≡ desk.old.recovered) }
@@ -126,15 +131,14 @@ fn send_run<D: Disk, C: Clock, O: Sink>(
     requires bids { AreBids run.now }
     requires numbered { AreNumbered run.now }
     requires room { 13440 ≤ vec_capacity text.old }
-    ensures ends { GroupEnds sender.now (C.clock clock.old).moments run.now result (O.sink out.old) (O.sink out.new)
+    ensures ends { GroupEnds sender.now (C.clock clock.old) (C.clock clock.new) run.now result
+        (O.sink out.old) (O.sink out.new)
         (standing (D.disk desk.old.disk) desk.old) (standing (D.disk desk.new.disk) desk.new) }
-    ensures moments { (C.clock clock.new).moments ≡ (C.clock clock.old).moments }
     ensures kept { (desk.new.opened ≡ desk.old.opened) × (desk.new.recovered ≡ desk.old.recovered) }
     ensures room { vec_capacity text.new ≡ vec_capacity text.old }
 {
-    let moment = clock.now();
     text.clear();
-    match send(desk, sender, moment, run, text) {
+    match send(desk, sender, run, text, clock) {
         Ok(()) => match out.write(text) {
             Ok(()) => None,
             Err(_) => Some(Ending::WriteFault),
@@ -144,12 +148,12 @@ fn send_run<D: Disk, C: Clock, O: Sink>(
 }
 
 // Sends a run of rows, and puts what they are answered behind the text. Where memory runs out nothing was sent.
-fn send<D: Disk>(
+fn send<D: Disk, C: Clock>(
     desk: &mut Desk<D>,
     sender: &Sender,
-    moment: Moment,
     run: &[(u64, Message)],
     text: &mut Vec<u8>,
+    clock: &mut C,
 ) -> Result<(), OutOfMemory>
     requires size { (1 ≤ length run.now) × (length run.now ≤ 64) }
     requires bids { AreBids run.now }
@@ -158,9 +162,10 @@ fn send<D: Disk>(
     requires room { 13440 ≤ vec_capacity text.old }
     ensures sent { OnOk result (AreSent
         (caller_of (registrations desk.old.host.history) sender.now.operator sender.now.key)
-        moment run.now (standing (D.disk desk.old.disk) desk.old) text.new.items
+        (C.clock clock.old) (C.clock clock.new) run.now (standing (D.disk desk.old.disk) desk.old) text.new.items
         (standing (D.disk desk.new.disk) desk.new)) }
     ensures stays { OnErr result (standing (D.disk desk.new.disk) desk.new ≡ standing (D.disk desk.old.disk) desk.old) }
+    ensures unread { OnErr result (C.clock clock.new ≡ C.clock clock.old) }
     ensures kept { (desk.new.opened ≡ desk.old.opened) × (desk.new.recovered ≡ desk.old.recovered) }
     ensures room { vec_capacity text.new ≡ vec_capacity text.old }
 {
@@ -169,29 +174,33 @@ fn send<D: Disk>(
         return Ok(());
     };
     let mut verdicts = [None; LONGEST_RUN];
-    let reply = submit(desk, &caller, moment, run, &mut verdicts)?;
+    let reply = submit(desk, &caller, run, &mut verdicts, clock)?;
     push_answers(text, run, &reply, &verdicts);
     Ok(())
 }
 
-// One turn of the desk for a run of rows, with room for what it may keep.
-fn submit<D: Disk>(
+// One turn of the desk for a run of rows, with room for what it may keep, at a reading of the clock.
+fn submit<D: Disk, C: Clock>(
     desk: &mut Desk<D>,
     caller: &Ident,
-    moment: Moment,
     run: &[(u64, Message)],
     verdicts: &mut [Option<Verdict>; 64],
+    clock: &mut C,
 ) -> Result<GroupReply, OutOfMemory>
     requires size { (1 ≤ length run.now) × (length run.now ≤ 64) }
     requires bids { AreBids run.now }
     requires numbered { AreNumbered run.now }
-    ensures turn { IfOk result (λ reply. (replies : Replies) × Tells reply verdicts.new replies
+    ensures turn { IfOk result (λ reply. (moment : Moment)
+        × ReadsClock (C.clock clock.old) (C.clock clock.new) moment.seconds
+        × (replies : Replies) × Tells reply verdicts.new replies
         × MakesTurn (record { submitter = caller.now; moment = moment; messages = run.now })
         (standing (D.disk desk.old.disk) desk.old) (standing (D.disk desk.new.disk) desk.new) replies) }
     ensures stays { OnErr result (standing (D.disk desk.new.disk) desk.new ≡ standing (D.disk desk.old.disk) desk.old) }
+    ensures unread { OnErr result (C.clock clock.new ≡ C.clock clock.old) }
     ensures kept { (desk.new.opened ≡ desk.old.opened) × (desk.new.recovered ≡ desk.old.recovered) }
 {
     desk.make_room_group(run)?;
+    let moment = clock.now();
     Ok(desk.submit_group(caller, moment, run, verdicts))
 }
 

@@ -47,6 +47,10 @@ returns-in-Ok-None-clause-usage g c =
 pub returns-in-Ok-None-clause-opens : goal.returns-in-Ok-None-clause-opens
 returns-in-Ok-None-clause-opens g c = λ unopened. inl (c.run_command-ending.ensures.opens unopened)
 
+pub returns-in-Ok-None-clause-import : goal.returns-in-Ok-None-clause-import
+returns-in-Ok-None-clause-import g c = λ sender are.
+    (g.C.Clock.clock c.run_command-ending.result.2, c.run_command-ending.ensures.import sender are)
+
 pub returns-in-Ok-None-clause-serve : goal.returns-in-Ok-None-clause-serve
 returns-in-Ok-None-clause-serve g c = λ asked are.
     absurd (found-none c.in-Ok-None.field-0 _ c.in-Ok-None.field-0-is c.in-Ok-None.ensures.none asked are)

@@ -166,7 +166,7 @@ returns-clause-refused_file g c = λ opens.
       | inl run ↦ rw c.status.ensures (disk-refused_file _ c.any_command-ending.result.0 _ _ _ _ past why
           (c.any_command-ending.ensures.run run.0 run.1) told is_true speaks no_fault)
       | inr (inl sent) ↦ rw c.status.ensures (disk-refused_file _ c.any_command-ending.result.0 _ _ _ _ past why
-          (c.any_command-ending.ensures.import sent.0 sent.1) told is_true speaks no_fault)
+          (c.any_command-ending.ensures.import sent.0 sent.1).1 told is_true speaks no_fault)
       | inr (inr report) ↦ rw c.status.ensures (disk-refused_file _ c.any_command-ending.result.0 _ _ _ _ past why
           (c.any_command-ending.ensures.report report.0 report.1).ends told is_true speaks no_fault)
     ])
@@ -305,10 +305,10 @@ returns-clause-import g c = λ sender are. (
 
 pub returns-clause-import_complete : goal.returns-clause-import_complete
 returns-clause-import_complete g c = λ sender are stands text told rows table no_read no_write no_fault.
-    rw c.status.ensures (import-complete sender _ c.any_command-ending.result.0 _ _ _ _ text rows
-    (c.any_command-ending.ensures.import sender are) stands told table no_read no_write no_fault)
+    rw c.status.ensures (import-complete sender _ _ c.any_command-ending.result.0 _ _ _ _ text rows
+    (c.any_command-ending.ensures.import sender are).1 stands told table no_read no_write no_fault)
 
 pub returns-clause-import_refused : goal.returns-clause-import_refused
 returns-clause-import_refused g c = λ sender are stands text told number bad no_read no_fault.
-    rw c.status.ensures (import-refused sender _ c.any_command-ending.result.0 _ _ _ _ text number
-    (c.any_command-ending.ensures.import sender are) stands told bad no_read no_fault)
+    rw c.status.ensures (import-refused sender _ _ c.any_command-ending.result.0 _ _ _ _ text number
+    (c.any_command-ending.ensures.import sender are).1 stands told bad no_read no_fault)

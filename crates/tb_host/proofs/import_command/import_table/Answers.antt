@@ -22,8 +22,9 @@ pub returns-in-Ok-clause-ends : goal.returns-in-Ok-clause-ends
 returns-in-Ok-clause-ends g c =
     let has = rows-read (g.I.Source.source c.args.input.now) (g.I.Source.source c.read_table.new.input)
     c.read_table.result c.in-Ok.rows c.deref.result.now c.in-Ok.is c.deref.ensures.value c.read_table.ensures in
-    TableEnds-rows c.args.sender.now (g.C.Clock.clock c.args.clock.now).moments (g.I.Source.source c.args.input.now)
-    (g.I.Source.source c.read_table.new.input) (g.O.Sink.sink c.args.out.now) (g.O.Sink.sink c.send_rows.new.out)
+    TableEnds-rows c.args.sender.now (g.C.Clock.clock c.args.clock.now) (g.C.Clock.clock c.send_rows.new.clock)
+    (g.I.Source.source c.args.input.now) (g.I.Source.source c.read_table.new.input) (g.O.Sink.sink c.args.out.now)
+    (g.O.Sink.sink c.send_rows.new.out)
     (standing (g.D.Disk.disk c.args.desk.now.disk) c.args.desk.now)
     (standing (g.D.Disk.disk c.send_rows.new.desk.disk) c.send_rows.new.desk) c.send_rows.result c.deref.result.now has
     c.send_rows.ensures.ends
@@ -33,15 +34,15 @@ returns-in-Ok-clause-no_fault g c = λ is.
     let has = rows-read (g.I.Source.source c.args.input.now) (g.I.Source.source c.read_table.new.input)
     c.read_table.result c.in-Ok.rows c.deref.result.now c.in-Ok.is c.deref.ensures.value c.read_table.ensures in (
       has.no_fault,
-      rows-no_fault c.args.sender.now (g.C.Clock.clock c.args.clock.now).moments c.deref.result.now c.send_rows.result
-          (g.O.Sink.sink c.args.out.now) (g.O.Sink.sink c.send_rows.new.out)
+      rows-no_fault c.args.sender.now (g.C.Clock.clock c.args.clock.now) (g.C.Clock.clock c.send_rows.new.clock)
+          c.deref.result.now c.send_rows.result (g.O.Sink.sink c.args.out.now) (g.O.Sink.sink c.send_rows.new.out)
           (standing (g.D.Disk.disk c.args.desk.now.disk) c.args.desk.now)
           (standing (g.D.Disk.disk c.send_rows.new.desk.disk) c.send_rows.new.desk) c.send_rows.ensures.ends is,
     )
 
 pub returns-in-Err-clause-ends : goal.returns-in-Err-clause-ends
 returns-in-Err-clause-ends g c =
-    TableEnds-none c.args.sender.now (g.C.Clock.clock c.args.clock.now).moments (g.I.Source.source c.args.input.now)
+    TableEnds-none c.args.sender.now (g.C.Clock.clock c.args.clock.now) (g.I.Source.source c.args.input.now)
     (g.I.Source.source c.read_table.new.input) (g.O.Sink.sink c.args.out.now)
     (standing (g.D.Disk.disk c.args.desk.now.disk) c.args.desk.now) c.in-Err.ending
     (subst (AnswersInput (g.I.Source.source c.args.input.now) (g.I.Source.source c.read_table.new.input)) c.in-Err.is

@@ -10,12 +10,11 @@ use Rattle.tb_host.proofs.import_command.send_rows.Given as goal
 abbrev pub invariant-loop-rest : goal.invariant-loop-rest
 invariant-loop-rest g l =
     ((text : List ℕ)
-    × HasSentRuns l.sender (g.C.Clock.clock l.fn.clock).moments l.rows
+    × HasSentRuns l.sender (g.C.Clock.clock l.fn.clock) (g.C.Clock.clock l.clock) l.rows
     (standing (g.D.Disk.disk l.fn.desk.disk) l.fn.desk) (standing (g.D.Disk.disk l.desk.disk) l.desk) text l.rest
     × Takes (g.O.Sink.sink l.fn.out) (g.O.Sink.sink l.out) text)
     × AreBids l.rest
     × AreNumbered l.rest
-    × ((g.C.Clock.clock l.clock).moments ≡ (g.C.Clock.clock l.fn.clock).moments)
     × (l.desk.opened ≡ l.fn.desk.opened)
     × (l.desk.recovered ≡ l.fn.desk.recovered)
     × (13440 ≤ vec_capacity l.text)

@@ -7,10 +7,9 @@ use Rattle.tb_host.proofs.import_command.send_run.Goals as goal
 pub returns-in-Ok-write-clause-ends : goal.returns-in-Ok-write-clause-ends
 returns-in-Ok-write-clause-ends g c = (
   c.send.new.text.items,
-  IsImport-one c.args.sender.now (g.C.Clock.clock c.args.clock.now).moments c.now-moment.result c.args.run.now
+  IsImport-one c.args.sender.now (g.C.Clock.clock c.args.clock.now) (g.C.Clock.clock c.send.new.clock) c.args.run.now
       (standing (g.D.Disk.disk c.args.desk.now.disk) c.args.desk.now)
-      (standing (g.D.Disk.disk c.send.new.desk.disk) c.send.new.desk) c.send.new.text.items
-      c.now-moment.ensures.reads.told c.in-Ok.ensures.sent,
+      (standing (g.D.Disk.disk c.send.new.desk.disk) c.send.new.desk) c.send.new.text.items c.in-Ok.ensures.sent,
   subst (Takes (g.O.Sink.sink c.args.out.now) (g.O.Sink.sink c.write.new.self)) c.deref.ensures.value
       c.in-Ok-write.ensures.takes,
 )
@@ -18,10 +17,9 @@ returns-in-Ok-write-clause-ends g c = (
 pub returns-in-Err-write-clause-ends : goal.returns-in-Err-write-clause-ends
 returns-in-Err-write-clause-ends g c = (
   c.send.new.text.items,
-  IsImport-one c.args.sender.now (g.C.Clock.clock c.args.clock.now).moments c.now-moment.result c.args.run.now
+  IsImport-one c.args.sender.now (g.C.Clock.clock c.args.clock.now) (g.C.Clock.clock c.send.new.clock) c.args.run.now
       (standing (g.D.Disk.disk c.args.desk.now.disk) c.args.desk.now)
-      (standing (g.D.Disk.disk c.send.new.desk.disk) c.send.new.desk) c.send.new.text.items
-      c.now-moment.ensures.reads.told c.in-Ok.ensures.sent,
+      (standing (g.D.Disk.disk c.send.new.desk.disk) c.send.new.desk) c.send.new.text.items c.in-Ok.ensures.sent,
   subst (FailsToTake (g.O.Sink.sink c.args.out.now) (g.O.Sink.sink c.write.new.self)) c.deref.ensures.value
       c.in-Err-write.ensures.fails,
 )

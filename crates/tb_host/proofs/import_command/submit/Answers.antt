@@ -13,8 +13,10 @@ returns-clause-turn g c =
     c.in_ok-make_room_group.ensures.history in
     let new = standing (g.D.Disk.disk c.submit_group.new.self.disk) c.submit_group.new.self in
     let asked : Asked =
-    record { submitter = c.args.caller.now; moment = c.args.moment; messages = c.args.run.now } in
+    record { submitter = c.args.caller.now; moment = c.now-moment.result; messages = c.args.run.now } in
     let turn = c.submit_group.ensures.turn in (
+      c.now-moment.result,
+      c.now-moment.ensures.reads,
       turn.0,
       turn.1,
       subst (λ (old : Standing). MakesTurn asked old new turn.0) same
