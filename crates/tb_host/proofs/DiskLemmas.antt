@@ -13,13 +13,13 @@ use Rattle.tb_journal.proofs.ToldLemmas.{Told-both, Told-weaker, told_given}
 use Rattle.tb_message.specs.declared.message.Entry.{Entry}
 use Rattle.tb_history.specs.Legal.{IsLegal}
 use Rattle.tb_history.proofs.HistoryLemmas.{IsLegal-front}
-use Rattle.tb_desk.specs.Desks.{IsBeginning}
+use Rattle.tb_desk.specs.Desks.{DeskView, IsBeginning}
 use Rattle.tb_desk.specs.Replay.{IsExact, LeavesRefused}
-use Rattle.tb_desk.specs.Stands.{CrashesLeave, StandsForHistory, payloads_of}
+use Rattle.tb_desk.specs.Stands.{CrashesLeave, LeavesEither, StandsForEither, StandsForHistory, payloads_of}
 use Rattle.tb_desk.specs.declared.fault.OpenFault.{OpenFault}
 use Rattle.tb_desk.specs.declared.fault.OpenFault.TheVariants as fault
 use Rattle.tb_host.specs.DiskRun.{CrashesKeep, HasGrown, Keeps, StandsStill, Stays, Unopened}
-use Rattle.tb_host.specs.Standings.{Standing}
+use Rattle.tb_host.specs.Standings.{Standing, standing}
 
 -- a file that stands for the payloads of another stands for its history
 StandsForHistory-well : (history : List Entry) (old new : List ℕ)
@@ -133,6 +133,34 @@ Keeps-desk old mid new first last recovered exact sure count is harmless grown s
       stays = stays;
       since = CrashesKeep-here old mid new first last recovered exact legal grown is harmless since;
     }
+
+-- A desk was opened on a disk, and later its disk was handed back: that keeps the history of the desk that was closed.
+pub Keeps-closed : {D : Type 0} (disk : D → DiskState) (old : DiskState) (opened closed : DeskView D) (left : D)
+    → IfSome old.past (λ past. IsExact (contents_of past) (Ok opened.host.history))
+    → (opened.doubt ≡ []) × (opened.recovered ≡ length opened.host.history) × (opened.faults ≡ 0)
+    × (opened.opened ≡ opened.disk)
+    → (disk opened.disk).faults ≡ old.faults
+    → Told old (disk opened.disk) IsHarmless
+    → (closed.opened ≡ opened.opened) × (closed.recovered ≡ opened.recovered)
+    → HasGrown (standing (disk opened.disk) opened) (standing (disk closed.disk) closed)
+    → left ≡ closed.disk
+    → IsLegal closed.host.history
+    → IsLegal (closed.host.history ++ closed.doubt)
+    → IfSome (disk left).past (λ past. StandsForEither closed.host.history closed.doubt (contents_of past))
+    → LeavesEither (disk left) closed.host.history closed.doubt
+    → CrashesLeave (IsBeginning closed.host.history closed.recovered) (disk closed.opened) (disk left)
+    → Keeps old (disk left) (standing (disk opened.disk) opened) (standing (disk closed.disk) closed)
+Keeps-closed {D} disk old opened closed left exact made no_fault crash kept grown is legal accepted stands leaves
+    since =
+    Keeps-desk old (disk opened.disk) (disk left) (standing (disk opened.disk) opened)
+    (standing (disk closed.disk) closed) closed.recovered exact made.0 no_fault (kept.1 ∙ made.1) crash grown (record {
+      legal = legal;
+      accepted = accepted;
+      stands = stands;
+      leaves = leaves;
+      count = ap (λ (d : D). (disk d).faults) (sym is);
+    }) (subst (λ (d : D). CrashesLeave (IsBeginning closed.host.history closed.recovered) (disk d) (disk left))
+    (kept.0 ∙ made.3) since)
 
 -- the desk wasn't opened
 pub Unopened-here : (why : OpenFault) (old new : DiskState)

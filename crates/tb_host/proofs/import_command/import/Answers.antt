@@ -1,36 +1,19 @@
-use Rattle.std.proofs.Common.{inl, inr, subst, sym, ap, ◌∙◌, refl}
-use Rattle.tb_disk.specs.Disks.{DiskState}
-use Rattle.tb_desk.specs.Desks.{IsBeginning}
-use Rattle.tb_desk.specs.Stands.{CrashesLeave}
-use Rattle.tb_host.specs.Standings.{Standing, standing}
-use Rattle.tb_host.proofs.DiskLemmas.{Keeps-desk, Unopened-here}
+use Rattle.std.proofs.Common.{inl, inr, refl}
+use Rattle.tb_host.specs.Standings.{standing}
+use Rattle.tb_host.proofs.DiskLemmas.{Keeps-closed, Unopened-here}
 use Rattle.tb_host.proofs.import_command.import.Goals as goal
 
 pub returns-in-Ok-clause-ends : goal.returns-in-Ok-clause-ends
 returns-in-Ok-clause-ends g c =
     let begun = c.in-Ok.ensures in
-    let first : Standing = standing (g.D.Disk.disk c.in-Ok.desk.disk) c.in-Ok.desk in
-    let last : Standing =
-    standing (g.D.Disk.disk c.import_table-ending.new.desk.disk) c.import_table-ending.new.desk in
     let done = c.import_table-ending.ensures in
     let disk = c.into_disk.ensures in
-    let since : CrashesLeave (IsBeginning last.history c.import_table-ending.new.desk.recovered)
-    (g.D.Disk.disk c.in-Ok.desk.disk) (g.D.Disk.disk c.into_disk.result) =
-    subst (λ (opened : DiskState). CrashesLeave (IsBeginning last.history c.import_table-ending.new.desk.recovered)
-    opened (g.D.Disk.disk c.into_disk.result)) (ap g.D.Disk.disk (done.kept.0 ∙ begun.made.3)) disk.since in
     inl (
-      first,
-      last,
-      Keeps-desk (g.D.Disk.disk c.args.disk) (g.D.Disk.disk c.in-Ok.desk.disk) (g.D.Disk.disk c.into_disk.result) first
-          last c.import_table-ending.new.desk.recovered begun.exact begun.made.0 begun.no_fault
-          (done.kept.1 ∙ begun.made.1) begun.crash done.grown record {
-            legal = disk.legal;
-            accepted = disk.accepted;
-            stands = disk.stands;
-            leaves = disk.leaves;
-            count = ap (λ (d : DiskState). d.faults) (ap g.D.Disk.disk (sym disk.disk));
-          }
-          since,
+      standing (g.D.Disk.disk c.in-Ok.desk.disk) c.in-Ok.desk,
+      standing (g.D.Disk.disk c.import_table-ending.new.desk.disk) c.import_table-ending.new.desk,
+      Keeps-closed g.D.Disk.disk (g.D.Disk.disk c.args.disk) c.in-Ok.desk c.import_table-ending.new.desk
+          c.into_disk.result begun.exact begun.made begun.no_fault begun.crash done.kept done.grown disk.disk disk.legal
+          disk.accepted disk.stands disk.leaves disk.since,
       done.ends,
     )
 

@@ -1,37 +1,24 @@
 use Rattle.std.proofs.Common.{inl, inr, subst, sym, ap, refl, [], append-nil}
 use Rattle.tb_disk.specs.Disks.{DiskState}
-use Rattle.tb_desk.specs.Desks.{IsBeginning}
-use Rattle.tb_desk.specs.Stands.{CrashesLeave}
 use Rattle.tb_journal.specs.Journal.{Told}
 use Rattle.tb_journal.specs.Opening.{IsHarmless}
-use Rattle.tb_host.specs.Standings.{Standing, standing}
-use Rattle.tb_host.proofs.DiskLemmas.{Keeps-desk, Unopened-here}
+use Rattle.tb_host.specs.Standings.{standing}
+use Rattle.tb_host.proofs.DiskLemmas.{Keeps-closed, Unopened-here}
 use Rattle.tb_host.proofs.report_command.report.Goals as goal
 
 pub returns-in-Ok-clause-ends : goal.returns-in-Ok-clause-ends
 returns-in-Ok-clause-ends g c = λ input.
     let begun = c.in-Ok.ensures in
-    let stands : Standing = standing (g.D.Disk.disk c.in-Ok.desk.disk) c.in-Ok.desk in
+    let stands = standing (g.D.Disk.disk c.in-Ok.desk.disk) c.in-Ok.desk in
     let disk = c.into_disk.ensures in
     let same = ap g.D.Disk.disk disk.disk in
-    let since : CrashesLeave (IsBeginning stands.history c.in-Ok.desk.recovered) (g.D.Disk.disk c.in-Ok.desk.disk)
-    (g.D.Disk.disk c.into_disk.result) =
-    subst (λ (opened : DiskState). CrashesLeave (IsBeginning stands.history c.in-Ok.desk.recovered) opened
-    (g.D.Disk.disk c.into_disk.result)) (ap g.D.Disk.disk begun.made.3) disk.since in
     record {
       ends = inl (
         stands,
         stands,
-        Keeps-desk (g.D.Disk.disk c.args.disk) (g.D.Disk.disk c.in-Ok.desk.disk) (g.D.Disk.disk c.into_disk.result)
-            stands stands c.in-Ok.desk.recovered begun.exact begun.made.0 begun.no_fault begun.made.1 begun.crash
-            ([], sym (append-nil stands.history)) record {
-              legal = disk.legal;
-              accepted = disk.accepted;
-              stands = disk.stands;
-              leaves = disk.leaves;
-              count = ap (λ (d : DiskState). d.faults) (sym same);
-            }
-            since,
+        Keeps-closed g.D.Disk.disk (g.D.Disk.disk c.args.disk) c.in-Ok.desk c.in-Ok.desk c.into_disk.result begun.exact
+            begun.made begun.no_fault begun.crash (refl, refl) ([], sym (append-nil stands.history)) disk.disk
+            disk.legal disk.accepted disk.stands disk.leaves disk.since,
         (refl, c.write_answer-ending.ensures.reads),
       );
       unread = refl;
