@@ -1,5 +1,24 @@
 -- The lines of a text book of bids (our own form).
-use Rattle.std.specs.Prelude.{◌≡◌, ℕ, ℤ, pos, negsuc, suc, ◌*◌, ◌%◌, ◌^◌, ◌≤◌, List, [], ◌∷◌, length, Option, Some, None, true}
+use Rattle.std.specs.Prelude.{
+  ◌≡◌,
+  ℕ,
+  ℤ,
+  pos,
+  negsuc,
+  suc,
+  ◌*◌,
+  ◌%◌,
+  ◌^◌,
+  ◌≤◌,
+  List,
+  [],
+  ◌∷◌,
+  length,
+  Option,
+  Some,
+  None,
+  true,
+}
 use Rattle.std.specs.Fmt.{decimal, signed_decimal}
 use Rattle.std.specs.Str.{IsUtf8}
 use Rattle.tb_units.specs.declared.rate.Rate.{Rate}

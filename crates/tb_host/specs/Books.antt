@@ -1,5 +1,29 @@
 -- Text books of bids (our own form): an offering, then the lines of the bidders, then the line `end`.
-use Rattle.std.specs.Prelude.{◌≡◌, ◌≢◌, ℕ, ◌+◌, ◌<◌, ◌≤◌, ◌==◌, ◌⊎◌, List, [], ◌∷◌, ◌++◌, length, slice_index_or, Option, Some, None, Bool, ◌&&◌, false, is_some, is_none, Contains}
+use Rattle.std.specs.Prelude.{
+  ◌≡◌,
+  ◌≢◌,
+  ℕ,
+  ◌+◌,
+  ◌<◌,
+  ◌≤◌,
+  ◌==◌,
+  ◌⊎◌,
+  List,
+  [],
+  ◌∷◌,
+  ◌++◌,
+  length,
+  slice_index_or,
+  Option,
+  Some,
+  None,
+  Bool,
+  ◌&&◌,
+  false,
+  is_some,
+  is_none,
+  Contains,
+}
 use Rattle.std.specs.List.{list_any}
 use Rattle.tb_units.specs.declared.rate.Rate.{Rate}
 use Rattle.tb_price.specs.Prices.{HasPrice}

@@ -1,5 +1,22 @@
 -- What the command `serve` does: links are answered from one desk on a disk, by a worker for each gate.
-use Rattle.std.specs.Prelude.{◌≡◌, ◌⊎◌, ℕ, ◌+◌, ◌≤◌, List, [], ◌∷◌, ◌++◌, length, codes, is_some, Bool, true, false, All}
+use Rattle.std.specs.Prelude.{
+  ◌≡◌,
+  ◌⊎◌,
+  ℕ,
+  ◌+◌,
+  ◌≤◌,
+  List,
+  [],
+  ◌∷◌,
+  ◌++◌,
+  length,
+  codes,
+  is_some,
+  Bool,
+  true,
+  false,
+  All,
+}
 use Rattle.std.specs.Fmt.{decimal}
 use Rattle.tb_units.specs.Bytes.{line_feed}
 use Rattle.tb_link.specs.Counts.{Rose, last_count}
@@ -92,8 +109,8 @@ module _ {G K : Type 0} (gate : G → GateState K) (source : K → SourceState) 
     pub counts : CountsOf old.disk new.disk (calls_of_gates runs)
 
   -- links were served, and this is so of the first and the last history and of what became of the gates
-  abbrev pub OnServed : List ℕ → ClockState → Handed G → Handed G
-      → (Standing → Standing → List (Run K) → Type 0) → Type 0
+  abbrev pub OnServed : List ℕ → ClockState → Handed G → Handed G → (Standing → Standing → List (Run K) → Type 0)
+      → Type 0
   OnServed operator clock old new Holds =
       (first : Standing) × (last : Standing) × (runs : List (Run K))
       × Serves operator clock old new first last runs × Holds first last runs
@@ -124,8 +141,8 @@ module _ {D C G K : Type 0} (disk : D → DiskState) (clock : C → ClockState) 
     pub failed : Bool
     pub all : ServesAll disk clock gate source sink room old.gates after new.gates served accepted failed
     pub stays : Stays (standing new.disk after.desk) new.disk
-    pub since : CrashesLeave (IsBeginning after.desk.host.history after.desk.recovered)
-        (disk after.desk.opened) new.disk
+    pub since : CrashesLeave (IsBeginning after.desk.host.history after.desk.recovered) (disk after.desk.opened)
+        new.disk
     pub counted : ((disk after.desk.opened).faults + after.desk.faults ≤ new.disk.faults)
         ⊎ (new.disk.faults ≡ last_count)
     pub ends : ToldEnds failed ended old.out new.out (served_text served accepted)

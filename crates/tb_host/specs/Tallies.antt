@@ -1,5 +1,21 @@
 -- What is kept of a book while it is read, and what it stands for.
-use Rattle.std.specs.Prelude.{◌≡◌, ℕ, pos, ◌*◌, ◌^◌, ◌<◌, ◌≤◌, List, Option, length, slice_index_or, All, Bool, true, false}
+use Rattle.std.specs.Prelude.{
+  ◌≡◌,
+  ℕ,
+  pos,
+  ◌*◌,
+  ◌^◌,
+  ◌<◌,
+  ◌≤◌,
+  List,
+  Option,
+  length,
+  slice_index_or,
+  All,
+  Bool,
+  true,
+  false,
+}
 use Rattle.std.specs.Str.Lines.{lines}
 use Rattle.tb_units.specs.declared.lines.RateLine.{RateLine}
 use Rattle.tb_award.specs.Recognition.{bid_in}

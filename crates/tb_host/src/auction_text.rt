@@ -1,11 +1,40 @@
 //! What `award` prints for a book.
-ghost use Rattle.std.specs.Prelude.{◌≡◌, ℕ, ℤ, pos, ◌%◌, ◌<◌, ◌≤◌, ◌++◌, ◌^◌, ◌+◌, length, List, slice_index, slice_index_or, map, All, Bool, true, IfOk, OnOk};
+ghost use Rattle.std.specs.Prelude.{
+  ◌≡◌,
+  ℕ,
+  ℤ,
+  pos,
+  ◌%◌,
+  ◌<◌,
+  ◌≤◌,
+  ◌++◌,
+  ◌^◌,
+  ◌+◌,
+  length,
+  List,
+  slice_index,
+  slice_index_or,
+  map,
+  All,
+  Bool,
+  true,
+  IfOk,
+  OnOk,
+};
 ghost use Rattle.tb_units.specs.declared.lines.RateLine.{RateLine};
 ghost use Rattle.tb_award.specs.Awards.{AreAwards, awarded_to};
 ghost use Rattle.tb_award.specs.Cuts.{total_of};
 ghost use Rattle.tb_award.specs.Recognition.{IsRecognitionOf};
 ghost use Rattle.tb_host.specs.Books.{Book};
-ghost use Rattle.tb_host.specs.BookRun.{AreAwardLines, IsAwardText, award_line, cut_text, labelled, no_awards_text, nothing_lines};
+ghost use Rattle.tb_host.specs.BookRun.{
+  AreAwardLines,
+  IsAwardText,
+  award_line,
+  cut_text,
+  labelled,
+  no_awards_text,
+  nothing_lines,
+};
 ghost use Rattle.tb_host.specs.Tallies.{IsKept, sum_of_way};
 ghost use Rattle.tb_host.specs.AwardTexts.{HasCutText, HasNothingText, HasAmounts};
 

@@ -1,5 +1,29 @@
 //! The lines of a source, in whatever pieces it gives its bytes.
-ghost use Rattle.std.specs.Prelude.{◌≡◌, ◌+◌, ◌<◌, ◌≤◌, ◌++◌, [], true, false, length, take, drop, slice_index, vec_len, position, ◌==◌, ℕ, List, Some, Ok, IfOk, IfSome, OnOk, IsErrOf};
+ghost use Rattle.std.specs.Prelude.{
+  ◌≡◌,
+  ◌+◌,
+  ◌<◌,
+  ◌≤◌,
+  ◌++◌,
+  [],
+  true,
+  false,
+  length,
+  take,
+  drop,
+  slice_index,
+  vec_len,
+  position,
+  ◌==◌,
+  ℕ,
+  List,
+  Some,
+  Ok,
+  IfOk,
+  IfSome,
+  OnOk,
+  IsErrOf,
+};
 ghost use Rattle.tb_link.specs.Counts.{NeverFalls, Rose};
 ghost use Rattle.tb_host.specs.declared.input.InputFault.TheVariants.{OutOfMemory};
 

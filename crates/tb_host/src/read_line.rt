@@ -4,7 +4,15 @@ ghost use Rattle.std.specs.Fmt.{decimal, signed_decimal};
 ghost use Rattle.std.specs.Option.{SomeIff};
 ghost use Rattle.tb_units.specs.Bytes.{hyphen};
 ghost use Rattle.tb_host.specs.Fields.{fields, fields_of};
-ghost use Rattle.tb_host.specs.BookLines.{IsMultiple, AreOfferingFields, IsBidLine, IsReportLine, IsPosition, Says, Spells};
+ghost use Rattle.tb_host.specs.BookLines.{
+  IsMultiple,
+  AreOfferingFields,
+  IsBidLine,
+  IsReportLine,
+  IsPosition,
+  Says,
+  Spells,
+};
 ghost use Rattle.tb_host.specs.Words.{spelling_of};
 ghost use Rattle.tb_host.specs.declared.book_line.BookLine.{BookLine};
 ghost use Rattle.tb_host.specs.declared.book_line.Offering.{Offering};

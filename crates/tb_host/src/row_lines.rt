@@ -1,5 +1,23 @@
 //! The lines that rows are answered by.
-ghost use Rattle.std.specs.Prelude.{◌≡◌, ◌+◌, ◌*◌, ◌-◌, ◌≤◌, ◌++◌, ◌∷◌, [], ℕ, List, None, Some, length, map, replicate, vec_len, vec_capacity};
+ghost use Rattle.std.specs.Prelude.{
+  ◌≡◌,
+  ◌+◌,
+  ◌*◌,
+  ◌-◌,
+  ◌≤◌,
+  ◌++◌,
+  ◌∷◌,
+  [],
+  ℕ,
+  List,
+  None,
+  Some,
+  length,
+  map,
+  replicate,
+  vec_len,
+  vec_capacity,
+};
 ghost use Rattle.std.specs.Fmt.{decimal};
 ghost use Rattle.tb_units.specs.Bytes.{blank, line_feed};
 ghost use Rattle.tb_message.specs.declared.verdict.Verdict.{Verdict};

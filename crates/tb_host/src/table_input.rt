@@ -1,5 +1,24 @@
 //! A table of bids, read whole from the input.
-ghost use Rattle.std.specs.Prelude.{◌≡◌, ◌+◌, ◌<◌, ◌≤◌, ◌++◌, ℕ, List, [], Ok, true, false, length, vec_len, IfOk, IfSome, OnOk, OnErr, IsErrOf};
+ghost use Rattle.std.specs.Prelude.{
+  ◌≡◌,
+  ◌+◌,
+  ◌<◌,
+  ◌≤◌,
+  ◌++◌,
+  ℕ,
+  List,
+  [],
+  Ok,
+  true,
+  false,
+  length,
+  vec_len,
+  IfOk,
+  IfSome,
+  OnOk,
+  OnErr,
+  IsErrOf,
+};
 ghost use Rattle.tb_link.specs.Counts.{NeverFalls, Rose};
 ghost use Rattle.tb_link.specs.Sources.{before_left};
 ghost use Rattle.tb_host.specs.TableInput.{AnswersInput, HasText};
