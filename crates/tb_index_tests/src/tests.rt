@@ -92,9 +92,22 @@ fn bid_of(rt: &impl Abort, bidder: &str, number: u64, auction: &str) -> Bid {
     }
 }
 
-#[test]
-fn bids_are_found_by_bidder_and_number_and_counted_by_auction(rt: HostRuntime) -> Result<(), Fail> {
-    let mut bids: Counted<Bid, ByNumber, OfAuction> = Counted::new(rt.alloc());
+type Bids = Counted<Bid, ByNumber, OfAuction>;
+
+// The first bid of the bidder under the number stands at this place.
+fn expect_place(rt: &impl Abort, bids: &Bids, bidder: &str, number: u64, place: Option<usize>) {
+    let key = (name(rt, bidder), number);
+    assert_eq!(rt; bids.keyed().find(&key), place);
+    assert_eq!(rt; bids.keyed().has(&key), place.is_some());
+}
+
+// So many bids are in the auction.
+fn expect_count(rt: &impl Abort, bids: &Bids, auction: &str, count: usize) {
+    assert_eq!(rt; bids.count(&name(rt, auction)), count);
+}
+
+fn five_bids<R: AllocGlobal + Abort>(rt: &R) -> Result<Bids, OutOfMemory> {
+    let mut bids: Bids = Counted::new(rt.alloc());
     assert_eq!(rt; bids.spare(), 0);
     bids.reserve(5)?;
     for (bidder, number, auction) in [
@@ -105,29 +118,39 @@ fn bids_are_found_by_bidder_and_number_and_counted_by_auction(rt: HostRuntime) -
         ("eve", 1, "bill13"),
     ] {
         assert!(rt; 0 < bids.spare());
-        bids.push(bid_of(&rt, bidder, number, auction));
+        bids.push(bid_of(rt, bidder, number, auction));
     }
     assert_eq!(rt; bids.rows().len(), 5);
+    Ok(bids)
+}
+
+#[test]
+fn bids_are_found_by_bidder_and_number_and_counted_by_auction(rt: HostRuntime) -> Result<(), Fail> {
+    let bids = five_bids(&rt)?;
     // The first of two that have the same bidder and number.
-    assert_eq!(rt; bids.keyed().find(&(name(&rt, "ann"), 7)), Some(0));
-    assert_eq!(rt; bids.keyed().find(&(name(&rt, "ann"), 8)), Some(2));
-    assert_eq!(rt; bids.keyed().find(&(name(&rt, "bob"), 8)), None);
-    assert_eq!(rt;
-        bids.keyed().get(&(name(&rt, "bob"), 7)).copied(),
-        Some(bid_of(&rt, "bob", 7, "bill13"))
-    );
-    assert!(rt; bids.keyed().has(&(name(&rt, "eve"), 1)));
-    assert!(rt; !bids.keyed().has(&(name(&rt, "ev"), 1)));
-    assert_eq!(rt; bids.count(&name(&rt, "bill13")), 3);
-    assert_eq!(rt; bids.count(&name(&rt, "bill26")), 2);
-    assert_eq!(rt; bids.count(&name(&rt, "bill52")), 0);
+    expect_place(&rt, &bids, "ann", 7, Some(0));
+    expect_place(&rt, &bids, "ann", 8, Some(2));
+    expect_place(&rt, &bids, "bob", 8, None);
+    expect_place(&rt, &bids, "eve", 1, Some(4));
+    expect_place(&rt, &bids, "ev", 1, None);
+    let bob = bids.keyed().get(&(name(&rt, "bob"), 7)).copied();
+    assert_eq!(rt; bob, Some(bid_of(&rt, "bob", 7, "bill13")));
+    expect_count(&rt, &bids, "bill13", 3);
+    expect_count(&rt, &bids, "bill26", 2);
+    expect_count(&rt, &bids, "bill52", 0);
+    Ok(())
+}
+
+#[test]
+fn bids_that_go_are_found_and_counted_no_more(rt: HostRuntime) -> Result<(), Fail> {
+    let mut bids = five_bids(&rt)?;
     // The later of the two goes, and the first is still found.
     assert_eq!(rt; bids.pop(), Some(bid_of(&rt, "eve", 1, "bill13")));
     assert_eq!(rt; bids.pop(), Some(bid_of(&rt, "ann", 7, "bill26")));
-    assert_eq!(rt; bids.keyed().find(&(name(&rt, "ann"), 7)), Some(0));
-    assert_eq!(rt; bids.keyed().find(&(name(&rt, "eve"), 1)), None);
-    assert_eq!(rt; bids.count(&name(&rt, "bill13")), 2);
-    assert_eq!(rt; bids.count(&name(&rt, "bill26")), 1);
+    expect_place(&rt, &bids, "ann", 7, Some(0));
+    expect_place(&rt, &bids, "eve", 1, None);
+    expect_count(&rt, &bids, "bill13", 2);
+    expect_count(&rt, &bids, "bill26", 1);
     Ok(())
 }
 
@@ -264,5 +287,32 @@ fn bids_of_an_auction_go_and_come(rt: HostRuntime) -> Result<(), Fail> {
     }
     assert_eq!(rt; bids.pop(), None);
     expect_numbers(&rt, &bids, "bill13", &[])?;
+    Ok(())
+}
+
+// Up to the last page before this one of its number there are so many.
+fn expect_before(
+    rt: &impl Abort,
+    pages: &TwiceKeyed<Page, ByYear, ByPage>,
+    place: usize,
+    end: usize,
+) {
+    assert!(rt; place < pages.rows().len());
+    assert_eq!(rt; pages.end_before(place), end);
+}
+
+#[test]
+fn pages_of_one_number_lead_back_to_each_other(rt: HostRuntime) -> Result<(), Fail> {
+    let mut pages: TwiceKeyed<Page, ByYear, ByPage> = TwiceKeyed::new(rt.alloc());
+    for (year, number) in [(1, 4), (2, 5), (3, 4), (4, 4)] {
+        pages.reserve(1)?;
+        pages.push(Page { year, number });
+    }
+    assert_eq!(rt; pages.end_other(&4), 4);
+    assert_eq!(rt; pages.end_other(&5), 2);
+    assert_eq!(rt; pages.end_other(&6), 0);
+    expect_before(&rt, &pages, 3, 3);
+    expect_before(&rt, &pages, 2, 1);
+    expect_before(&rt, &pages, 0, 0);
     Ok(())
 }

@@ -65,113 +65,113 @@ module _ {D C G K : Type 0} (disk : D → DiskState) (clock : C → ClockState) 
     (source : K → SourceState) (sink : K → SinkState) (room after : Room D C) (v v' : View) (olds news : List G)
     (served : ℕ) (failed : Bool) (first : v ≡ newcomer (room_means disk clock) room)
     (done : Turns gate source sink v v' olds news served failed) (closes : Closes (room_means disk clock) v' after)
-    where
-  -- what became of the gates, from the first view on
-  abbrev turns : Turns gate source sink (newcomer (room_means disk clock) room) v' olds news served failed
-  turns = subst (λ (x : View). Turns gate source sink x v' olds news served failed) first done
+  where
+    -- what became of the gates, from the first view on
+    abbrev turns : Turns gate source sink (newcomer (room_means disk clock) room) v' olds news served failed
+    turns = subst (λ (x : View). Turns gate source sink x v' olds news served failed) first done
 
-  -- the calls of all gates
-  abbrev calls : List Made
-  calls = calls_of_gates turns.runs
+    -- the calls of all gates
+    abbrev calls : List Made
+    calls = calls_of_gates turns.runs
 
-  -- a call that makes an entry under the lock may have made it
-  makes_it : (entry : List ℕ) (m : Made) → Makes (room_means disk clock) v'.fixed entry (call_of m)
-      → MayHaveMade entry m
-  makes_it entry m makes = made-by m.called.outcome entry makes.0 (sym (entry-code m.called) ∙ makes.1)
+    -- a call that makes an entry under the lock may have made it
+    makes_it : (entry : List ℕ) (m : Made) → Makes (room_means disk clock) v'.fixed entry (call_of m)
+        → MayHaveMade entry m
+    makes_it entry m makes = made-by m.called.outcome entry makes.0 (sym (entry-code m.called) ∙ makes.1)
 
-  -- and so may some call, where the lock has one
-  any_made : (entry : List ℕ) → Any (Makes (room_means disk clock) v'.fixed entry) v'.mine
-      → Any (MayHaveMade entry) calls
-  any_made entry some =
-      any-weaker (λ m. Makes (room_means disk clock) v'.fixed entry (call_of m)) (MayHaveMade entry) (makes_it entry)
-      calls
-      (any-unmapped (Makes (room_means disk clock) v'.fixed entry) call_of calls
-      (subst (λ (l : List Call). Any (Makes (room_means disk clock) v'.fixed entry) l) turns.mine some))
+    -- and so may some call, where the lock has one
+    any_made : (entry : List ℕ) → Any (Makes (room_means disk clock) v'.fixed entry) v'.mine
+        → Any (MayHaveMade entry) calls
+    any_made entry some =
+        any-weaker (λ m. Makes (room_means disk clock) v'.fixed entry (call_of m)) (MayHaveMade entry) (makes_it entry)
+        calls
+        (any-unmapped (Makes (room_means disk clock) v'.fixed entry) call_of calls
+        (subst (λ (l : List Call). Any (Makes (room_means disk clock) v'.fixed entry) l) turns.mine some))
 
-  -- each call stands in the last history
-  stand : All (λ m. Stands (room_means disk clock) v'.fixed (spelled_all after.desk.host.history) (call_of m)) calls
-  stand =
-      all-unmapped (Stands (room_means disk clock) v'.fixed (spelled_all after.desk.host.history)) call_of calls
-      (subst (λ (l : List Call). All (Stands (room_means disk clock) v'.fixed (spelled_all after.desk.host.history)) l)
-      turns.mine closes.stand)
+    -- each call stands in the last history
+    stand : All (λ m. Stands (room_means disk clock) v'.fixed (spelled_all after.desk.host.history) (call_of m)) calls
+    stand =
+        all-unmapped (Stands (room_means disk clock) v'.fixed (spelled_all after.desk.host.history)) call_of calls
+        (subst (λ (l : List Call). All (Stands (room_means disk clock) v'.fixed (spelled_all after.desk.host.history)) l)
+        turns.mine closes.stand)
 
-  -- its counts of faults lie between the opening's and the last
-  counts : All (λ m. IsBetween v'.opening_faults after.desk.faults (call_of m)) calls
-  counts =
-      all-unmapped (IsBetween v'.opening_faults after.desk.faults) call_of calls
-      (subst (λ (l : List Call). All (IsBetween v'.opening_faults after.desk.faults) l) turns.mine closes.counts)
+    -- its counts of faults lie between the opening's and the last
+    counts : All (λ m. IsBetween v'.opening_faults after.desk.faults (call_of m)) calls
+    counts =
+        all-unmapped (IsBetween v'.opening_faults after.desk.faults) call_of calls
+        (subst (λ (l : List Call). All (IsBetween v'.opening_faults after.desk.faults) l) turns.mine closes.counts)
 
-  -- two calls that the lock keeps apart were accepted on histories of different lengths
-  apart : (m n : Made) → AreApartCalls (room_means disk clock) (call_of m) (call_of n) → AreApart m n
-  apart m n calls_apart e f first second same =
-      calls_apart (ap (λ (o : Outcome). kind_at (outcome_code o)) first)
-      (ap (λ (o : Outcome). kind_at (outcome_code o)) second)
-      (length-map m.history spelling ∙ (same ∙ sym (length-map n.history spelling)))
+    -- two calls that the lock keeps apart were accepted on histories of different lengths
+    apart : (m n : Made) → AreApartCalls (room_means disk clock) (call_of m) (call_of n) → AreApart m n
+    apart m n calls_apart e f first second same =
+        calls_apart (ap (λ (o : Outcome). kind_at (outcome_code o)) first)
+        (ap (λ (o : Outcome). kind_at (outcome_code o)) second)
+        (length-map m.history spelling ∙ (same ∙ sym (length-map n.history spelling)))
 
-  -- no two of the calls were accepted at one place
-  once : AllPairs AreApart calls
-  once = λ i j d earlier within.
-      apart (get_or calls i d) (get_or calls j d)
-      (pairs-unmapped (AreApartCalls (room_means disk clock)) call_of calls
-      (subst (λ (l : List Call). AllPairs (AreApartCalls (room_means disk clock)) l) turns.mine closes.once)
-      i j d earlier within)
+    -- no two of the calls were accepted at one place
+    once : AllPairs AreApart calls
+    once = λ i j d earlier within.
+        apart (get_or calls i d) (get_or calls j d)
+        (pairs-unmapped (AreApartCalls (room_means disk clock)) call_of calls
+        (subst (λ (l : List Call). AllPairs (AreApartCalls (room_means disk clock)) l) turns.mine closes.once)
+        i j d earlier within)
 
-  -- all past the opening is of these calls
-  only : HasOnlyOwn (room_means disk clock) v' after
-  only = closes.whole turns.share
+    -- all past the opening is of these calls
+    only : HasOnlyOwn (room_means disk clock) v' after
+    only = closes.whole turns.share
 
-  -- behind the history of an accepted call stands its entry
-  one_accepted : (m : Made) (e : Entry) → m.called.outcome ≡ outcome.Added e
-      → Stands (room_means disk clock) v'.fixed (spelled_all after.desk.host.history) (call_of m)
-      → IsPrefix (spelled_all m.history ++ spelling e ∷ [])
-      (spelled_all after.desk.host.history)
-  one_accepted m e is stands =
-      subst (λ (x : List ℕ). IsPrefix (spelled_all m.history ++ x ∷ []) (spelled_all after.desk.host.history))
-      (entry-code m.called ∙ ap (λ (o : Outcome). entry_of o) is)
-      (stands.entry (ap (λ (o : Outcome). kind_at (outcome_code o)) is))
+    -- behind the history of an accepted call stands its entry
+    one_accepted : (m : Made) (e : Entry) → m.called.outcome ≡ outcome.Added e
+        → Stands (room_means disk clock) v'.fixed (spelled_all after.desk.host.history) (call_of m)
+        → IsPrefix (spelled_all m.history ++ spelling e ∷ [])
+        (spelled_all after.desk.host.history)
+    one_accepted m e is stands =
+        subst (λ (x : List ℕ). IsPrefix (spelled_all m.history ++ x ∷ []) (spelled_all after.desk.host.history))
+        (entry-code m.called ∙ ap (λ (o : Outcome). entry_of o) is)
+        (stands.entry (ap (λ (o : Outcome). kind_at (outcome_code o)) is))
 
-  -- the history is the room's, and these entries behind it
-  grown : spelled_all after.desk.host.history ≡ spelled_all room.desk.host.history ++ only.later
-  grown = only.history ∙ ap (λ (h : History). h ++ only.later) turns.same.opening
+    -- the history is the room's, and these entries behind it
+    grown : spelled_all after.desk.host.history ≡ spelled_all room.desk.host.history ++ only.later
+    grown = only.history ∙ ap (λ (h : History). h ++ only.later) turns.same.opening
 
-  -- so it is longer by their number
-  longer : length after.desk.host.history ≡ length room.desk.host.history + length only.later
-  longer =
-      omega (
-        arith,
-        ap (λ (h : History). length h) grown,
-        length-append (spelled_all room.desk.host.history) only.later,
-        length-map room.desk.host.history spelling,
-        length-map after.desk.host.history spelling,
-      )
+    -- so it is longer by their number
+    longer : length after.desk.host.history ≡ length room.desk.host.history + length only.later
+    longer =
+        omega (
+          arith,
+          ap (λ (h : History). length h) grown,
+          length-append (spelled_all room.desk.host.history) only.later,
+          length-map room.desk.host.history spelling,
+          length-map after.desk.host.history spelling,
+        )
 
-  -- the history isn't shorter
-  pub not_shorter : length room.desk.host.history ≤ length after.desk.host.history
-  not_shorter = omega (arith, longer)
+    -- the history isn't shorter
+    pub not_shorter : length room.desk.host.history ≤ length after.desk.host.history
+    not_shorter = omega (arith, longer)
 
-  -- the gates were served over the room
-  pub serves_all : (accepted : ℕ) → accepted ≡ length after.desk.host.history - length room.desk.host.history
-      → ServesAll disk clock gate source sink room olds after news served accepted failed
-  serves_all accepted is = record {
-    runs = turns.runs;
-    are_runs = AreRuns-house _ (house_of disk clock room) (operator-house disk clock room)
-        (moments-house disk clock room) gate source sink olds news turns.runs turns.are_runs;
-    history = record {
-      later = only.later;
-      grown = grown;
-      entries = λ k d within. any_made _ (only.entries k d within);
-      doubted = λ k d within. any_made _ (only.doubt k d within);
-      answered = λ k d within. IsAnswered-house _ (house_of disk clock room) (operator-house disk clock room)
-          (moments-house disk clock room) _ _ _ _ (turns.answered k d within);
-      begins = turns.begin;
-      prefixes = λ k d within. (stand k d within).prefix;
-      accepted = λ k d within e is. one_accepted (get_or calls k d) e is (stand k d within);
-      once = once;
-      counts = λ k d within. let one = counts k d within in
-          (omega (arith, one.least, turns.same.opening_faults), one.rising, one.most);
-    };
-    served_is = turns.counted;
-    accepted_is = omega (arith, is, longer);
-    failed_is = turns.failed_is;
-    same = same-start disk clock room after (closes.fixed ∙ turns.same.fixed);
-  }
+    -- the gates were served over the room
+    pub serves_all : (accepted : ℕ) → accepted ≡ length after.desk.host.history - length room.desk.host.history
+        → ServesAll disk clock gate source sink room olds after news served accepted failed
+    serves_all accepted is = record {
+      runs = turns.runs;
+      are_runs = AreRuns-house _ (house_of disk clock room) (operator-house disk clock room)
+          (moments-house disk clock room) gate source sink olds news turns.runs turns.are_runs;
+      history = record {
+        later = only.later;
+        grown = grown;
+        entries = λ k d within. any_made _ (only.entries k d within);
+        doubted = λ k d within. any_made _ (only.doubt k d within);
+        answered = λ k d within. IsAnswered-house _ (house_of disk clock room) (operator-house disk clock room)
+            (moments-house disk clock room) _ _ _ _ (turns.answered k d within);
+        begins = turns.begin;
+        prefixes = λ k d within. (stand k d within).prefix;
+        accepted = λ k d within e is. one_accepted (get_or calls k d) e is (stand k d within);
+        once = once;
+        counts = λ k d within. let one = counts k d within in
+            (omega (arith, one.least, turns.same.opening_faults), one.rising, one.most);
+      };
+      served_is = turns.counted;
+      accepted_is = omega (arith, is, longer);
+      failed_is = turns.failed_is;
+      same = same-start disk clock room after (closes.fixed ∙ turns.same.fixed);
+    }

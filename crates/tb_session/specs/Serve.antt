@@ -40,21 +40,21 @@ abbrev pub some_failed : {K : Type 0} → List (Run K) → Bool
 some_failed runs = list_any (λ run. run.failed) runs
 
 module _ {G K : Type 0} (gate : G → GateState K) (source : K → SourceState) (sink : K → SinkState) (fixed : List ℕ)
-    where
-  -- A gate gave these links, each was served, and their calls are turns along which the histories grow and the counts
-  -- rise. It gave all that it had, or failed, and its count of faults rose.
-  pub record IsRun (old new : G) (run : Run K) : Type 0 where
-    pub passed : Passed (gate old) (gate new) run.links
-    pub sessions : All (IsServed source sink fixed) run.links
-    pub order : AreTurns (calls_of_links run.links)
-    pub fault : run.failed ≡ true → Rose (gate old).faults (gate new).faults
-    pub finished : run.failed ≡ false → IfSome (gate new).left (λ left. left ≡ [])
+  where
+    -- A gate gave these links, each was served, and their calls are turns along which the histories grow and the counts
+    -- rise. It gave all that it had, or failed, and its count of faults rose.
+    pub record IsRun (old new : G) (run : Run K) : Type 0 where
+      pub passed : Passed (gate old) (gate new) run.links
+      pub sessions : All (IsServed source sink fixed) run.links
+      pub order : AreTurns (calls_of_links run.links)
+      pub fault : run.failed ≡ true → Rose (gate old).faults (gate new).faults
+      pub finished : run.failed ≡ false → IfSome (gate new).left (λ left. left ≡ [])
 
-  -- the same of each gate, in their order
-  abbrev pub AreRuns : List G → List G → List (Run K) → Type 0
-  AreRuns [] [] [] = Unit {0}
-  AreRuns (old ∷ olds) (new ∷ news) (run ∷ runs) = IsRun old new run × AreRuns olds news runs
-  AreRuns _ _ _ = ⊥
+    -- the same of each gate, in their order
+    abbrev pub AreRuns : List G → List G → List (Run K) → Type 0
+    AreRuns [] [] [] = Unit {0}
+    AreRuns (old ∷ olds) (new ∷ news) (run ∷ runs) = IsRun old new run × AreRuns olds news runs
+    AreRuns _ _ _ = ⊥
 
 -- the call may have made the entry: it was accepted with it, or met a fault
 abbrev pub MayHaveMade : List ℕ → Made → Type 0

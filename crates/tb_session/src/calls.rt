@@ -8,6 +8,7 @@ ghost use Rattle.tb_history.specs.Legal.{IsLegal, running};
 ghost use Rattle.tb_desk.specs.Desks.{held};
 ghost use Rattle.tb_desk.specs.Stands.{CrashesLeave};
 ghost use Rattle.tb_desk.specs.Turn.{IsOneOf};
+ghost use Rattle.tb_session.specs.declared.answer.Answer.TheVariants as answer;
 ghost use Rattle.tb_session.specs.declared.called.Called.{Called};
 ghost use Rattle.tb_session.specs.declared.called.Ask.TheVariants as ask;
 ghost use Rattle.tb_session.specs.Calls.{TellsUnknown, caller_on, fault_for};
@@ -36,11 +37,13 @@ impl<D: Disk, C: Clock> Room<D, C> {
     }
 
     /// Answers a message of the key's caller, at a reading of the clock. An unknown key is refused before memory is
-    /// taken.
+    /// taken, and where memory runs out nothing changed.
     pub fn submit(&mut self, key: &Key, number: u64, message: &Message) -> Answer
         requires numbered { IsNumbered number message.now }
         ensures calls { (c : Called) × (c.key ≡ key.now) × (c.ask ≡ ask.Message number message.now)
             × Calls D.disk C.clock self.old self.new c result }
+        ensures lacked { result ≡ answer.OutOfMemory → (self.new.desk.host.history ≡ self.old.desk.host.history)
+            × (self.new.desk.doubt ≡ self.old.desk.doubt) }
         ensures unknown { TellsUnknown (caller_on self.old.operator self.old.desk.host.history key.now) result }
     {
         let Turn {
@@ -138,6 +141,8 @@ impl<D: Disk, C: Clock> Room<D, C> {
         ensures crash { CrashesLeave (IsOneOf (held self.old.desk) (held self.new.desk)) (D.disk self.old.desk.disk)
             (D.disk self.new.desk.disk) }
         ensures printable { CanBeTold result.1 }
+        ensures lacked { result.1 ≡ answer.OutOfMemory → (self.new.desk.host.history ≡ self.old.desk.host.history)
+            × (self.new.desk.doubt ≡ self.old.desk.doubt) }
         ensures unknown { TellsUnknown (caller_on self.old.operator self.old.desk.host.history key.now) result.1 }
     {
         self.know_desk();
@@ -167,6 +172,8 @@ impl<D: Disk, C: Clock> Room<D, C> {
         ensures calls { Calls D.disk C.clock self.old self.new result.called result.answer }
         ensures before { result.before ≡ before_of result.called.outcome self.new.desk.host.history }
         ensures asked { (result.called.key ≡ key.now) × (result.called.ask ≡ ask.Message number message.now) }
+        ensures lacked { result.answer ≡ answer.OutOfMemory → (self.new.desk.host.history ≡ self.old.desk.host.history)
+            × (self.new.desk.doubt ≡ self.old.desk.doubt) }
         ensures unknown { TellsUnknown (caller_on self.old.operator self.old.desk.host.history key.now) result.answer }
     {
         let moment = self.clock.now();

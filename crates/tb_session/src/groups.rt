@@ -6,6 +6,7 @@ ghost use Rattle.tb_units.specs.declared.moment.Moment.{Moment};
 ghost use Rattle.tb_desk.specs.Desks.{held};
 ghost use Rattle.tb_desk.specs.Stands.{CrashesLeave};
 ghost use Rattle.tb_desk.specs.Turn.{AreBids, AreNumbered, IsOneOf};
+ghost use Rattle.tb_session.specs.declared.answer.GroupAnswer.TheVariants as group;
 ghost use Rattle.tb_session.specs.declared.groups.Grouped.TheVariants as grouped;
 ghost use Rattle.tb_session.specs.Calls.{caller_on};
 ghost use Rattle.tb_session.specs.Groups as spec;
@@ -71,6 +72,8 @@ impl<D: Disk, C: Clock> Room<D, C> {
             × CallsTogether D.disk C.clock self.old self.new key.now messages.now moment replied
             × TellsGroup result verdicts.new (said_in replied)
             × TellUnknown (caller_on self.old.operator self.old.desk.host.history key.now) replied }
+        ensures lacked { result ≡ group.OutOfMemory → (self.new.desk.host.history ≡ self.old.desk.host.history)
+            × (self.new.desk.doubt ≡ self.old.desk.doubt) }
     {
         let (_moment, came) = self.group(key, messages, verdicts);
         group_answer(came)

@@ -1,7 +1,17 @@
 -- A group is told by how it came out.
-use Rattle.std.proofs.Common.{sym, subst}
-use Rattle.tb_session.specs.Groups.{TellsGroup, replied_by, said_in}
+use Rattle.std.proofs.Common.{◌≡◌, ◌∙◌, refl, sym, subst}
+use Rattle.tb_session.specs.declared.answer.GroupAnswer.TheVariants as group
+use Rattle.tb_session.specs.declared.groups.Grouped.{Grouped}
+use Rattle.tb_session.specs.declared.groups.Grouped.TheVariants as grouped
+use Rattle.tb_session.specs.Groups.{TellsGroup, answer_of, replied_by, said_in}
 use Rattle.tb_session.proofs.room.Room.submit_group.Goals as goal
+
+-- want of memory is answered only where it was met
+lacks : (came : Grouped) → answer_of came ≡ group.OutOfMemory → came ≡ grouped.Lacked
+lacks grouped.Unknown is = absurd (cc)
+lacks (grouped.Told caller) is = absurd (cc)
+lacks (grouped.Doubted caller moment) is = absurd (cc)
+lacks grouped.Lacked is = refl
 
 pub returns : goal.returns
 returns g c =
@@ -16,4 +26,5 @@ returns g c =
             c.group-came.ensures.tells,
         c.group-came.ensures.unknown,
       );
+      lacked = λ is. c.group-came.ensures.lacked (lacks c.group-came.result.1 (sym c.group_answer.ensures ∙ is));
     }
