@@ -22,6 +22,7 @@ use Rattle.tb_lock.specs.declared.view.View.{View}
 use Rattle.tb_session.specs.declared.answer.Answer.{Answer}
 use Rattle.tb_session.specs.declared.answer.Answer.TheVariants as answer
 use Rattle.tb_session.specs.declared.answer.GroupAnswer.{GroupAnswer}
+use Rattle.tb_session.specs.declared.answer.GroupAnswer.TheVariants as group
 use Rattle.tb_session.specs.declared.write.Unsent.{Unsent}
 use Rattle.tb_session.specs.declared.write.Unsent.TheVariants as unsent
 use Rattle.tb_session.specs.declared.called.Ask.{Ask}
@@ -32,7 +33,7 @@ use Rattle.tb_session.specs.Gains.{AreBeside, AreBidsOfOne, BecameCalls, Gains, 
 use Rattle.tb_session.specs.Replies.{reply_text, IsTold}
 use Rattle.tb_session.specs.Rows.{AreInRow, FailsAt, IsBidRequest, replies_to}
 use Rattle.tb_session.specs.CodeLaws.{get_or-map}
-use Rattle.tb_session.specs.Groups.{answer_at, answers_at}
+use Rattle.tb_session.specs.Groups.{GainsGroup, answer_at, answers_at}
 use Rattle.tb_session.specs.Turned.{CanBeTold}
 use Rattle.tb_session.specs.Serving.{Fails, Sends, ServesOn}
 use Rattle.tb_session.specs.Session.{AreCut, Asks, Becomes, Exchange, IsExchange, LetsGoOn, ServesLink, ShareTurn, body_of, calls_in, closes_at, most_turns, replies_of, reply_of}
@@ -457,6 +458,16 @@ module _ (turns : ℕ) (k : Key) (waiting rest : List ℕ) (v0 v1 : View) (a b :
         where
           other : (n + 1 == most_turns) ≡ false
           other = grind (arith, nat_tests)
+
+-- a group that had memory shared a turn
+pub row-shared : (v0 v1 : View) (k : Key) (bids : List (ℕ × Message)) (said : GroupAnswer)
+    (places : List (Option Verdict))
+    → (said ≡ group.OutOfMemory → ⊥)
+    → GainsGroup v0 v1 k bids said places
+    → GainsTogether v0 v1 k bids (answers_at said places (length bids))
+row-shared v0 v1 k bids group.Verdicts places memory gains = gains
+row-shared v0 v1 k bids group.DiskFault places memory gains = gains
+row-shared v0 v1 k bids group.OutOfMemory places memory gains = absurd (memory refl)
 
 -- there is an answer for each bid
 pub row-counted : (count : ℕ) (k : Key) (v0 v1 : View) (bids : List (ℕ × Message)) (said : GroupAnswer)

@@ -1,10 +1,9 @@
 //! One link, from its first request to its end.
-ghost use Rattle.std.specs.Prelude.{◌≡◌, ◌≢◌, ◌+◌, ◌<◌, ◌≤◌, [], IfErr, IfOk, IfSome, IfNone, All, length};
+ghost use Rattle.std.specs.Prelude.{◌≡◌, ◌≢◌, ◌+◌, ◌<◌, ◌≤◌, [], IfErr, IfOk, All, length};
 ghost use Rattle.tb_gates.specs.Links.{link_of};
 ghost use Rattle.tb_wire.specs.declared.cutting.Cutting.TheVariants.{Whole};
 ghost use Rattle.tb_wire.specs.Front.{IsFront};
 ghost use Rattle.tb_lock.specs.Passes.{IsPassOf, IsIdle, view};
-ghost use Rattle.tb_session.specs.declared.answer.GroupAnswer.TheVariants as group;
 ghost use Rattle.tb_session.specs.Gains.{IsPlain};
 ghost use Rattle.tb_session.specs.Groups as groups;
 ghost use Rattle.tb_session.specs.Groups.{answers_at};
@@ -67,45 +66,6 @@ fn closes(request: &HttpRequest, turns: u64) -> bool
     request.close || turns + 1 == MOST_TURNS
 }
 
-// Serves the request that waits. `None` where the link goes on.
-fn serve_request<D: Disk, C: Clock, K: Link, R: Wait>(
-    rt: &R,
-    alloc: Global,
-    shared: &TurnLock<Room<D, C>>,
-    pass: &mut Pass<Room<D, C>>,
-    link: &mut K,
-    inbox: &mut Inbox,
-    request: &HttpRequest,
-    turns: u64,
-) -> Option<End>
-    requires own { IsPassOf shared.now pass.old }
-    requires idle { IsIdle pass.old }
-    requires front { IsFront inbox.old (Whole request.now) }
-    requires few { turns < most_turns }
-    ensures own { IsPassOf shared.now pass.new }
-    ensures idle { IsIdle pass.new }
-    ensures on { IfNone result (ServesOn turns 1 inbox.old (view pass.old) (view pass.new)
-        (link_of K.source K.sink link.old) (link_of K.source K.sink link.new) inbox.new) }
-    ensures ended { IfSome result (λ ended. ServesLink turns inbox.old (view pass.old) (view pass.new)
-        (link_of K.source K.sink link.old) (link_of K.source K.sink link.new) ended) }
-{
-    let answer = answer_request(rt, alloc, shared, pass, request, inbox.waiting());
-    // A request uses no more bytes than are there.
-    uses();
-    inbox.used(request.used);
-    let close = closes(request, turns);
-    match send(alloc, link, &answer, request.target, close) {
-        Ok(()) if request.close => Some(End::Asked),
-        Ok(()) if close => Some(End::Turns),
-        Ok(()) => None,
-        Err(Unsent::WriteFault) => Some(End::WriteFault),
-        Err(Unsent::OutOfMemory) => {
-            refuse_for_memory(link);
-            Some(End::OutOfMemory)
-        }
-    }
-}
-
 // Serves the request that waits, alone, and says how many were served.
 fn serve_one<D: Disk, C: Clock, K: Link, R: Wait>(
     rt: &R,
@@ -129,9 +89,20 @@ fn serve_one<D: Disk, C: Clock, K: Link, R: Wait>(
     ensures ended { IfErr result (λ ended. ServesLink turns inbox.old (view pass.old) (view pass.new)
         (link_of K.source K.sink link.old) (link_of K.source K.sink link.new) ended) }
 {
-    match serve_request(rt, alloc, shared, pass, link, inbox, request, turns) {
-        None => Ok(1),
-        Some(ended) => Err(ended),
+    let answer = answer_request(rt, alloc, shared, pass, request, inbox.waiting());
+    // A request uses no more bytes than are there.
+    uses();
+    inbox.used(request.used);
+    let close = closes(request, turns);
+    match send(alloc, link, &answer, request.target, close) {
+        Ok(()) if request.close => Err(End::Asked),
+        Ok(()) if close => Err(End::Turns),
+        Ok(()) => Ok(1),
+        Err(Unsent::WriteFault) => Err(End::WriteFault),
+        Err(Unsent::OutOfMemory) => {
+            refuse_for_memory(link);
+            Err(End::OutOfMemory)
+        }
     }
 }
 
@@ -203,16 +174,9 @@ fn serve_row<D: Disk, C: Clock, K: Link, R: Wait>(
         GroupAnswer::OutOfMemory => {
             serve_one(rt, alloc, shared, pass, link, inbox, request, turns)
         }
-        GroupAnswer::Verdicts => {
+        said => {
             inbox.used(used);
-            match reply_row(alloc, link, GroupAnswer::Verdicts, &verdicts, count) {
-                Ok(()) => Ok(count),
-                Err(_) => Err(End::WriteFault),
-            }
-        }
-        GroupAnswer::DiskFault => {
-            inbox.used(used);
-            match reply_row(alloc, link, GroupAnswer::DiskFault, &verdicts, count) {
+            match reply_row(alloc, link, said, &verdicts, count) {
                 Ok(()) => Ok(count),
                 Err(_) => Err(End::WriteFault),
             }

@@ -2,8 +2,7 @@
 use Rattle.std.proofs.Common.{arith, drop}
 use Rattle.tb_gates.specs.Links.{link_of}
 use Rattle.tb_lock.specs.Passes.{view}
-use Rattle.tb_session.specs.declared.answer.GroupAnswer.TheVariants as group
-use Rattle.tb_session.proofs.RowLemmas.{after-none-err, after-none-ok, row-bids, row-counted, row-numbered, row-plain, told-on, told-unwritten}
+use Rattle.tb_session.proofs.RowLemmas.{after-none-err, after-none-ok, row-bids, row-counted, row-numbered, row-plain, row-shared, told-on, told-unwritten}
 use Rattle.tb_session.proofs.session.serve_row.Goals as goal
 
 pub perform_group-requires-clause-bids : goal.perform_group-requires-clause-bids
@@ -32,54 +31,35 @@ returns-in-OutOfMemory-clause-ended g c =
 
 pub reply_row-requires-clause-counted : goal.reply_row-requires-clause-counted
 reply_row-requires-clause-counted g c =
+    let gains = row-shared (view c.args.pass.now) (view c.perform_group.new.pass) c.args.row.key c.args.row.bids.items
+    c.perform_group.result c.perform_group.new.verdicts c.in_default.not-OutOfMemory c.perform_group.ensures.gains in
     row-counted c.count-count.result c.args.row.key (view c.args.pass.now) (view c.perform_group.new.pass)
-    c.args.row.bids.items group.Verdicts c.perform_group.new.verdicts c.count-count.ensures c.in-Verdicts.ensures.gains
+    c.args.row.bids.items c.perform_group.result c.perform_group.new.verdicts c.count-count.ensures gains
 
 pub reply_row-requires-clause-plain : goal.reply_row-requires-clause-plain
 reply_row-requires-clause-plain g c =
+    let gains = row-shared (view c.args.pass.now) (view c.perform_group.new.pass) c.args.row.key c.args.row.bids.items
+    c.perform_group.result c.perform_group.new.verdicts c.in_default.not-OutOfMemory c.perform_group.ensures.gains in
     row-plain c.count-count.result c.args.row.key (view c.args.pass.now) (view c.perform_group.new.pass)
-    c.args.row.bids.items group.Verdicts c.perform_group.new.verdicts c.count-count.ensures c.in-Verdicts.ensures.gains
+    c.args.row.bids.items c.perform_group.result c.perform_group.new.verdicts c.count-count.ensures gains
 
 pub returns-in-Ok-clause-on : goal.returns-in-Ok-clause-on
 returns-in-Ok-clause-on g c =
+    let gains = row-shared (view c.args.pass.now) (view c.perform_group.new.pass) c.args.row.key c.args.row.bids.items
+    c.perform_group.result c.perform_group.new.verdicts c.in_default.not-OutOfMemory c.perform_group.ensures.gains in
     told-on c.args.turns c.count-count.result c.args.row.key c.args.inbox.now (drop c.args.row.used c.args.inbox.now)
     (view c.args.pass.now) (view c.perform_group.new.pass) (link_of g.K.Source.source g.K.Sink.sink c.args.link.now)
     (link_of g.K.Source.source g.K.Sink.sink c.reply_row.new.link) c.requires.row.requests c.args.row.bids.items
-    group.Verdicts c.perform_group.new.verdicts c.requires.row.are c.count-count.ensures c.in-Verdicts.ensures.gains c.requires.few
+    c.perform_group.result c.perform_group.new.verdicts c.requires.row.are c.count-count.ensures gains c.requires.few
     c.used.new.self c.used.ensures c.in-Ok.ensures
-
-pub returns-in-Verdicts-clause-ended : goal.returns-in-Verdicts-clause-ended
-returns-in-Verdicts-clause-ended g c =
-    told-unwritten c.args.turns c.count-count.result c.args.row.key c.args.inbox.now
-    (drop c.args.row.used c.args.inbox.now) (view c.args.pass.now) (view c.perform_group.new.pass)
-    (link_of g.K.Source.source g.K.Sink.sink c.args.link.now)
-    (link_of g.K.Source.source g.K.Sink.sink c.reply_row.new.link) c.requires.row.requests c.args.row.bids.items
-    group.Verdicts c.perform_group.new.verdicts c.requires.row.are c.count-count.ensures c.in-Verdicts.ensures.gains c.requires.few
-    c.in-Err.field-0 c.in-Err.ensures
-
-pub reply_row-requires-in-DiskFault-clause-counted : goal.reply_row-requires-in-DiskFault-clause-counted
-reply_row-requires-in-DiskFault-clause-counted g c =
-    row-counted c.count-count.result c.args.row.key (view c.args.pass.now) (view c.perform_group.new.pass)
-    c.args.row.bids.items group.DiskFault c.perform_group.new.verdicts c.count-count.ensures c.in-DiskFault.ensures.gains
-
-pub reply_row-requires-in-DiskFault-clause-plain : goal.reply_row-requires-in-DiskFault-clause-plain
-reply_row-requires-in-DiskFault-clause-plain g c =
-    row-plain c.count-count.result c.args.row.key (view c.args.pass.now) (view c.perform_group.new.pass)
-    c.args.row.bids.items group.DiskFault c.perform_group.new.verdicts c.count-count.ensures c.in-DiskFault.ensures.gains
-
-pub returns-in-Ok-reply_row-clause-on : goal.returns-in-Ok-reply_row-clause-on
-returns-in-Ok-reply_row-clause-on g c =
-    told-on c.args.turns c.count-count.result c.args.row.key c.args.inbox.now (drop c.args.row.used c.args.inbox.now)
-    (view c.args.pass.now) (view c.perform_group.new.pass) (link_of g.K.Source.source g.K.Sink.sink c.args.link.now)
-    (link_of g.K.Source.source g.K.Sink.sink c.reply_row-in-DiskFault.new.link) c.requires.row.requests c.args.row.bids.items
-    group.DiskFault c.perform_group.new.verdicts c.requires.row.are c.count-count.ensures c.in-DiskFault.ensures.gains c.requires.few
-    c.used-in-DiskFault.new.self c.used-in-DiskFault.ensures c.in-Ok-reply_row.ensures
 
 pub returns-clause-ended : goal.returns-clause-ended
 returns-clause-ended g c =
+    let gains = row-shared (view c.args.pass.now) (view c.perform_group.new.pass) c.args.row.key c.args.row.bids.items
+    c.perform_group.result c.perform_group.new.verdicts c.in_default.not-OutOfMemory c.perform_group.ensures.gains in
     told-unwritten c.args.turns c.count-count.result c.args.row.key c.args.inbox.now
     (drop c.args.row.used c.args.inbox.now) (view c.args.pass.now) (view c.perform_group.new.pass)
     (link_of g.K.Source.source g.K.Sink.sink c.args.link.now)
-    (link_of g.K.Source.source g.K.Sink.sink c.reply_row-in-DiskFault.new.link) c.requires.row.requests c.args.row.bids.items
-    group.DiskFault c.perform_group.new.verdicts c.requires.row.are c.count-count.ensures c.in-DiskFault.ensures.gains c.requires.few
-    c.in-Err-reply_row.field-0 c.in-Err-reply_row.ensures
+    (link_of g.K.Source.source g.K.Sink.sink c.reply_row.new.link) c.requires.row.requests c.args.row.bids.items
+    c.perform_group.result c.perform_group.new.verdicts c.requires.row.are c.count-count.ensures gains c.requires.few
+    c.in-Err.field-0 c.in-Err.ensures

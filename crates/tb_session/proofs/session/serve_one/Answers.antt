@@ -9,7 +9,7 @@ use Rattle.tb_session.specs.Replies.{reply_text}
 use Rattle.tb_session.specs.Serving.{Answers, ServesOn}
 use Rattle.tb_session.proofs.SessionLemmas.{one-on, one-asked, one-turns, one-unwritten, one-lacking}
 use Rattle.tb_session.proofs.WriteLemmas.{unsent-fails, unsent-lacks, unsent-may}
-use Rattle.tb_session.proofs.session.serve_request.Goals as goal
+use Rattle.tb_session.proofs.session.serve_one.Goals as goal
 
 -- the request at the front of the same bytes was answered
 answers-at : (v0 v1 : View) (r : HttpRequest) (seen waiting : List ℕ) (said : Answer) → seen ≡ waiting
