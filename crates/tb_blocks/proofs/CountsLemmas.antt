@@ -3,7 +3,7 @@ use Rattle.std.proofs.Common.{◌≡◌, ℕ, zero, suc, ◌+◌, ◌*◌, ◌/�
 use Rattle.std.proofs.lemmas.Bool.{cases_order}
 use Rattle.std.proofs.lemmas.List.{get_or_default}
 use Rattle.std.proofs.lemmas.List.Sums.{sum_by-cons, sum_by-set}
-use Rattle.tb_blocks.specs.Sizes.{block_size, group_size, progress, full_of}
+use Rattle.tb_blocks.specs.Sizes.{block_size, group_size, most_blocks, progress, full_of}
 use Rattle.tb_blocks.specs.Rows.{joined, before, AreCounts, AreRows, IsRaised}
 use Rattle.tb_blocks.proofs.RowsLemmas.{block-is, small-set}
 use Rattle.tb_blocks.proofs.BeforeLemmas.{before-le, before-mono, before-set_below, before-set_above, joined-small}
@@ -29,17 +29,17 @@ start-read groups starts blocks at group start rows some group_is start_is =
 
 -- the numbers are small
 pub joined-fits : {X : Type 0} (groups starts : List ℕ) (blocks : List (List X)) → AreRows groups starts blocks
-    → length (joined blocks) ≤ 4398046511104
+    → length (joined blocks) ≤ block_size * most_blocks
 joined-fits groups starts blocks rows = omega (arith, joined-small blocks rows.small, rows.few)
 
 -- so is what stands before a block
 pub before-fits : {X : Type 0} (groups starts : List ℕ) (blocks : List (List X)) (at : ℕ)
-    → AreRows groups starts blocks → before at blocks ≤ 4398046511104
+    → AreRows groups starts blocks → before at blocks ≤ block_size * most_blocks
 before-fits groups starts blocks at rows = omega (arith, before-le blocks at, joined-fits groups starts blocks rows)
 
 -- so are those of blocks within their groups
 pub starts-fit : {X : Type 0} (groups starts : List ℕ) (blocks : List (List X)) (at : ℕ)
-    → AreRows groups starts blocks → at < length starts → get_or starts at 0 ≤ 4398046511104
+    → AreRows groups starts blocks → at < length starts → get_or starts at 0 ≤ block_size * most_blocks
 starts-fit groups starts blocks at rows some =
     omega (
       arith,
@@ -49,7 +49,7 @@ starts-fit groups starts blocks at rows some =
 
 -- so are those of groups
 pub groups-fit : {X : Type 0} (groups starts : List ℕ) (blocks : List (List X)) (at : ℕ)
-    → AreRows groups starts blocks → at < length groups → get_or groups at 0 ≤ 4398046511104
+    → AreRows groups starts blocks → at < length groups → get_or groups at 0 ≤ block_size * most_blocks
 groups-fit groups starts blocks at rows some =
     omega (arith, rows.counted.by_group at some, before-fits groups starts blocks (group_size * at) rows)
 

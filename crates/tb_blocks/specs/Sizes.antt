@@ -3,11 +3,11 @@ use Rattle.std.specs.Prelude.{ℕ, ◌+◌, ◌-◌, List, length, sum_by}
 
 -- the most elements of a block
 abbrev pub block_size : ℕ
-block_size = 1024
+block_size = 256
 
 -- the elements that a full block keeps when it is split
 abbrev pub half_size : ℕ
-half_size = 512
+half_size = 128
 
 -- the blocks of a group
 abbrev pub group_size : ℕ

@@ -8,10 +8,10 @@ use std::marker::Model;
 use std::mem;
 
 /// The most elements of a block.
-pub const BLOCK: usize = 1024;
+pub const BLOCK: usize = 256;
 
 /// The elements that a full block keeps when it is split.
-pub const HALF: usize = 512;
+pub const HALF: usize = 128;
 
 /// A block. Contracts see the list of its elements.
 #[derive(Drop)]

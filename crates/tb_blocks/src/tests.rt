@@ -196,24 +196,24 @@ fn blocks_for(alloc: Global, elements: u64, more: usize) -> Result<usize, Fail> 
 
 #[test]
 fn no_more_blocks_are_taken_than_the_adds_can_need(rt: HostRuntime) -> Result<(), Fail> {
-    // The first split comes when a block of 1,024 is full, each further one 512 adds later at the soonest.
+    // The first split comes when a block of 256 is full, each further one 128 adds later at the soonest.
     for (elements, more, blocks) in [
         (0, 1, 1),
-        (0, 1024, 1),
-        (0, 1025, 2),
-        (0, 1536, 2),
-        (0, 1537, 3),
-        (600, 424, 1),
-        (600, 425, 2),
-        (600, 936, 2),
-        (600, 937, 3),
-        (1024, 1, 2),
-        (1024, 512, 2),
-        (1024, 513, 3),
+        (0, 256, 1),
+        (0, 257, 2),
+        (0, 384, 2),
+        (0, 385, 3),
+        (150, 106, 1),
+        (150, 107, 2),
+        (150, 234, 2),
+        (150, 235, 3),
+        (256, 1, 2),
+        (256, 128, 2),
+        (256, 129, 3),
         // Two blocks, of which one is full and the other has one element, so that only the one is near its split.
-        (1025, 1, 3),
-        (1025, 512, 3),
-        (1025, 513, 4),
+        (257, 1, 3),
+        (257, 128, 3),
+        (257, 129, 4),
     ] {
         assert_eq!(rt;
             blocks_for(rt.alloc(), elements, more)?,
@@ -228,7 +228,7 @@ fn no_more_blocks_are_taken_than_the_adds_can_need(rt: HostRuntime) -> Result<()
 fn rising_and_falling_elements_fill_their_blocks(rt: HostRuntime) -> Result<(), Fail> {
     for rising in [true, false] {
         let mut list = Large::new(rt.alloc())?;
-        for element in 0..10_240u64 {
+        for element in 0..2_560u64 {
             list.reserve(1)?;
             let place = if rising { list.len() } else { 0 };
             list.insert(place, element);
