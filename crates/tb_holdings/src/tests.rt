@@ -145,6 +145,24 @@ fn a_stranger_is_refused_before_too_much_is(rt: HostRuntime) -> Result<(), Fail>
 }
 
 #[test]
+fn what_a_holder_holds_comes_in_the_order_of_securities(rt: HostRuntime) -> Result<(), Fail> {
+    let mut book = Accounts::new(rt.alloc());
+    book.reserve(4, 0, 0)?;
+    book.credit(1, 7, dollars(1000));
+    book.credit(1, 3, dollars(500));
+    book.credit(2, 5, dollars(200));
+    assert_eq!(rt; book.next_held(1, 0), Some(3));
+    assert_eq!(rt; book.next_held(1, 3), Some(3));
+    // What holder 2 holds of security 5 is passed over.
+    assert_eq!(rt; book.next_held(1, 4), Some(7));
+    assert_eq!(rt; book.next_held(1, 8), None);
+    assert_eq!(rt; book.transfer(1, 2, 3, dollars(500)), Ok(()));
+    assert_eq!(rt; book.next_held(1, 0), Some(7));
+    assert_eq!(rt; book.next_held(2, 0), Some(3));
+    Ok(())
+}
+
+#[test]
 fn all_that_may_be_held_is_credited(rt: HostRuntime) -> Result<(), Fail> {
     limits();
     let most = dollars(10_000_000_000_000_000_000_000);
