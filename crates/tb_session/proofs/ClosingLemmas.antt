@@ -92,7 +92,8 @@ module _ {D C G K : Type 0} (disk : D → DiskState) (clock : C → ClockState) 
     stand : All (λ m. Stands (room_means disk clock) v'.fixed (spelled_all after.desk.host.history) (call_of m)) calls
     stand =
         all-unmapped (Stands (room_means disk clock) v'.fixed (spelled_all after.desk.host.history)) call_of calls
-        (subst (λ (l : List Call). All (Stands (room_means disk clock) v'.fixed (spelled_all after.desk.host.history)) l)
+        (subst (λ (l : List Call).
+        All (Stands (room_means disk clock) v'.fixed (spelled_all after.desk.host.history)) l)
         turns.mine closes.stand)
 
     -- its counts of faults lie between the opening's and the last

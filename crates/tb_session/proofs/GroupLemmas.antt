@@ -1,8 +1,8 @@
 -- The calls of a group, each answered on what the calls before it left.
 use Rattle.std.proofs.Common.{◌≡◌, ℕ, ◌+◌, ◌-◌, ◌≤◌, ◌<◌, ◌⊎◌, inl, inr, max, set, suc, Option, Some, None, List, [], ◌∷◌, ◌++◌, length, map, replicate, refl, sym, ◌∙◌, ap, subst, arith, append_assoc}
-use Rattle.std.specs.Prelude.{All, Any, true}
+use Rattle.std.specs.Prelude.{All, true}
 use Rattle.std.proofs.lemmas.List.{append-nil, length-map, length-replicate, map_push, replicate_more, set_at}
-use Rattle.std.proofs.lemmas.List.Elements.{All-nil, All-cons, All-head, All-tail, All-append, All-weaker}
+use Rattle.std.proofs.lemmas.List.Elements.{All-nil, All-cons, All-head, All-tail}
 use Rattle.tb_units.specs.declared.moment.Moment.{Moment}
 use Rattle.tb_units.specs.Moments.{moment_of, moment_of-seconds}
 use Rattle.tb_units.specs.Names.{is_name}
@@ -22,7 +22,6 @@ use Rattle.tb_history.proofs.HistoryLemmas.{last_of-push, running-seconds}
 use Rattle.tb_desk.specs.Turn.{Held, Asked, Replies, IsTurn, Turns, AreNumbered, added_by as added_as, added as added_on, verdicts_on, group_on, group}
 use Rattle.tb_desk.specs.declared.reply.GroupReply.TheVariants as reply
 use Rattle.tb_desk.specs.Desks.{CountsFault, Tells as DeskTells}
-use Rattle.tb_lock.proofs.PrefixLemmas.{any-first, any-later}
 use Rattle.tb_session.specs.declared.answer.Answer.{Answer}
 use Rattle.tb_session.specs.declared.answer.Answer.TheVariants as answer
 use Rattle.tb_session.specs.declared.answer.GroupAnswer.TheVariants as told
@@ -30,7 +29,7 @@ use Rattle.tb_session.specs.declared.called.Ask.TheVariants as ask
 use Rattle.tb_session.specs.declared.groups.Grouped.{Grouped}
 use Rattle.tb_session.specs.declared.groups.Grouped.TheVariants as grouped
 use Rattle.tb_session.specs.Calls.{caller_on, refused, Faulted, Tells, TellsUnknown}
-use Rattle.tb_session.specs.Groups.{Replied, said_in, added_in, IsReplied, AreReplied, MayHaveLeft, LeaveDoubt, DoTogether, AreCallsOf, TellsGroup, TellUnknown, replied_in, replied_by}
+use Rattle.tb_session.specs.Groups.{Replied, said_in, added_in, IsReplied, AreReplied, in_doubt, LeaveDoubt, DoTogether, AreCallsOf, TellsGroup, TellUnknown, replied_in, replied_by}
 use Rattle.tb_session.specs.Turned.{added_by, outcome_by}
 use Rattle.tb_session.proofs.CallerLemmas.{caller_on-append, repeat-is, accepted-is}
 use Rattle.tb_session.proofs.DoesLemmas.{held-same, tells-verdict, moment-in_range, tells-known, tells-unknown, faulted}
@@ -303,40 +302,16 @@ module _ (operator : List ℕ) (k : Key) (caller : List ℕ) (moment ran : Momen
   doubted-said (asked ∷ messages) (place ∷ places) =
       All-cons (λ (a : Answer). a ≡ answer.DiskFault) answer.DiskFault _ refl (doubted-said messages places)
 
-  -- the entry of the first bid, where it is one of the group
-  left-first : (asked : ℕ × Message) (place : Option Verdict) (others : List Replied) (said : Verdict)
-      → All (λ e. Any (MayHaveLeft e) (replied_in k moment doubted asked place ∷ others))
-      (added_as caller ran asked said)
-  left-first asked place others (verdict.Accepted n m) =
-      All-cons (λ (e : Entry). Any (MayHaveLeft e) (replied_in k moment doubted asked place ∷ others)) _ []
-      (any-first _ (replied_in k moment doubted asked place) others refl) (All-nil _)
-  left-first asked place others (verdict.Repeat n m) = All-nil _
-  left-first asked place others (verdict.Refused why) = All-nil _
-
-  -- the entries of a group with one bid more in front are of these bids
-  left-more : (asked : ℕ × Message) (place : Option Verdict) (others : List Replied) (said : Verdict)
-      (group : List Entry)
-      → All (λ e. Any (MayHaveLeft e) others) group
-      → All (λ e. Any (MayHaveLeft e) (replied_in k moment doubted asked place ∷ others))
-      (added_as caller ran asked said ++ group)
-  left-more asked place others said group all =
-      let Left : Entry → Type 0 =
-      λ (e : Entry). Any (MayHaveLeft e) (replied_in k moment doubted asked place ∷ others) in
-      All-append Left (added_as caller ran asked said) group (left-first asked place others said)
-      (All-weaker (λ (e : Entry). Any (MayHaveLeft e) others) Left
-      (λ e any. any-later (MayHaveLeft e) _ others any) group all)
-
-  -- what is in doubt is of these bids
-  pub all-left : (messages : List (ℕ × Message)) (places : List (Option Verdict)) (history : List Entry)
-      → All (λ e. Any (MayHaveLeft e) (replied_by k moment doubted messages places))
-      (group_on history caller ran messages)
-  all-left [] places history = All-nil _
-  all-left (asked ∷ messages) [] history =
-      left-more asked None _ (verdict_on history caller asked.0 ran asked.1) _
-      (all-left messages [] (history ++ added_on history caller ran asked))
-  all-left (asked ∷ messages) (place ∷ places) history =
-      left-more asked place _ (verdict_on history caller asked.0 ran asked.1) _
-      (all-left messages places (history ++ added_on history caller ran asked))
+  -- what they would add is the group of the desk
+  pub doubted-group : (messages : List (ℕ × Message)) (places : List (Option Verdict)) (history : List Entry)
+      → in_doubt history (replied_by k moment doubted messages places) ≡ group_on history caller ran messages
+  doubted-group [] places history = refl
+  doubted-group (asked ∷ messages) [] history =
+      ap (λ (l : List Entry). added_on history caller ran asked ++ l)
+      (doubted-group messages [] (history ++ added_on history caller ran asked))
+  doubted-group (asked ∷ messages) (place ∷ places) history =
+      ap (λ (l : List Entry). added_on history caller ran asked ++ l)
+      (doubted-group messages places (history ++ added_on history caller ran asked))
 
   -- and none is told that the key is unknown
   pub doubted-known : (messages : List (ℕ × Message)) (places : List (Option Verdict)) (asks : Option (List ℕ))
@@ -633,7 +608,7 @@ module _ (operator : List ℕ) (k : Key) (caller : List ℕ) (moment : Moment) (
       faults = faulted low high counts limited
 
       done : (at : List Entry) → (at ≡ old.history) ⊎ (at ≡ old.history ++ old.doubt) → new.history ≡ at → IsLegal at
-          → LeaveDoubt old new (replied_by k moment (grouped.Doubted caller ran) messages places)
+          → LeaveDoubt old new at (replied_by k moment (grouped.Doubted caller ran) messages places)
           → DoTogether operator old new low high (replied_by k moment (grouped.Doubted caller ran) messages places)
       done at settled is legal doubt = record {
         at = at;
@@ -657,10 +632,8 @@ module _ (operator : List ℕ) (k : Key) (caller : List ℕ) (moment : Moment) (
       go (inr (resolves, inr left)) =
           let is : ran ≡ running turns.at moment = runs ∙ ap (λ (l : List Entry). running l moment) left.same in
           done turns.at resolves.0 left.same turns.legal
-          (inr (inr (subst (λ (l : List Entry). All
-          (λ e. Any (MayHaveLeft e) (replied_by k moment (grouped.Doubted caller ran) messages places)) l)
-          (sym (left.unsure ∙ ap (λ (t : Moment). group_on turns.at caller t messages) (sym is)))
-          (all-left operator k caller moment ran messages places turns.at))))
+          (inr (inr (left.unsure ∙ (ap (λ (t : Moment). group_on turns.at caller t messages) (sym is)
+          ∙ sym (doubted-group operator k caller moment ran messages places turns.at)))))
 
   -- what the desk answered with verdicts is such a group
   pub group-told : (places : List (Option Verdict)) (replies : Replies)

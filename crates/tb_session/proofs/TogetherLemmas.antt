@@ -1,14 +1,18 @@
 -- A turn with several calls of one gate: what the lock has to be shown at its end, and what the pass gains by it.
-use Rattle.std.proofs.Common.{◌≡◌, ℕ, zero, suc, ◌-◌, ◌≤◌, ◌<◌, get_or, List, [], ◌∷◌, ◌++◌, length, map, Option, refl, sym, ap, ◌∙◌, subst, inl, inr, ⊎_elim, arith, append_assoc, length-append}
+use Rattle.std.proofs.Common.{◌≡◌, ℕ, ◌-◌, ◌≤◌, get_or, List, [], ◌∷◌, ◌++◌, length, map, Option, refl, sym, ap, ◌∙◌, subst, inl, inr, ⊎_elim, arith, append_assoc, length-append}
 use Rattle.std.specs.Prelude.{All, Any}
 use Rattle.std.proofs.lemmas.List.{append-nil, length-map}
-use Rattle.std.proofs.lemmas.List.Elements.{All-nil, All-cons, All-head, All-tail, All-weaker}
+use Rattle.std.proofs.lemmas.List.Elements.{All-nil, All-cons, All-head, All-tail, All-append, All-weaker}
 use Rattle.std.proofs.lemmas.List.Kept.{AllPairs-cons}
 use Rattle.tb_units.proofs.ListLemmas.{AllPairs-nil}
 use Rattle.tb_disk.specs.Disks.{DiskState}
 use Rattle.tb_gates.specs.Clocks.{ClockState}
 use Rattle.tb_desk.specs.Desks.{held}
+use Rattle.tb_desk.specs.Turn.{added_by as added_as}
+use Rattle.tb_history.specs.Verdict.{verdict_on}
 use Rattle.tb_message.specs.declared.message.Entry.{Entry}
+use Rattle.tb_message.specs.declared.verdict.Verdict.{Verdict}
+use Rattle.tb_message.specs.declared.verdict.Verdict.TheVariants as verdict
 use Rattle.tb_message.specs.Spelling.{spelling}
 use Rattle.tb_lock.specs.declared.view.Call.{Call}
 use Rattle.tb_lock.specs.declared.view.View.{View}
@@ -27,7 +31,7 @@ use Rattle.tb_session.specs.Openings.{lock_code}
 use Rattle.tb_session.specs.Rooms.{room_means, fixed_of}
 use Rattle.tb_session.specs.Gains.{AreInOrder, IsTurn, left_by, Follows, StandsBeside, AreBeside, Gains}
 use Rattle.tb_session.specs.Turned.{SameHouse, added_by, Reads}
-use Rattle.tb_session.specs.Groups.{Replied, added_in, IsReplied, AreReplied, MayHaveLeft, DoTogether, told_back}
+use Rattle.tb_session.specs.Groups.{Replied, added_in, would_add, in_doubt, IsReplied, AreReplied, DoTogether, told_back}
 use Rattle.tb_session.proofs.OpeningLemmas.{operator-locked}
 use Rattle.tb_session.proofs.OrderLemmas.{one-more}
 use Rattle.tb_session.proofs.TurnLemmas.{spelled-append, spelled-begins, added-spelled, accepted-entry, reads-timed, reads-given, left-begins}
@@ -342,40 +346,51 @@ module _ {D C : Type 0} (disk : D → DiskState) (clock : C → ClockState) (v0 
       })
       does.settled
 
-  -- an entry that a call may have left is left by one of the lock's calls
-  leaves_one : (e : Entry) (others : List Replied) (at : List Entry) → Any (MayHaveLeft e) others
-      → Any (Leaves (room_means disk clock) v.fixed (spelling e))
-      (map call_of (made_from at v.faults_taken new.desk.faults others))
-  leaves_one e [] at any = absurd (let lt = any.2 in let bad : ⊥ = omega (arith, lt) in bad)
-  leaves_one e (r ∷ others) at any =
-      go (λ some. leaves_one e others (at ++ added_by r.called.outcome) some) any.0 any.1 any.2 any.3 any.4
+  -- what a call that met a fault would add is left by the first of the lock's calls
+  leaves_first : (r : Replied) (at history : List Entry) (later : List Call) (came : Outcome)
+      → r.called.outcome ≡ came
+      → All (λ (e : List ℕ). Any (Leaves (room_means disk clock) v.fixed e) (call_of (one r at) ∷ later))
+      (spelled_all (would_add history came))
+  leaves_first r at history later (outcome.Doubted e) is =
+      of_said (verdict_on history e.submitter e.number e.moment e.message)
     where
-      go : (Any (MayHaveLeft e) others → Any (Leaves (room_means disk clock) v.fixed (spelling e))
-          (map call_of (made_from (at ++ added_by r.called.outcome) v.faults_taken new.desk.faults others)))
-          → (k : ℕ) (x : Replied)
-          → k < length (r ∷ others)
-          → get_or (r ∷ others) k x ≡ x
-          → MayHaveLeft e x
-          → Any (Leaves (room_means disk clock) v.fixed (spelling e))
-          (map call_of (made_from at v.faults_taken new.desk.faults (r ∷ others)))
-      go later zero x lt is left =
-          let came : r.called.outcome ≡ outcome.Doubted e = ap (λ (y : Replied). y.called.outcome) is ∙ left in
-          any-first (Leaves (room_means disk clock) v.fixed (spelling e)) (call_of (one r at)) _ (
-            ap (λ (o : Outcome). kind_at (outcome_code o)) came,
-            entry-code r.called ∙ ap (λ (o : Outcome). entry_of o) came,
-          )
-      go later (suc k) x lt is left =
-          any-later (Leaves (room_means disk clock) v.fixed (spelling e)) (call_of (one r at)) _
-          (later (k, x, omega (arith, lt), is, left))
+      Left : List ℕ → Type 0
+      Left = λ (x : List ℕ). Any (Leaves (room_means disk clock) v.fixed x) (call_of (one r at) ∷ later)
 
-  -- and so is each of a list
-  leaves_all : (entries : List Entry) → All (λ e. Any (MayHaveLeft e) replied) entries
-      → All (λ (e : List ℕ). Any (Leaves (room_means disk clock) v.fixed e) calls) (spelled_all entries)
-  leaves_all [] all = All-nil (λ (e : List ℕ). Any (Leaves (room_means disk clock) v.fixed e) calls)
-  leaves_all (e ∷ entries) all =
-      let Left : Entry → Type 0 = λ (x : Entry). Any (MayHaveLeft x) replied in
-      All-cons (λ (x : List ℕ). Any (Leaves (room_means disk clock) v.fixed x) calls) (spelling e) (spelled_all entries)
-      (leaves_one e replied does.at (All-head Left e entries all)) (leaves_all entries (All-tail Left e entries all))
+      of_said : (said : Verdict)
+          → All Left (spelled_all (added_as e.submitter e.moment (e.number, e.message) said))
+      of_said (verdict.Accepted number moment) =
+          All-cons Left (spelling e) []
+          (any-first (Leaves (room_means disk clock) v.fixed (spelling e)) (call_of (one r at)) later (
+            ap (λ (o : Outcome). kind_at (outcome_code o)) is,
+            entry-code r.called ∙ ap (λ (o : Outcome). entry_of o) is,
+          ))
+          (All-nil Left)
+      of_said (verdict.Repeat number moment) = All-nil Left
+      of_said (verdict.Refused why) = All-nil Left
+  leaves_first r at history later (outcome.Added e) is = All-nil _
+  leaves_first r at history later (outcome.Stood e) is = All-nil _
+  leaves_first r at history later outcome.Told is = All-nil _
+  leaves_first r at history later outcome.Lacked is = All-nil _
+
+  -- so what the calls would add is left by the lock's calls
+  leaves_all : (others : List Replied) (at history : List Entry)
+      → All (λ (e : List ℕ). Any (Leaves (room_means disk clock) v.fixed e)
+      (map call_of (made_from at v.faults_taken new.desk.faults others))) (spelled_all (in_doubt history others))
+  leaves_all [] at history = All-nil (λ (e : List ℕ). Any (Leaves (room_means disk clock) v.fixed e) [])
+  leaves_all (r ∷ others) at history =
+      let here : List Entry = would_add history r.called.outcome in
+      let rest : List Entry = in_doubt (history ++ here) others in
+      let later : List Call =
+      map call_of (made_from (at ++ added_by r.called.outcome) v.faults_taken new.desk.faults others) in
+      let Left : List ℕ → Type 0 =
+      λ (e : List ℕ). Any (Leaves (room_means disk clock) v.fixed e) (call_of (one r at) ∷ later) in
+      subst (λ (l : History). All Left l) (sym (spelled-append here rest))
+      (All-append Left (spelled_all here) (spelled_all rest)
+      (leaves_first r at history later r.called.outcome refl)
+      (All-weaker (λ (e : List ℕ). Any (Leaves (room_means disk clock) v.fixed e) later) Left
+      (λ e any. any-later (Leaves (room_means disk clock) v.fixed e) (call_of (one r at)) later any) (spelled_all rest)
+      (leaves_all others (at ++ added_by r.called.outcome) (history ++ here))))
 
   -- what is in doubt at the end is what a turn may leave in doubt
   doubts_them : Doubts (room_means disk clock) v calls last (spelled_all new.desk.doubt)
@@ -386,7 +401,9 @@ module _ {D C : Type 0} (disk : D → DiskState) (clock : C → ClockState) (v0 
         ap (λ (l : List Entry). spelled_all l) kept.0 ∙ sym taken.doubt,
         ap (λ (l : List Entry). spelled_all l) kept.1 ∙ sym seen_old,
       )))
-      (λ left. inr (inr (leaves_all new.desk.doubt left)))
+      (λ left. inr (inr (subst (λ (l : List Entry).
+      All (λ (e : List ℕ). Any (Leaves (room_means disk clock) v.fixed e) calls) (spelled_all l))
+      (sym left) (leaves_all replied does.at does.at))))
       some)
       does.doubt
 

@@ -1,5 +1,5 @@
 -- What a group of bids does to the room: up to 64 of one key, under one gate.
-use Rattle.std.specs.Prelude.{◌≡◌, ℕ, ◌-◌, ◌≤◌, ◌⊎◌, List, [], ◌∷◌, ◌++◌, length, map, replicate, take, flat_map, Option, Some, None, All, Any}
+use Rattle.std.specs.Prelude.{◌≡◌, ℕ, ◌-◌, ◌≤◌, ◌⊎◌, List, [], ◌∷◌, ◌++◌, length, map, replicate, take, flat_map, Option, Some, None, All}
 use Rattle.tb_units.specs.declared.moment.Moment.{Moment}
 use Rattle.tb_terms.specs.declared.refusal.Refusal.TheVariants as refusal
 use Rattle.tb_message.specs.declared.key.Key.{Key}
@@ -10,7 +10,7 @@ use Rattle.tb_history.specs.Legal.{IsLegal}
 use Rattle.tb_disk.specs.Disks.{DiskState}
 use Rattle.tb_gates.specs.Clocks.{ClockState, ReadsClock}
 use Rattle.tb_desk.specs.Stands.{CrashesLeave}
-use Rattle.tb_desk.specs.Turn.{Held, IsOneOf}
+use Rattle.tb_desk.specs.Turn.{Held, IsOneOf, added}
 use Rattle.tb_desk.specs.Desks.{held}
 use Rattle.tb_session.specs.declared.answer.Answer.{Answer}
 use Rattle.tb_session.specs.declared.answer.Answer.TheVariants as answer
@@ -57,23 +57,32 @@ AreReplied operator at low high [] = Unit {0}
 AreReplied operator at low high (r ∷ others) =
     IsReplied operator at low high r × AreReplied operator (at ++ added_by r.called.outcome) low high others
 
--- the call met a fault, and may have made the entry
-abbrev pub MayHaveLeft : Entry → Replied → Type 0
-MayHaveLeft e r = r.called.outcome ≡ outcome.Doubted e
+-- what a message that met a fault would add to this history: its entry, where it would be accepted
+abbrev pub would_add : List Entry → Outcome → List Entry
+would_add at (outcome.Doubted e) = added at e.submitter e.moment (e.number, e.message)
+would_add at other = []
 
--- the group in doubt afterwards: none, or the one that was there, where nothing changed, or entries of these calls
-abbrev pub LeaveDoubt : Held → Held → List Replied → Type 0
-LeaveDoubt old new replied = (new.doubt ≡ [])
+-- the group of messages that met a fault: what they would add to this history, each behind those before it
+abbrev pub in_doubt : List Entry → List Replied → List Entry
+in_doubt at [] = []
+in_doubt at (r ∷ others) =
+    would_add at r.called.outcome ++ in_doubt (at ++ would_add at r.called.outcome) others
+
+-- the group in doubt afterwards: none, or the one that was there, where nothing changed, or all that these calls would
+-- add to the history on which they were answered
+abbrev pub LeaveDoubt : Held → Held → List Entry → List Replied → Type 0
+LeaveDoubt old new at replied = (new.doubt ≡ [])
     ⊎ (((new.doubt ≡ old.doubt) × (new.history ≡ old.history))
-    ⊎ All (λ e. Any (MayHaveLeft e) replied) new.doubt)
+    ⊎ (new.doubt ≡ in_doubt at replied))
 
--- What calls under one gate do to what a desk holds: what was in doubt is settled or stays, and then each is answered on
--- that history and the entries of the calls before it, and the history grows by the entries of those that were accepted.
+-- What calls under one gate do to what a desk holds: what was in doubt is settled or stays, and then each is answered
+-- on that history and the entries of the calls before it, and the history grows by the entries of those that were
+-- accepted.
 pub record DoTogether (operator : List ℕ) (old new : Held) (low high : ℕ) (replied : List Replied) : Type 0 where
   pub at : List Entry
   pub settled : (at ≡ old.history) ⊎ (at ≡ old.history ++ old.doubt)
   pub grown : new.history ≡ at ++ added_in replied
-  pub doubt : LeaveDoubt old new replied
+  pub doubt : LeaveDoubt old new at replied
   pub answered : AreReplied operator at low high replied
   pub least : low ≤ high
 
@@ -85,8 +94,8 @@ AreCallsOf k moment (asked ∷ messages) (r ∷ replied) =
     × AreCallsOf k moment messages replied
 AreCallsOf k moment messages replied = ⊥
 
--- What a group is answered: each message its verdict, told in the first places, in order. Or all of them met a fault, or
--- there was no memory, and no place tells anything.
+-- What a group is answered: each message its verdict, told in the first places, in order. Or all of them met a fault,
+-- or there was no memory, and no place tells anything.
 abbrev pub TellsGroup : GroupAnswer → List (Option Verdict) → List Answer → Type 0
 TellsGroup group.Verdicts places said =
     (given : List Verdict) × (said ≡ map answer.Verdict given)
@@ -163,7 +172,8 @@ told_group (grouped.Doubted caller moment) total replied = told_back total repli
 
 abbrev pub told_together : GroupTurn → List (List ℕ × ℕ)
 told_together turn =
-    told_group turn.came turn.entries (replied_by turn.key turn.moment turn.came turn.bids.value.items turn.verdicts.value)
+    told_group turn.came turn.entries
+    (replied_by turn.key turn.moment turn.came turn.bids.value.items turn.verdicts.value)
 
 -- the answer to the bid of a place
 abbrev pub answer_at : GroupAnswer → Option Verdict → Answer

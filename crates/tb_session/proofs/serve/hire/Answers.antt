@@ -35,8 +35,12 @@ loop-gates-preserved g c =
     let first = first-left c.loop-gates.gates.items c.remove-gate.new.self.items c.remove-gate.result some
     c.remove-gate.ensures.value c.remove-gate.ensures.items in
     let v = view c.args.pass.now in
-    let w : Worker g.row.D.Denot g.row.C.Denot g.row.G.Denot = record { gate = c.remove-gate.result; pass = c.split-part.result; served = 0; failed = false }
-    in
+    let w : Worker g.row.D.Denot g.row.C.Denot g.row.G.Denot = record {
+      gate = c.remove-gate.result;
+      pass = c.split-part.result;
+      served = 0;
+      failed = false;
+    } in
     record {
       own = c.split-part.ensures.own.0;
       idle = c.split-part.ensures.idle.0;

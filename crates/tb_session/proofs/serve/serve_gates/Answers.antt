@@ -7,7 +7,8 @@ use Rattle.tb_session.proofs.Shares.{whole-enough}
 use Rattle.tb_session.proofs.serve.serve_gates.Goals as goal
 
 pub turns-served-requires-clause-share : goal.turns-served-requires-clause-share
-turns-served-requires-clause-share g c κs within = whole-enough _ _ c.requires.few (ap (λ v. v.share) c.in-Ok.ensures.first)
+turns-served-requires-clause-share g c κs within =
+    whole-enough _ _ c.requires.few (ap (λ v. v.share) c.in-Ok.ensures.first)
 
 pub turns-served-requires-clause-room : goal.turns-served-requires-clause-room
 turns-served-requires-clause-room g c κs within = (
@@ -20,13 +21,14 @@ pub overflow_sub-accepted : goal.overflow_sub-accepted
 overflow_sub-accepted g c =
     let longer = not_shorter g.D.Disk.disk g.C.Clock.clock g.G.Gate.gate g.G.Conn.Source.source g.G.Conn.Sink.sink
     c.args.room c.in-Ok-close.room (view c.in-Ok.made.1) (view c.turns-served.new.pass) c.args.gates.now.items
-    c.turns-served.new.gates.items c.turns-served.result.0 c.turns-served.result.1 c.in-Ok.ensures.first c.turns-served.ensures.turns
-    c.in-Ok-close.ensures.home in
+    c.turns-served.new.gates.items c.turns-served.result.0 c.turns-served.result.1 c.in-Ok.ensures.first
+    c.turns-served.ensures.turns c.in-Ok-close.ensures.home in
     omega (arith, c.entries-before.ensures.entries, c.entries.ensures.entries, longer)
 
 pub returns-clause-served : goal.returns-clause-served
 returns-clause-served g c =
     serves_all g.D.Disk.disk g.C.Clock.clock g.G.Gate.gate g.G.Conn.Source.source g.G.Conn.Sink.sink c.args.room
-    c.in-Ok-close.room (view c.in-Ok.made.1) (view c.turns-served.new.pass) c.args.gates.now.items c.turns-served.new.gates.items
-    c.turns-served.result.0 c.turns-served.result.1 c.in-Ok.ensures.first c.turns-served.ensures.turns c.in-Ok-close.ensures.home _
+    c.in-Ok-close.room (view c.in-Ok.made.1) (view c.turns-served.new.pass) c.args.gates.now.items
+    c.turns-served.new.gates.items c.turns-served.result.0 c.turns-served.result.1 c.in-Ok.ensures.first
+    c.turns-served.ensures.turns c.in-Ok-close.ensures.home _
     (omega (arith, c.entries-before.ensures.entries, c.entries.ensures.entries))

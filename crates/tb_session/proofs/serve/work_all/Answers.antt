@@ -22,6 +22,6 @@ pub returns : goal.returns
 returns g c = record {
   worked = λ i d within.
       let one = (c.for_each_mut.ensures i d within).1 in
-      subst₂ (λ a b. WorkedOn g.G.Gate.gate g.G.Conn.Source.source g.G.Conn.Sink.sink c.args.shared.now a b) one.argument_is
-      one.left one.call;
+      subst₂ (λ a b. WorkedOn g.G.Gate.gate g.G.Conn.Source.source g.G.Conn.Sink.sink c.args.shared.now a b)
+      one.argument_is one.left one.call;
 }

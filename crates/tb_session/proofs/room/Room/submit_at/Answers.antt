@@ -15,7 +15,8 @@ pub returns-in_default-clause-does : goal.returns-in_default-clause-does
 returns-in_default-clause-does g c =
     let room = c.args.self.now in
     subst (λ said. Does room.operator (held room.desk) (held room.desk) room.desk.faults room.desk.faults
-    (message_call c.args.key.now c.args.number c.args.moment c.args.message.now outcome.Told) said) (sym c.refused.ensures)
+    (message_call c.args.key.now c.args.number c.args.moment c.args.message.now outcome.Told) said)
+    (sym c.refused.ensures)
     (does-unknown room.operator (held room.desk) room.desk.faults c.args.key.now c.args.number c.args.moment
     c.args.message.now c.know_desk.ensures.legal (sym c.caller.ensures ∙ none-of c.caller.result c.in_default.not-Some))
 
@@ -72,7 +73,8 @@ returns-in-DiskFault-clause-does g c =
     answer.DiskFault c.make_room.ensures.history c.make_room.ensures.same.doubt c.make_room.ensures.same.faults
     (does-doubted room.operator c.args.key.now c.in-Some.caller c.args.number c.args.moment message mid.gate
     (g.D.Disk.disk mid.disk) (held mid) (held new) mid.faults new.faults
-    (record { named = c.bytes-name.ensures.name; numbered = c.requires.numbered }) known turns counts (omega (arith, c.know_desk.ensures.limited, c.make_room.ensures.same.faults))))
+    (record { named = c.bytes-name.ensures.name; numbered = c.requires.numbered }) known turns counts
+    (omega (arith, c.know_desk.ensures.limited, c.make_room.ensures.same.faults))))
 
 pub returns-in_default-clause-unknown : goal.returns-in_default-clause-unknown
 returns-in_default-clause-unknown g c =
