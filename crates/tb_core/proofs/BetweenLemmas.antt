@@ -100,8 +100,8 @@ nothing-hidden h tables participant a place tied known short is none =
     elim (cases_Bool (is_first (bill_of (announcements h) a.cusip) a)) [
       | inl first ↦
           let own : is_first (bill_of all a.cusip) a ≡ true =
-          subst (λ (announced : List Announcement). is_first (bill_of announced a.cusip) a ≡ true) (sym tied.auctions_are)
-          first in
+          subst (λ (announced : List Announcement). is_first (bill_of announced a.cusip) a ≡ true)
+          (sym tied.auctions_are) first in
           let nothing : held_of h participant a.cusip ≡ 0 =
           sym (held-tied h tables participant a.cusip tied known (first-bill (announcements h) a first))
           ∙ (ap (λ security. book_held ((numbers_in tables.submitters.list tables.auctions.list).holder participant)

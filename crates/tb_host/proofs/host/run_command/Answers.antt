@@ -30,10 +30,12 @@ returns-in-Ok g c =
         λ none. absurd (none (said, c.in-Ok.ensures.command.0, c.in-Ok.ensures.command.1)),
       );
       award = λ full asked. ends-asked said (command.Award full) _ _ _ _ _ _ _ _ are ends asked;
-      award_disk = λ full asked. c.do_command.ensures.award_disk full (one_command _ said (command.Award full) are asked);
+      award_disk = λ full asked.
+          c.do_command.ensures.award_disk full (one_command _ said (command.Award full) are asked);
       run = λ operator asked. ends-asked said (command.Run operator) _ _ _ _ _ _ _ _ are ends asked;
       report = λ asked is.
-          ends-asked said (command.Report asked.sender.operator asked.sender.key asked.query asked.csv) _ _ _ _ _ _ _ _ are ends is;
+          ends-asked said (command.Report asked.sender.operator asked.sender.key asked.query asked.csv)
+          _ _ _ _ _ _ _ _ are ends is;
       import = λ sender is.
           ends-asked said (command.Import sender.operator sender.key) _ _ _ _ _ _ _ _ are ends is;
       trial = λ seed count asked. ends-asked said (command.Trial seed count) _ _ _ _ _ _ _ _ are ends asked;
