@@ -14,6 +14,7 @@ use Rattle.tb_journal.specs.Frames.{front, IsPayload, ArePayloads}
 use Rattle.tb_journal.specs.Image.{StandsFor, IsNoJournal, IsDamaged}
 use Rattle.tb_journal.specs.Journal.{Told, Holds}
 use Rattle.tb_journal.specs.Opening.{Finds, Opens}
+use Rattle.tb_journal.proofs.OpeningLemmas.{breaks_opened}
 use Rattle.tb_journal.specs.Answers.{IsTrueOf as IsTrueOfJournal, IsExact as IsExactJournal, LeavesRefused as JournalLeaves}
 use Rattle.tb_journal.specs.declared.fault.JournalFault.{JournalFault}
 use Rattle.tb_journal.specs.declared.fault.JournalFault.TheVariants as journal
@@ -211,10 +212,10 @@ pub lifted_leaves : (why : JournalFault) (old new : DiskState) → Told old new 
 lifted_leaves why old new = Told-weaker (JournalLeaves why) (LeavesRefused (lifted why)) old new (go why)
   where
     go : (why : JournalFault) (before now : Past) → JournalLeaves why before now → LeavesRefused (lifted why) before now
-    go journal.DiskFault before now leaves = tt
+    go journal.DiskFault before now leaves = leaves
     go (journal.NotAJournal found) before now leaves = leaves
     go (journal.Damaged place) before now leaves = leaves
-    go journal.OutOfMemory before now leaves = tt
+    go journal.OutOfMemory before now leaves = leaves
 
 -- the history that was found is what the file stood for
 found_stands : (gate : ℕ) (history : List Entry) (old disk : DiskState) → Told old disk (Finds gate)
@@ -291,10 +292,8 @@ replay_leaves gate (fault.Damaged place) old disk finds opens bad =
     (λ before now. 17 < length (contents_of before)) old disk
     (λ before now found known. long_file found.0 (contents_of before) place found.1 (known found.0 found.2)) finds bad)
 replay_leaves gate (fault.NotAJournal found) old disk finds opens bad = absurd bad
-replay_leaves gate fault.DiskFault old disk finds opens bad =
-    Told-weaker (Finds gate) (LeavesRefused fault.DiskFault) old disk (λ before now found. tt) finds
-replay_leaves gate fault.OutOfMemory old disk finds opens bad =
-    Told-weaker (Finds gate) (LeavesRefused fault.OutOfMemory) old disk (λ before now found. tt) finds
+replay_leaves gate fault.DiskFault old disk finds opens bad = breaks_opened old disk opens
+replay_leaves gate fault.OutOfMemory old disk finds opens bad = breaks_opened old disk opens
 
 -- what the journal holds
 holds_opened : (gate : ℕ) (history : List Entry) (old disk : DiskState) (replayed : IsReplayed disk gate history)

@@ -4,6 +4,7 @@ use Rattle.tb_disk.specs.Past.{Past, Then}
 use Rattle.tb_disk.specs.Steps.{Synced}
 use Rattle.tb_journal.specs.Frames.{front}
 use Rattle.tb_journal.specs.Image.{StandsFor, IsNoJournal, IsDamaged}
+use Rattle.tb_journal.specs.Opening.{BreaksOff}
 use Rattle.tb_journal.specs.declared.fault.JournalFault.{JournalFault}
 use Rattle.tb_journal.specs.declared.fault.JournalFault.TheVariants as journal
 use Rattle.tb_desk.specs.declared.fault.OpenFault.{OpenFault}
@@ -59,9 +60,10 @@ pub record IsExact (file : List ℕ) (answer : Answer) : Type 0 where
   pub is_true : IsTrueOf file answer
   pub only : (other : Answer) → IsTrueOf file other → SpeaksOfFile other → SpeaksOfFile answer → answer ≡ other
 
--- a file that is no journal, or damaged, was put on the disk and nothing else: its contents are as they were
+-- A file that is no journal, or damaged, was put on the disk and nothing else. Where the disk failed or memory ran out no
+-- more was done to it than an opening does.
 abbrev pub LeavesRefused : OpenFault → Past → Past → Type 0
 LeavesRefused (fault.NotAJournal found) before now = now ≡ Then Synced before
 LeavesRefused (fault.Damaged place) before now = now ≡ Then Synced before
-LeavesRefused fault.DiskFault before now = Unit {0}
-LeavesRefused fault.OutOfMemory before now = Unit {0}
+LeavesRefused fault.DiskFault before now = BreaksOff before now
+LeavesRefused fault.OutOfMemory before now = BreaksOff before now

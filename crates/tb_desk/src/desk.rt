@@ -14,7 +14,7 @@ ghost use Rattle.tb_core.specs.declared.refused.QueryRefused.TheVariants as answ
 ghost use Rattle.tb_core.specs.Rooms.{Fits, KeepsRoom, behind, behind_all};
 ghost use Rattle.tb_disk.specs.Disks.{DiskState};
 ghost use Rattle.tb_journal.specs.Journal.{Told};
-ghost use Rattle.tb_journal.specs.Opening.{Finds, IsHarmless};
+ghost use Rattle.tb_journal.specs.Opening.{Finds, IsHarmless, Opens};
 ghost use Rattle.tb_journal.specs.Places.{StandsAt};
 ghost use Rattle.tb_desk.specs.declared.reply.Reply.TheVariants as reply;
 ghost use Rattle.tb_desk.specs.declared.reply.GroupReply.TheVariants as group;
@@ -121,7 +121,9 @@ impl<D: Disk> Desk<D> {
             (λ past. IsExact (contents_of past) (Ok desk.host.history))) }
         ensures exact_refusal { IfErr result (λ refused. IfSome (D.disk disk).past
             (λ past. IsExact (contents_of past) (Err refused.1))) }
-        // A refused file was synced and nothing else.
+        // It begins with a sync. Over more than 17 bytes that is all; else it writes an empty journal and syncs.
+        ensures steps { IfOk result (λ desk. Told (D.disk disk) (D.disk desk.disk) Opens) }
+        // A refused file was synced and nothing else. A failing disk or want of memory breaks off what an opening does.
         ensures refused { IfErr result (λ refused. Told (D.disk disk) (D.disk refused.0) (LeavesRefused refused.1)) }
         // A crash at any moment leaves what a crash before the call could leave, or what stands for the same payloads.
         ensures crash { IfOk result (λ desk. Told (D.disk disk) (D.disk desk.disk) IsHarmless) }

@@ -184,7 +184,10 @@ pub Unopened-untouched : (disk : DiskState) → Unopened fault.OutOfMemory disk 
 Unopened-untouched disk =
     Unopened-here fault.OutOfMemory disk disk (exact disk.past)
     (record { silent = λ none. none; told = λ before is. (before, is, harmless before) })
-    (record { silent = λ none. none; told = λ before is. (before, is, tt) }) (λ is. absurd (cc))
+    (record {
+      silent = λ none. none;
+      told = λ before is. (before, is, record { kept = λ _. inl refl; made = λ _. inl refl });
+    }) (λ is. absurd (cc))
     (record { never_falls = omega arith; bounded = λ few. few })
   where
     harmless : (past : Past) → IsHarmless past past

@@ -12,12 +12,12 @@ use Rattle.tb_disk.specs.Past.{Past, contents_of}
 use Rattle.tb_gates.specs.Clocks.{ClockState}
 use Rattle.tb_gates.specs.Gates.{GateState}
 use Rattle.tb_journal.specs.Journal.{Told}
-use Rattle.tb_journal.specs.Opening.{IsHarmless}
-use Rattle.tb_journal.proofs.ToldLemmas.{Told-weaker}
+use Rattle.tb_journal.specs.Opening.{IsHarmless, Opens}
+use Rattle.tb_journal.proofs.OpeningLemmas.{breaks_opened}
 use Rattle.tb_message.specs.declared.message.Entry.{Entry}
 use Rattle.tb_history.specs.Legal.{IsLegal}
 use Rattle.tb_desk.specs.Desks.{IsBeginning}
-use Rattle.tb_desk.specs.Replay.{IsExact, LeavesRefused}
+use Rattle.tb_desk.specs.Replay.{IsExact}
 use Rattle.tb_desk.specs.Stands.{CrashesLeave}
 use Rattle.tb_desk.specs.declared.fault.OpenFault.{OpenFault}
 use Rattle.tb_desk.specs.declared.fault.OpenFault.TheVariants as fault
@@ -62,6 +62,7 @@ pub record IsOpenedFrom {D C : Type 0} (disk : D → DiskState) (clock : C → C
     (moments : ClockState) (old : DiskState) (room : Room D C) : Type 0 where
   pub exact : IfSome old.past (λ past. IsExact (contents_of past) (Ok room.desk.host.history))
   pub harmless : Told old (disk room.desk.disk) IsHarmless
+  pub opens : Told old (disk room.desk.disk) Opens
   pub legal : IsLegal room.desk.host.history
   pub recovered : room.desk.recovered ≡ length room.desk.host.history
   pub sure : room.desk.doubt ≡ []
@@ -72,11 +73,13 @@ pub record IsOpenedFrom {D C : Type 0} (disk : D → DiskState) (clock : C → C
   pub clock_is : clock room.clock ≡ moments
 
 -- The desk was opened, and its disk handed back as it was.
-pub Unopened-left : (old mid : DiskState) → Told old mid IsHarmless → mid.faults ≡ old.faults
+pub Unopened-left : (old mid : DiskState)
+    → Told old mid IsHarmless
+    → Told old mid Opens
+    → mid.faults ≡ old.faults
     → Unopened fault.OutOfMemory old mid
-Unopened-left old mid harmless no_fault =
-    Unopened-here fault.OutOfMemory old mid (Unopened-untouched old).is_true harmless
-    (Told-weaker IsHarmless (LeavesRefused fault.OutOfMemory) old mid (λ before now is. tt) harmless)
+Unopened-left old mid harmless opens no_fault =
+    Unopened-here fault.OutOfMemory old mid (Unopened-untouched old).is_true harmless (breaks_opened old mid opens)
     (λ is. absurd (let bad : ⊥ = cc in bad))
     (record { never_falls = omega (arith, no_fault); bounded = λ few. omega (arith, no_fault, few) })
 
@@ -242,7 +245,7 @@ module _ {D C G K : Type 0} (disk : D → DiskState) (clock : C → ClockState) 
         ended_is = ended_is;
         unopened = subst (λ (d : DiskState). Unopened fault.OutOfMemory old.disk d)
             (sym (ap (λ (h : Handed G). h.disk) same ∙ disk_is))
-            (Unopened-left old.disk (disk room.desk.disk) opened.harmless opened.no_fault);
+            (Unopened-left old.disk (disk room.desk.disk) opened.harmless opened.opens opened.no_fault);
         untaken = ap (λ (h : Handed G). h.gates) same ∙ gates_is;
         silent = ap (λ (h : Handed G). h.out) same ∙ out_is;
       })

@@ -8,7 +8,7 @@ use Rattle.tb_disk.proofs.Moments.{Leaves-start, Leaves-step}
 use Rattle.tb_journal.specs.Frames.{header, frames, front}
 use Rattle.tb_journal.specs.Image.{IsFramed, StandsFor}
 use Rattle.tb_journal.specs.Journal.{Holds, Told, SyncsOrNot}
-use Rattle.tb_journal.specs.Opening.{StandsAsWell, Measures, Finds, Opens, IsHarmless, empty_journal, made_past, MadeInPart}
+use Rattle.tb_journal.specs.Opening.{StandsAsWell, Measures, Finds, Opens, BreaksOff, IsHarmless, empty_journal, made_past, MadeInPart}
 use Rattle.tb_journal.specs.Places.{EndsAt}
 use Rattle.tb_journal.proofs.Gates.{length-header, IsFramed-stands}
 use Rattle.tb_journal.proofs.ToldLemmas.{Told-both, Told-weaker, told_after, told_known, told_step, still_silent}
@@ -167,31 +167,60 @@ Refuses fault before now = IsTrueOf (contents_of before) (Err fault) × LeavesRe
 
 -- a fault of the disk, or want of memory
 refuses_disk : (fault : JournalFault) (before now : Past) → (fault ≡ DiskFault) ⊎ (fault ≡ OutOfMemory)
-    → IsHarmless before now → Refuses fault before now
-refuses_disk fault before now (inl is) harmless = subst (λ (answer : JournalFault). Refuses answer before now) (sym is)
-    (tt, tt, harmless)
-refuses_disk fault before now (inr is) harmless = subst (λ (answer : JournalFault). Refuses answer before now) (sym is)
-    (tt, tt, harmless)
+    → BreaksOff before now
+    → IsHarmless before now
+    → Refuses fault before now
+refuses_disk fault before now (inl is) broken harmless =
+    subst (λ (answer : JournalFault). Refuses answer before now) (sym is) (tt, broken, harmless)
+refuses_disk fault before now (inr is) broken harmless =
+    subst (λ (answer : JournalFault). Refuses answer before now) (sym is) (tt, broken, harmless)
+
+-- an opening that did nothing, or a sync, is broken off
+breaks_reading : (before now : Past) → SyncsOrNot before now → BreaksOff before now
+breaks_reading before now part = record { kept = λ _. part; made = λ _. go part }
+  where
+    go : SyncsOrNot before now
+        → (now ≡ before) ⊎ (MadeInPart (Then Synced before) now ⊎ (now ≡ made_past (Then Synced before)))
+    go (inl same) = inl same
+    go (inr synced) = inr (inl (inl synced))
+
+-- so is one that made a part of an empty journal
+breaks_making : (before mid now : Past) → mid ≡ Then Synced before → length (contents_of before) ≤ 17
+    → MadeInPart mid now → BreaksOff before now
+breaks_making before mid now synced short part = record {
+  kept = λ long. absurd (omega (arith, long, short));
+  made = λ _. inr (inl (subst (λ (past : Past). MadeInPart past now) synced part));
+}
+
+-- so is a whole one, behind which memory runs out
+pub breaks_opened : (old new : DiskState) → Told old new Opens → Told old new BreaksOff
+breaks_opened old new = Told-weaker Opens BreaksOff old new (λ before now opens. record {
+  kept = λ long. inr (opens.kept long);
+  made = λ short. inr (inr (opens.made short));
+})
 
 -- a refusal after a sync
 leaves_synced : (fault : JournalFault) (before now : Past) → now ≡ Then Synced before → LeavesRefused fault before now
 leaves_synced (NotAJournal found) before now synced = synced
 leaves_synced (Damaged place) before now synced = synced
-leaves_synced DiskFault before now synced = tt
-leaves_synced OutOfMemory before now synced = tt
+leaves_synced DiskFault before now synced = breaks_reading before now (inr synced)
+leaves_synced OutOfMemory before now synced = breaks_reading before now (inr synced)
 
 -- the disk couldn't be measured
 pub measuring_fails : (fault : JournalFault) (old new : DiskState) → fault ≡ DiskFault
     → Told old new SyncsOrNot → Told old new (Refuses fault)
 measuring_fails fault old new is = Told-weaker SyncsOrNot (Refuses fault) old new
-    (λ before now part. refuses_disk fault before now (inl is) (read_fails before now part))
+    (λ before now part.
+    refuses_disk fault before now (inl is) (breaks_reading before now part) (read_fails before now part))
 
 -- an empty journal couldn't be made
 pub find_making_fails : (fault : JournalFault) (size : ℕ) (old mid new : DiskState) → fault ≡ DiskFault
     → size ≤ 17 → Told old mid (Measures size) → Told mid new MadeInPart → Told old new (Refuses fault)
 find_making_fails fault size old mid new is short = Told-both (Measures size) MadeInPart (Refuses fault) old mid new
-    (λ before mid now measures part. refuses_disk fault before now (inl is)
-    (making_fails before mid now measures.0 (omega (arith, short, measures.1)) part))
+    (λ before mid now measures part. (
+    let within : length (contents_of before) ≤ 17 = omega (arith, short, measures.1) in
+    refuses_disk fault before now (inl is) (breaks_making before mid now measures.0 within part)
+    (making_fails before mid now measures.0 within part)))
 
 -- an empty journal was made
 pub find_made : (size : ℕ) (old mid new : DiskState) → size ≤ 17 → Told old mid (Measures size)

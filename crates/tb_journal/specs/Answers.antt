@@ -4,6 +4,7 @@ use Rattle.tb_disk.specs.Steps.{Synced}
 use Rattle.tb_disk.specs.Past.{Past, Then}
 use Rattle.tb_journal.specs.Frames.{front}
 use Rattle.tb_journal.specs.Image.{StandsFor, IsNoJournal, IsDamaged}
+use Rattle.tb_journal.specs.Opening.{BreaksOff}
 use Rattle.tb_journal.specs.declared.fault.JournalFault.{JournalFault}
 use Rattle.tb_journal.specs.declared.fault.JournalFault.TheVariants.{DiskFault, NotAJournal, Damaged, OutOfMemory}
 
@@ -35,9 +36,10 @@ pub record IsExactAt (gate : ℕ) (file : List ℕ) : Type 0 where
   pub place : length (front payloads) ≡ gate
   pub exact : IsExact file (Ok payloads)
 
--- a file that is no journal, or damaged, was put on the disk and nothing else: its contents are as they were
+-- A file that is no journal, or damaged, was put on the disk and nothing else. Where the disk failed or memory ran out no
+-- more was done to it than an opening does.
 abbrev pub LeavesRefused : JournalFault → Past → Past → Type 0
 LeavesRefused (NotAJournal found) before now = now ≡ Then Synced before
 LeavesRefused (Damaged place) before now = now ≡ Then Synced before
-LeavesRefused DiskFault before now = Unit {0}
-LeavesRefused OutOfMemory before now = Unit {0}
+LeavesRefused DiskFault before now = BreaksOff before now
+LeavesRefused OutOfMemory before now = BreaksOff before now

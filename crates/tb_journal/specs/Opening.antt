@@ -4,7 +4,7 @@ use Rattle.tb_disk.specs.Steps.{Wrote, Tore, Synced, Torn}
 use Rattle.tb_disk.specs.Past.{Past, Then, contents_of, MayLeave, Leaves}
 use Rattle.tb_journal.specs.Frames.{header, closed_gate, empty_size}
 use Rattle.tb_journal.specs.Image.{StandsFor}
-use Rattle.tb_journal.specs.Journal.{Holds}
+use Rattle.tb_journal.specs.Journal.{Holds, SyncsOrNot}
 
 -- what the old file stood for, the new one stands for too
 abbrev pub StandsAsWell : List ℕ → List ℕ → Type 0
@@ -37,6 +37,13 @@ MadeInPart before now =
     (now ≡ before)
     ⊎ ((left : List ℕ) × Torn 0 17 17 (contents_of before) left × (now ≡ Then (Tore 0 17 left) before))
     ⊎ (now ≡ Then (Wrote 0 empty_journal) before)
+
+-- An opening that a failing disk or want of memory broke off. Over more than 17 bytes all was put on the disk, or nothing
+-- happened; over at most 17 it did nothing, or put all on the disk and made none, a part or the whole of an empty journal.
+pub record BreaksOff (before now : Past) : Type 0 where
+  pub kept : empty_size < length (contents_of before) → SyncsOrNot before now
+  pub made : length (contents_of before) ≤ empty_size
+      → (now ≡ before) ⊎ (MadeInPart (Then Synced before) now ⊎ (now ≡ made_past (Then Synced before)))
 
 -- Each crash since leaves what a crash before could leave, or what stands for all that the disk stood for; and so do
 -- the contents.

@@ -12,6 +12,7 @@ returns-in-Ok g c =
           (record {
             exact = begun.exact;
             harmless = begun.crash;
+            opens = begun.steps;
             legal = c.entries-entries.ensures.legal;
             recovered = begun.made.1;
             sure = begun.made.0;

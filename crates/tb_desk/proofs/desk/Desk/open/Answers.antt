@@ -1,6 +1,6 @@
 -- What an opening finds, and that it is exact.
 use Rattle.std.proofs.lemmas.Result.{MatchResult-weaker}
-use Rattle.tb_journal.specs.Opening.{IsHarmless}
+use Rattle.tb_journal.specs.Opening.{IsHarmless, Opens}
 use Rattle.tb_journal.proofs.OpeningLemmas.{told_kept}
 use Rattle.tb_desk.specs.Replay.{LeavesRefused}
 use Rattle.tb_desk.proofs.GroupLemmas.{if_err_both}
@@ -44,6 +44,13 @@ returns-in-Ok-clause-refused g c =
     (λ refused bad kept. told_kept (LeavesRefused refused.1) (d c.args.disk) (d c.in-Ok.journal.disk) (d refused.0) kept
     (replay_leaves c.in-Ok.journal.gate refused.1 (d c.args.disk) (d c.in-Ok.journal.disk) c.in-Ok.ensures.found
     c.in-Ok.ensures.steps bad))
+
+pub returns-in-Ok-clause-steps : goal.returns-in-Ok-clause-steps
+returns-in-Ok-clause-steps g c =
+    let d = g.D.Disk.disk in
+    MatchResult-weaker c.ready.result c.ready.ensures.kept
+    (λ desk kept. told_kept Opens (d c.args.disk) (d c.in-Ok.journal.disk) (d desk.disk) kept c.in-Ok.ensures.steps)
+    (λ refused h. h)
 
 pub returns-in-Ok-clause-crash : goal.returns-in-Ok-clause-crash
 returns-in-Ok-clause-crash g c =
