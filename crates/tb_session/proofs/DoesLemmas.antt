@@ -38,7 +38,7 @@ use Rattle.tb_session.specs.declared.called.Outcome.TheVariants as outcome
 use Rattle.tb_session.specs.declared.room.Room.{Room}
 use Rattle.tb_session.specs.Calls.{caller_on, refused, fault_for, Tells, TellsUnknown, TellsQuery, IsGiven, IsEntryless, Faulted, ComesOut, IsAnswerBy}
 use Rattle.tb_session.specs.Codes.{HasRange}
-use Rattle.tb_session.specs.Turned.{Calls, CanBeTold, Does, IsFaultOf, message_call, outcome_by, query_call, added_by}
+use Rattle.tb_session.specs.Turned.{Calls, CanBeTold, Does, IsFaultOf, IsSure, message_call, outcome_by, query_call, added_by}
 use Rattle.tb_session.proofs.CallerLemmas.{caller_on-append, repeat-is, accepted-is}
 use Rattle.tb_session.proofs.UnknownLemmas.{caller-known, query-known, verdict-known}
 
@@ -53,13 +53,15 @@ pub does-nothing : (operator : List ℕ) (old new : Held) (low high : ℕ) (c : 
     → IsAnswerBy operator old.history c c.outcome said
     → IsLegal old.history
     → HasRange c.outcome
+    → IsSure operator old.history c said new.doubt
     → Does operator old new low high c said
-does-nothing operator old new low high c said history doubt faults none out given answered legal in_range = record {
+does-nothing operator old new low high c said history doubt faults none out given answered legal in_range sure = record {
   at = old.history;
   legal = legal;
   settled = inl refl;
   grown = history ∙ (sym (append-nil old.history) ∙ ap (λ (l : List Entry). old.history ++ l) (sym none));
   doubt = inr (inl (doubt, history));
+  sure = sure;
   comes_out = out;
   in_range = in_range;
   given = given;
@@ -91,6 +93,8 @@ does-unknown operator old faults k number moment message legal nobody =
     does-nothing operator old old faults faults (message_call k number moment message outcome.Told)
     (refused refusal.UnknownKey) refl refl refl refl (refused refusal.UnknownKey, tells, tt)
     (moment, refl) tells legal tt
+    (λ at caller given is known told. absurd (let none : None ≡ Some caller = sym nobody ∙ known in
+    let bad : ⊥ = cc in bad))
 
 -- a message for which there was no memory changes nothing
 pub does-lack : (operator : List ℕ) (old new : Held) (low high : ℕ) (k : Key) (number : ℕ) (moment : Moment)
@@ -103,6 +107,7 @@ pub does-lack : (operator : List ℕ) (old new : Held) (low high : ℕ) (k : Key
 does-lack operator old new low high k number moment message history doubt faults legal =
     does-nothing operator old new low high (message_call k number moment message outcome.Lacked)
     answer.OutOfMemory history doubt faults refl tt (moment, refl) refl legal tt
+    (λ at caller given is known told. absurd (let bad : ⊥ = cc in bad))
 
 -- what a caller asks of a desk
 abbrev pub one_asked : List ℕ → ℕ → Moment → Message → Asked
@@ -162,6 +167,7 @@ module _ (operator : List ℕ) (k : Key) (caller : List ℕ) (number : ℕ) (mom
         settled = settled;
         grown = grown;
         doubt = inl sure;
+        sure = λ _ _ _ _ _ _. sure;
         comes_out = (record { asked = refl; caller = known }, (moment, refl, sym moment_is), accepted);
         in_range = entry_in_range can m;
         given = (moment, refl);
@@ -176,6 +182,7 @@ module _ (operator : List ℕ) (k : Key) (caller : List ℕ) (number : ℕ) (mom
         settled = settled;
         grown = grown;
         doubt = inl sure;
+        sure = λ _ _ _ _ _ _. sure;
         comes_out = (
           record { asked = refl; caller = known },
           stands.stands,
@@ -198,6 +205,7 @@ module _ (operator : List ℕ) (k : Key) (caller : List ℕ) (number : ℕ) (mom
         settled = settled;
         grown = grown;
         doubt = inl sure;
+        sure = λ _ _ _ _ _ _. sure;
         comes_out = (answer.Verdict (verdict.Refused why), tells, tt);
         in_range = tt;
         given = (moment, refl);
@@ -326,6 +334,7 @@ module _ (operator : List ℕ) (k : Key) (caller : List ℕ) (number : ℕ) (mom
             settled = inl stuck.1;
             grown = is ∙ sym (append-nil turns.at);
             doubt = inr (inl (ap (λ (h : Held). h.doubt) stuck.0.same, history));
+            sure = λ at caller given is known told. absurd (let bad : ⊥ = cc in bad);
             comes_out = out turns.at (inl stuck.1) is;
             in_range = entry_in_range can (running new.history moment);
             given = (moment, refl);
@@ -346,6 +355,7 @@ module _ (operator : List ℕ) (k : Key) (caller : List ℕ) (number : ℕ) (mom
                   ∙ (group-entry turns.at doubted.some
                   ∙ ap (λ (l : List Entry). entry_at (running l moment) ∷ []) (sym doubted.same)),
             ));
+            sure = λ at caller given is known told. absurd (let bad : ⊥ = cc in bad);
             comes_out = out turns.at resolves.0 doubted.same;
             in_range = entry_in_range can (running new.history moment);
             given = (moment, refl);
@@ -375,20 +385,23 @@ query-knows operator history k caller query why known is same =
     let unknown : why ≡ refusal.UnknownKey = cc in
     query-known history caller query (caller-known operator history k caller known) (is ∙ ap Some unknown)
 
--- a query that is told what has no entry changes nothing
+-- what has no moment and is told what has no entry changes nothing
 pub does-tell : (operator : List ℕ) (old : Held) (faults : ℕ) (c : Called) (said : Answer)
     → c.outcome ≡ outcome.Told
+    → c.moment ≡ None
     → IsGiven c.ask c.moment
     → Tells old.history (caller_on operator old.history c.key) c.ask c.moment said
     → IsEntryless said
     → IsLegal old.history
     → Does operator old old faults faults c said
-does-tell operator old faults c said told given tells none legal = record {
+does-tell operator old faults c said told timeless given tells none legal = record {
   at = old.history;
   legal = legal;
   settled = inl refl;
   grown = sym (append-nil old.history) ∙ ap (λ (o : Outcome). old.history ++ added_by o) (sym told);
   doubt = inr (inl (refl, refl));
+  sure = λ at caller said' is known told'. absurd (let some : None ≡ Some at = sym timeless ∙ is in
+      let bad : ⊥ = cc in bad);
   comes_out = subst (λ (o : Outcome). ComesOut operator old.history c o faults faults) (sym told) (said, tells, none);
   in_range = subst (λ (o : Outcome). HasRange o) (sym told) tt;
   given = given;
@@ -402,7 +415,7 @@ pub does-lack_query : (operator : List ℕ) (old : Held) (faults : ℕ) (k : Key
     → Does operator old old faults faults (query_call k query outcome.Lacked) answer.OutOfMemory
 does-lack_query operator old faults k query legal =
     does-nothing operator old old faults faults (query_call k query outcome.Lacked) answer.OutOfMemory
-    refl refl refl refl tt refl refl legal tt
+    refl refl refl refl tt refl refl legal tt (λ at caller given is known told. absurd (let bad : ⊥ = cc in bad))
 
 -- what is held by two desks with one history and one group in doubt is the same
 pub held-same : (old mid : Held) → mid.history ≡ old.history → mid.doubt ≡ old.doubt → mid ≡ old
@@ -425,7 +438,7 @@ pub does-unknown_query : (operator : List ℕ) (old : Held) (faults : ℕ) (k : 
     → caller_on operator old.history k ≡ None
     → Does operator old old faults faults (query_call k query outcome.Told) (refused refusal.UnknownKey)
 does-unknown_query operator old faults k query legal nobody =
-    does-tell operator old faults (query_call k query outcome.Told) (refused refusal.UnknownKey) refl refl
+    does-tell operator old faults (query_call k query outcome.Told) (refused refusal.UnknownKey) refl refl refl
     (ap (λ (o : Option (List ℕ)). refusal_for old.history o query) nobody) tt legal
 
 -- a caller's query is refused by the history
@@ -436,7 +449,7 @@ pub does-refused_query : (operator : List ℕ) (old : Held) (faults : ℕ) (k : 
     → query_refusal old.history caller query ≡ Some why
     → Does operator old old faults faults (query_call k query outcome.Told) (refused why)
 does-refused_query operator old faults k caller query why legal known is =
-    does-tell operator old faults (query_call k query outcome.Told) (refused why) refl refl
+    does-tell operator old faults (query_call k query outcome.Told) (refused why) refl refl refl
     (ap (λ (o : Option (List ℕ)). refusal_for old.history o query) known ∙ is) tt legal
 
 -- a reading is given where the query isn't refused
@@ -458,7 +471,7 @@ pub does-read : (operator : List ℕ) (old : Held) (faults : ℕ) (k : Key) (cal
     → IsReading old.history caller query reading
     → Does operator old old faults faults (query_call k query outcome.Told) (answer.Reading reading)
 does-read operator old faults k caller query reading legal known none is =
-    does-tell operator old faults (query_call k query outcome.Told) (answer.Reading reading) refl refl
+    does-tell operator old faults (query_call k query outcome.Told) (answer.Reading reading) refl refl refl
     (subst (λ (o : Option (List ℕ)). TellsQuery old.history o query (answer.Reading reading)) (sym known)
     (none, is)) tt legal
 
@@ -483,13 +496,13 @@ pub does-fault : (operator : List ℕ) (old : Held) (faults : ℕ) (k : Key) (as
     → Does operator old old faults faults (fault_call k asked) (fault_for (caller_on operator old.history k) why)
 does-fault operator old faults k ask.BadJson why legal is =
     does-tell operator old faults (fault_call k ask.BadJson)
-    (fault_for (caller_on operator old.history k) why) refl refl
+    (fault_for (caller_on operator old.history k) why) refl refl refl
     (ap (λ (r : Refusal). fault_for (caller_on operator old.history k) r) is)
     (fault-entryless (caller_on operator old.history k) why) legal
 does-fault operator old faults k (ask.BadShape member) why legal is =
     does-tell operator old faults (fault_call k (ask.BadShape member))
     (fault_for (caller_on operator old.history k) why)
-    refl refl (ap (λ (r : Refusal). fault_for (caller_on operator old.history k) r) is)
+    refl refl refl (ap (λ (r : Refusal). fault_for (caller_on operator old.history k) r) is)
     (fault-entryless (caller_on operator old.history k) why) legal
 does-fault operator old faults k (ask.Message number message) why legal is = absurd is
 does-fault operator old faults k (ask.Query query) why legal is = absurd is

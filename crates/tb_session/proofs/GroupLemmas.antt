@@ -30,7 +30,7 @@ use Rattle.tb_session.specs.declared.groups.Grouped.{Grouped}
 use Rattle.tb_session.specs.declared.groups.Grouped.TheVariants as grouped
 use Rattle.tb_session.specs.Calls.{caller_on, refused, Faulted, Tells, TellsUnknown}
 use Rattle.tb_session.specs.Groups.{Replied, said_in, added_in, IsReplied, AreReplied, in_doubt, LeaveDoubt, DoTogether, AreCallsOf, TellsGroup, TellUnknown, replied_in, replied_by}
-use Rattle.tb_session.specs.Turned.{added_by, outcome_by}
+use Rattle.tb_session.specs.Turned.{IsSure, added_by, outcome_by}
 use Rattle.tb_session.proofs.CallerLemmas.{caller_on-append, repeat-is, accepted-is}
 use Rattle.tb_session.proofs.DoesLemmas.{held-same, tells-verdict, moment-in_range, tells-known, tells-unknown, faulted}
 use Rattle.tb_session.proofs.UnknownLemmas.{caller-known, verdict-known}
@@ -330,6 +330,30 @@ module _ (operator : List ℕ) (k : Key) (caller : List ℕ) (moment ran : Momen
           All-cons (λ (r : Replied). TellsUnknown asks r.said) (replied_in k moment doubted asked place) _
           (tells-known asks caller answer.DiskFault is (λ same. cc)) (all-known messages places)
 
+-- where nothing is in doubt each call is sure
+all-sure : (operator : List ℕ) (at doubt : List Entry)
+    → doubt ≡ []
+    → (replied : List Replied)
+    → All (λ r. IsSure operator at r.called r.said doubt) replied
+all-sure operator at doubt none [] = All-nil _
+all-sure operator at doubt none (r ∷ replied) =
+    All-cons (λ (x : Replied). IsSure operator at x.called x.said doubt) r replied (λ _ _ _ _ _ _. none)
+    (all-sure operator at doubt none replied)
+
+-- so is one that isn't told a verdict
+never-told : (operator : List ℕ) (at doubt : List Entry) (other : Answer)
+    → ((given : Verdict) → other ≡ answer.Verdict given → ⊥)
+    → (replied : List Replied)
+    → All (λ a. a ≡ other) (said_in replied)
+    → All (λ r. IsSure operator at r.called r.said doubt) replied
+never-told operator at doubt other never [] all = All-nil _
+never-told operator at doubt other never (r ∷ replied) all =
+    All-cons (λ (x : Replied). IsSure operator at x.called x.said doubt) r replied
+    (λ moment caller given is known told.
+    absurd (never given (sym (All-head (λ (a : Answer). a ≡ other) r.said (said_in replied) all) ∙ told)))
+    (never-told operator at doubt other never replied
+    (All-tail (λ (a : Answer). a ≡ other) r.said (said_in replied) all))
+
 -- ---- bids of nobody, and bids for which there was no memory
 
 -- the verdict on the message of nobody
@@ -436,6 +460,29 @@ module _ (operator : List ℕ) (k : Key) (moment : Moment) where
           All-cons (λ (r : Replied). TellsUnknown asks r.said) (replied_in k moment grouped.Unknown asked place) _
           (tells-unknown asks (refused refusal.UnknownKey) is refl) (all messages places)
 
+  -- whose key has no caller on this history
+  unknown-sure : (messages : List (ℕ × Message)) (places : List (Option Verdict)) (history doubt : List Entry)
+      → caller_on operator history k ≡ None
+      → All (λ r. IsSure operator history r.called r.said doubt) (replied_by k moment grouped.Unknown messages places)
+  unknown-sure messages places history doubt nobody = all messages places
+    where
+      Sure : Replied → Type 0
+      Sure r = IsSure operator history r.called r.said doubt
+
+      never : (asked : ℕ × Message) (place : Option Verdict) → Sure (replied_in k moment grouped.Unknown asked place)
+      never asked place at caller given is known told =
+          absurd (let none : None ≡ Some caller = sym nobody ∙ known in let bad : ⊥ = cc in bad)
+
+      all : (messages : List (ℕ × Message)) (places : List (Option Verdict))
+          → All Sure (replied_by k moment grouped.Unknown messages places)
+      all [] places = All-nil _
+      all (asked ∷ messages) [] =
+          All-cons Sure (replied_in k moment grouped.Unknown asked None) _ (never asked None)
+          (all messages [])
+      all (asked ∷ messages) (place ∷ places) =
+          All-cons Sure (replied_in k moment grouped.Unknown asked place) _
+          (never asked place) (all messages places)
+
   -- nobody's bids are refused, and nothing changes
   pub together-unknown : (messages : List (ℕ × Message)) (places : List (Option Verdict)) (old : Held) (faults : ℕ)
       → IsLegal old.history
@@ -447,6 +494,7 @@ module _ (operator : List ℕ) (k : Key) (moment : Moment) where
     grown = sym (append-nil old.history)
         ∙ ap (λ (l : List Entry). old.history ++ l) (sym (unknown-grown messages places));
     doubt = inr (inl (refl, refl));
+    sure = unknown-sure messages places old.history old.doubt nobody;
     answered = all-unknown messages places old.history faults legal nobody;
     least = omega arith;
   }
@@ -512,6 +560,8 @@ module _ (operator : List ℕ) (k : Key) (moment : Moment) where
     grown = history ∙ (sym (append-nil old.history)
         ∙ ap (λ (l : List Entry). old.history ++ l) (sym (lacked-grown messages places)));
     doubt = inr (inl (doubt, history));
+    sure = never-told operator old.history new.doubt answer.OutOfMemory (λ given is. let bad : ⊥ = cc in bad)
+        (replied_by k moment grouped.Lacked messages places) (lacked-said messages places);
     answered = all-lacked messages places old.history low high legal;
     least = omega (arith, faults);
   }
@@ -575,6 +625,8 @@ module _ (operator : List ℕ) (k : Key) (caller : List ℕ) (moment : Moment) (
                   ∙ ap (λ (l : List (Option Verdict)). added_in (replied_by k moment (grouped.Told caller) messages l))
                   same);
               doubt = inl answered.sure;
+              sure = all-sure operator turns.at new.doubt answered.sure
+                  (replied_by k moment (grouped.Told caller) messages places);
               answered = subst (λ (l : List (Option Verdict)). AreReplied operator turns.at low high
                   (replied_by k moment (grouped.Told caller) messages l)) same
                   (all-told operator k caller moment ran messages turns.at low high rest named numbered may);
@@ -616,6 +668,9 @@ module _ (operator : List ℕ) (k : Key) (caller : List ℕ) (moment : Moment) (
         grown = is ∙ (sym (append-nil at)
             ∙ ap (λ (l : List Entry). at ++ l) (sym (doubted-grown operator k caller moment ran messages places)));
         doubt = doubt;
+        sure = never-told operator at new.doubt answer.DiskFault (λ given is. let bad : ⊥ = cc in bad)
+            (replied_by k moment (grouped.Doubted caller ran) messages places)
+            (doubted-said operator k caller moment ran messages places);
         answered = all-doubted operator k caller moment ran messages places at low high named numbered
             (may-answer operator k caller moment ran at legal (at_known at known settled)
             (runs ∙ ap (λ (l : List Entry). running l moment) is)) faults;

@@ -28,7 +28,7 @@ use Rattle.tb_lock.specs.declared.view.View.{View}
 use Rattle.tb_session.specs.declared.groups.GroupTurn.{GroupTurn}
 use Rattle.tb_session.specs.Gains.{Gains, GainsTogether}
 use Rattle.tb_session.specs.Codes.{HasRange, code_of}
-use Rattle.tb_session.specs.Turned.{SameHouse, added_by, message_call, outcome_by}
+use Rattle.tb_session.specs.Turned.{IsSure, SameHouse, added_by, message_call, outcome_by}
 
 -- a call, and what it was answered
 pub record Replied : Type 0 where
@@ -83,6 +83,7 @@ pub record DoTogether (operator : List ℕ) (old new : Held) (low high : ℕ) (r
   pub settled : (at ≡ old.history) ⊎ (at ≡ old.history ++ old.doubt)
   pub grown : new.history ≡ at ++ added_in replied
   pub doubt : LeaveDoubt old new at replied
+  pub sure : All (λ r. IsSure operator at r.called r.said new.doubt) replied
   pub answered : AreReplied operator at low high replied
   pub least : low ≤ high
 

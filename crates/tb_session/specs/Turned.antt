@@ -26,7 +26,7 @@ use Rattle.tb_session.specs.declared.called.Outcome.{Outcome}
 use Rattle.tb_session.specs.declared.called.Outcome.TheVariants as outcome
 use Rattle.tb_session.specs.declared.room.Room.{Room}
 use Rattle.tb_session.specs.declared.turn.Turn.{Turn}
-use Rattle.tb_session.specs.Calls.{ComesOut, IsAnswerBy, IsGiven}
+use Rattle.tb_session.specs.Calls.{ComesOut, IsAnswerBy, IsGiven, caller_on}
 use Rattle.tb_session.specs.Codes.{HasRange, code_of}
 
 -- a message as it is called, at a moment
@@ -62,6 +62,14 @@ LeavesDoubt old new came = (new.doubt ≡ [])
     ⊎ (((new.doubt ≡ old.doubt) × (new.history ≡ old.history))
     ⊎ ((e : Entry) × (came ≡ outcome.Doubted e) × (new.doubt ≡ e ∷ [])))
 
+-- where a caller's message is told a verdict nothing is in doubt
+abbrev pub IsSure : List ℕ → List Entry → Called → Answer → List Entry → Type 0
+IsSure operator at c said doubt = (moment : Moment) (caller : List ℕ) (given : Verdict)
+    → c.moment ≡ Some moment
+    → caller_on operator at c.key ≡ Some caller
+    → said ≡ answer.Verdict given
+    → doubt ≡ []
+
 -- What a call does to what a desk holds: what was in doubt is settled or stays, and then the call is answered on that
 -- history, which grows by its entry where it was accepted.
 pub record Does (operator : List ℕ) (old new : Held) (low high : ℕ) (c : Called) (said : Answer) : Type 0 where
@@ -70,6 +78,7 @@ pub record Does (operator : List ℕ) (old new : Held) (low high : ℕ) (c : Cal
   pub settled : (at ≡ old.history) ⊎ (at ≡ old.history ++ old.doubt)
   pub grown : new.history ≡ at ++ added_by c.outcome
   pub doubt : LeavesDoubt old new c.outcome
+  pub sure : IsSure operator at c said new.doubt
   pub comes_out : ComesOut operator at c c.outcome low high
   pub in_range : HasRange c.outcome
   pub given : IsGiven c.ask c.moment
