@@ -8,7 +8,8 @@ use Rattle.tb_disk.specs.Disks.{DiskState}
 use Rattle.tb_disk.specs.Past.{Past, contents_of, MayLeave, Leaves}
 use Rattle.tb_disk.proofs.Moments.{Leaves-both, Leaves-start, Leaves-weaker}
 use Rattle.tb_journal.specs.Journal.{Told}
-use Rattle.tb_journal.specs.Opening.{IsHarmless, StandsAsWell}
+use Rattle.tb_journal.specs.Opening.{BreaksOff, IsHarmless, StandsAsWell}
+use Rattle.tb_journal.proofs.OpeningLemmas.{breaks_reading}
 use Rattle.tb_journal.proofs.ToldLemmas.{Told-both, Told-weaker, told_given}
 use Rattle.tb_message.specs.declared.message.Entry.{Entry}
 use Rattle.tb_history.specs.Legal.{IsLegal}
@@ -161,6 +162,19 @@ Keeps-closed {D} disk old opened closed left exact made no_fault crash kept grow
       count = ap (λ (d : D). (disk d).faults) (sym is);
     }) (subst (λ (d : D). CrashesLeave (IsBeginning closed.host.history closed.recovered) (disk d) (disk left))
     (kept.0 ∙ made.3) since)
+
+-- a refusal does no more to the disk than an opening does
+pub breaks_refused : (why : OpenFault) (old new : DiskState)
+    → Told old new (LeavesRefused why)
+    → Told old new BreaksOff
+breaks_refused fault.DiskFault old new left = left
+breaks_refused fault.OutOfMemory old new left = left
+breaks_refused (fault.NotAJournal found) old new left =
+    Told-weaker (LeavesRefused (fault.NotAJournal found)) BreaksOff old new
+    (λ before now synced. breaks_reading before now (inr synced)) left
+breaks_refused (fault.Damaged place) old new left =
+    Told-weaker (LeavesRefused (fault.Damaged place)) BreaksOff old new
+    (λ before now synced. breaks_reading before now (inr synced)) left
 
 -- the desk wasn't opened
 pub Unopened-here : (why : OpenFault) (old new : DiskState)

@@ -1,5 +1,5 @@
 -- How an import ends.
-use Rattle.std.proofs.Common.{◌≡◌, ◌⊎◌, ℕ, List, Some, inl, inr, refl, subst, sym}
+use Rattle.std.proofs.Common.{◌≡◌, ◌⊎◌, ℕ, List, [], ◌∷◌, ◌++◌, take, Some, inl, inr, refl, subst, sym}
 use Rattle.std.specs.Prelude.{Result, Ok, Err}
 use Rattle.std.specs.Global.{Vec}
 use Rattle.tb_link.specs.Counts.{Rose}
@@ -11,7 +11,7 @@ use Rattle.tb_host.specs.DiskRun.{HasGrown}
 use Rattle.tb_host.specs.Endings.{status_of}
 use Rattle.tb_host.specs.HostRun.{HasHistory}
 use Rattle.tb_host.specs.RunEnds.{Devices}
-use Rattle.tb_host.specs.ImportRun.{ImportEnds, SentRow, TableEnds}
+use Rattle.tb_host.specs.ImportRun.{ImportEnds, SentRow, TableEnds, longest_run}
 use Rattle.tb_host.specs.ImportSteps.{RowsEnd}
 use Rattle.tb_host.specs.TableInput.{AnswersInput, HasRows}
 use Rattle.tb_host.specs.Standings.{Standing}
@@ -19,6 +19,7 @@ use Rattle.tb_host.specs.declared.ending.Ending.{Ending}
 use Rattle.tb_host.specs.declared.ending.Ending.TheVariants as ending
 use Rattle.tb_host.specs.declared.sender.Sender.{Sender}
 use Rattle.tb_host.proofs.ExactLemmas.{memory-not_begun}
+use Rattle.tb_host.proofs.GrownLemmas.{HasGrown-both}
 use Rattle.tb_host.proofs.ImportLemmas.{import-grown}
 use Rattle.tb_import.proofs.OneTableLemmas.{never_both}
 
@@ -47,15 +48,8 @@ module _ (sender : Sender) (clock clock' : ClockState) (input input' : SourceSta
   TableEnds-rows ending.Usage rows has ends = ends
   TableEnds-rows (ending.BadInput number) rows has ends = absurd ends
   TableEnds-rows ending.ReadFault rows has ends = absurd ends
-  TableEnds-rows ending.WriteFault rows has ends = (
-    ends.1.2.rose,
-    record {
-      rest = ends.0;
-      text = ends.1.0;
-      sent = record { rows = rows; table = has.table; sent = ends.1.1 };
-      part = ends.1.2.prefix;
-    },
-  )
+  TableEnds-rows ending.WriteFault rows has ends =
+      (ends.0, record { rows = rows; table = has.table; sent = ends.1 })
   TableEnds-rows ending.DiskFault rows has ends = ends
   TableEnds-rows (ending.NotAJournal found) rows has ends = ends
   TableEnds-rows (ending.Damaged place) rows has ends = ends
@@ -120,7 +114,7 @@ module _ (sender : Sender) (clock clock' : ClockState) (input input' : SourceSta
   table-refused (ending.BadInput at) number ends bad = inl refl
   table-refused ending.ReadFault number ends bad = absurd (no_read ends.1)
   table-refused ending.WriteFault number ends bad =
-      absurd (table-good bytes ends.1.sent.rows number (ends.1.sent.table bytes told).0 bad)
+      absurd (table-good bytes ends.1.rows number (ends.1.table bytes told).0 bad)
   table-refused ending.DiskFault number ends bad = absurd ends
   table-refused (ending.NotAJournal found) number ends bad = absurd ends
   table-refused (ending.Damaged place) number ends bad = absurd ends
@@ -173,7 +167,11 @@ rows-grown sender clock clock' rows ending.Usage out out' first last ends = absu
 rows-grown sender clock clock' rows (ending.BadInput number) out out' first last ends = absurd ends
 rows-grown sender clock clock' rows ending.ReadFault out out' first last ends = absurd ends
 rows-grown sender clock clock' rows ending.WriteFault out out' first last ends =
-    import-grown sender clock clock' ends.1.1.runs first last ends.1.0 ends.1.1.sent
+    let sent = ends.1 in
+    HasGrown-both first sent.before last
+    (import-grown sender clock sent.read sent.runs.runs first sent.before sent.text sent.runs.sent)
+    (import-grown sender sent.read clock' (take longest_run sent.rest ∷ []) sent.before last (sent.part ++ sent.lost)
+    sent.last_run)
 rows-grown sender clock clock' rows ending.DiskFault out out' first last ends = absurd ends
 rows-grown sender clock clock' rows (ending.NotAJournal found) out out' first last ends = absurd ends
 rows-grown sender clock clock' rows (ending.Damaged place) out out' first last ends = absurd ends

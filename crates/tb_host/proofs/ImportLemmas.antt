@@ -4,7 +4,7 @@ use Rattle.std.specs.Prelude.{◌==◌, min}
 use Rattle.std.proofs.lemmas.List.{drop_min, nil_from_length, take_min}
 use Rattle.std.proofs.lemmas.List.Elements.{All-drop, All-take}
 use Rattle.tb_link.specs.Counts.{NeverFalls, Rose}
-use Rattle.tb_link.specs.Sinks.{SinkState, Takes}
+use Rattle.tb_link.specs.Sinks.{SinkState, Takes, after_taken}
 use Rattle.tb_disk.specs.Disks.{DiskState}
 use Rattle.tb_units.specs.declared.moment.Moment.{Moment}
 use Rattle.tb_gates.specs.Clocks.{ClockState, ReadsClock}
@@ -31,7 +31,7 @@ use Rattle.tb_host.specs.declared.ending.Ending.TheVariants as ending
 use Rattle.tb_host.specs.declared.sender.Sender.{Sender}
 use Rattle.tb_host.proofs.GrownLemmas.{HasGrown-both, HasGrown-same}
 use Rattle.tb_host.proofs.TurnLemmas.{HasGrown-turn, MakesTurn-of}
-use Rattle.tb_host.proofs.ScriptLemmas.{after_taken-nothing}
+use Rattle.tb_host.proofs.ScriptLemmas.{after_taken-more, after_taken-nothing}
 use Rattle.tb_host.proofs.WriteLemmas.{Fails-second, Takes-both}
 
 -- runs behind runs
@@ -244,14 +244,26 @@ module _ (sender : Sender) (clock : ClockState) (rows : List SentRow) (first : S
     -- or the output failed
     RowsEnd-write : GroupEnds sender read clock' run (Some ending.WriteFault) now new mid last
         → RowsEnd sender clock clock' rows ending.WriteFault out new first last
-    RowsEnd-write ends = (
-      drop longest_run rest,
-      (
-        so_far.0 ++ ends.0,
-        HasSentRuns-more sender clock read clock' rows rest run first mid last so_far.0 ends.0 so_far.1 some is ends.1,
-        Fails-second out now new so_far.0 ends.0 so_far.2 ends.2,
-      ),
-    )
+    RowsEnd-write ends =
+        let fails = Fails-second out now new so_far.0 ends.0 so_far.2 ends.2 in (
+          fails.rose,
+          record {
+            rest = rest;
+            text = so_far.0;
+            read = read;
+            before = mid;
+            runs = so_far.1;
+            some = some;
+            part = ends.2.prefix.0;
+            lost = ends.2.prefix.1;
+            last_run = subst (λ (t : List ℕ). IsImport sender read clock' mid (take longest_run rest ∷ []) t last)
+                ends.2.prefix.2
+                (subst (λ (r : List SentRow). IsImport sender read clock' mid (r ∷ []) ends.0 last) is ends.1);
+            taken = ends.2.prefix.3
+                ∙ (ap (λ (t : Option (List ℕ)). after_taken t ends.2.prefix.0) so_far.2.taken
+                ∙ after_taken-more out.taken so_far.0 ends.2.prefix.0);
+          },
+        )
 
     -- or memory ran out
     RowsEnd-memory : GroupEnds sender read clock' run (Some ending.OutOfMemory) now new mid last

@@ -32,6 +32,7 @@ pub ReportEnds-memory : (asked : Inquiry) (input : SourceState) (out : SinkState
 ReportEnds-memory asked input out disk = record {
   ends = inr (NotBegun-memory input out disk);
   unread = refl;
+  steps = (Unopened-untouched disk).refused;
   harmless = (Unopened-untouched disk).harmless;
 }
 

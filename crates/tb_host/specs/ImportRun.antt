@@ -6,7 +6,7 @@ use Rattle.tb_units.specs.Bytes.{blank}
 use Rattle.tb_units.specs.declared.moment.Moment.{Moment}
 use Rattle.tb_link.specs.Counts.{Rose}
 use Rattle.tb_link.specs.Sources.{SourceState}
-use Rattle.tb_link.specs.Sinks.{SinkState, after_taken, TakesPrefix}
+use Rattle.tb_link.specs.Sinks.{SinkState, after_taken}
 use Rattle.tb_gates.specs.Clocks.{ClockState, ReadsClock}
 use Rattle.tb_terms.specs.declared.refusal.Refusal.TheVariants as refusal
 use Rattle.tb_message.specs.declared.message.Message.{Message}
@@ -111,14 +111,29 @@ pub record ImportedInPart (sender : Sender) (clock clock' : ClockState) (input i
     pub sent : HasSent sender clock clock' input input' first last text rest
     pub taken : out'.taken ≡ after_taken out.taken text
 
--- the first rows were sent, and the output has taken a part of their text
-pub record ImportBrokenOff (sender : Sender) (clock clock' : ClockState) (input input' : SourceState)
-    (out out' : SinkState) (first last : Standing) : Type 0
+-- Of the rows the first runs were sent, and then the run behind them. The output has taken what they are answered, of the
+-- last run's text a part.
+pub record SentInVain (sender : Sender) (clock clock' : ClockState) (rows : List SentRow) (out out' : SinkState)
+    (first last : Standing) : Type 0
   where
     pub rest : List SentRow
     pub text : List ℕ
-    pub sent : HasSent sender clock clock' input input' first last text rest
-    pub part : TakesPrefix out out' text
+    pub read : ClockState
+    pub before : Standing
+    pub runs : HasSentRuns sender clock read rows first before text rest
+    pub some : 1 ≤ length rest
+    pub part : List ℕ
+    pub lost : List ℕ
+    pub last_run : IsImport sender read clock' before (take longest_run rest ∷ []) (part ++ lost) last
+    pub taken : out'.taken ≡ after_taken out.taken (text ++ part)
+
+-- the first rows were sent, and the output has taken their text, of the last run's a part
+pub record ImportBrokenOff (sender : Sender) (clock clock' : ClockState) (input input' : SourceState)
+    (out out' : SinkState) (first last : Standing) : Type 0
+  where
+    pub rows : List SentRow
+    pub table : WhereTold input.left (λ bytes. IsTable bytes rows × (input'.left ≡ Some []))
+    pub sent : SentInVain sender clock clock' rows out out' first last
 
 -- no row was sent, nothing written, and the clock not read
 abbrev pub NoneSent : ClockState → ClockState → SinkState → SinkState → Standing → Standing → Type 0

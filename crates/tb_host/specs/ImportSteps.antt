@@ -1,9 +1,10 @@
 -- How an import goes on from run to run.
 use Rattle.std.specs.Prelude.{◌≡◌, ℕ, List, [], ◌∷◌, length, Option, Some, None, ⊤}
+use Rattle.tb_link.specs.Counts.{Rose}
 use Rattle.tb_link.specs.Sinks.{FailsToTake, SinkState, Takes}
 use Rattle.tb_gates.specs.Clocks.{ClockState}
 use Rattle.tb_desk.specs.Turn.{Replies}
-use Rattle.tb_host.specs.ImportRun.{HasSentRuns, IsImport, NoneSent, SentRow}
+use Rattle.tb_host.specs.ImportRun.{HasSentRuns, IsImport, NoneSent, SentInVain, SentRow}
 use Rattle.tb_host.specs.Standings.{Standing}
 use Rattle.tb_host.specs.declared.sender.Sender.{Sender}
 use Rattle.tb_host.specs.declared.ending.Ending.{Ending}
@@ -39,7 +40,7 @@ abbrev pub RowsEnd : Sender → ClockState → ClockState → List SentRow → E
 RowsEnd sender clock clock' rows ending.Done out out' first last =
     SendsRuns sender clock clock' rows first last [] (Takes out out')
 RowsEnd sender clock clock' rows ending.WriteFault out out' first last =
-    (rest : List SentRow) × SendsRuns sender clock clock' rows first last rest (FailsToTake out out')
+    Rose out.faults out'.faults × SentInVain sender clock clock' rows out out' first last
 RowsEnd sender clock clock' rows ending.OutOfMemory out out' first last =
     (rest : List SentRow) × SendsRuns sender clock clock' rows first last rest (Takes out out')
 RowsEnd sender clock clock' rows ended out out' first last = ⊥

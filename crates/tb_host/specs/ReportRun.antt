@@ -4,7 +4,7 @@ use Rattle.tb_link.specs.Counts.{Rose}
 use Rattle.tb_link.specs.Sources.{SourceState}
 use Rattle.tb_link.specs.Sinks.{SinkState, Takes, TakesPrefix}
 use Rattle.tb_journal.specs.Journal.{Told}
-use Rattle.tb_journal.specs.Opening.{IsHarmless}
+use Rattle.tb_journal.specs.Opening.{BreaksOff, IsHarmless}
 use Rattle.tb_terms.specs.declared.refusal.Refusal.{Refusal}
 use Rattle.tb_message.specs.declared.message.Entry.{Entry}
 use Rattle.tb_message.specs.declared.key.Key.{Key}
@@ -71,9 +71,10 @@ Reads asked ended history out out' = ⊥
 abbrev pub ReadsDesk : Inquiry → Ending → SinkState → SinkState → Standing → Standing → Type 0
 ReadsDesk asked ended out out' first last = (last ≡ first) × Reads asked ended first.history out out'
 
--- how the command ends. It reads no input, and what each crash leaves stands for what the file stood for, or could be
--- left before.
+-- How the command ends. It reads no input, and does no more to its disk than an opening does: what each crash leaves
+-- stands for what the file stood for, or could be left before.
 pub record ReportEnds (asked : Inquiry) (ended : Ending) (input input' : SourceState) (old new : Devices) : Type 0 where
   pub ends : EndsOnDisk (ReadsDesk asked ended old.out new.out) ended input input' old new
   pub unread : input' ≡ input
+  pub steps : Told old.disk new.disk BreaksOff
   pub harmless : Told old.disk new.disk IsHarmless

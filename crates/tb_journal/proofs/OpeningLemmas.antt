@@ -176,7 +176,7 @@ refuses_disk fault before now (inr is) broken harmless =
     subst (λ (answer : JournalFault). Refuses answer before now) (sym is) (tt, broken, harmless)
 
 -- an opening that did nothing, or a sync, is broken off
-breaks_reading : (before now : Past) → SyncsOrNot before now → BreaksOff before now
+pub breaks_reading : (before now : Past) → SyncsOrNot before now → BreaksOff before now
 breaks_reading before now part = record { kept = λ _. part; made = λ _. go part }
   where
     go : SyncsOrNot before now

@@ -1,9 +1,10 @@
 use Rattle.std.proofs.Common.{inl, inr, subst, sym, ap, refl, [], append-nil}
 use Rattle.tb_disk.specs.Disks.{DiskState}
 use Rattle.tb_journal.specs.Journal.{Told}
-use Rattle.tb_journal.specs.Opening.{IsHarmless}
+use Rattle.tb_journal.specs.Opening.{BreaksOff, IsHarmless}
+use Rattle.tb_journal.proofs.OpeningLemmas.{breaks_opened}
 use Rattle.tb_host.specs.Standings.{standing}
-use Rattle.tb_host.proofs.DiskLemmas.{Keeps-closed, Unopened-here}
+use Rattle.tb_host.proofs.DiskLemmas.{Keeps-closed, Unopened-here, breaks_refused}
 use Rattle.tb_host.proofs.report_command.report.Goals as goal
 
 pub returns-in-Ok-clause-ends : goal.returns-in-Ok-clause-ends
@@ -22,6 +23,8 @@ returns-in-Ok-clause-ends g c = λ input.
         (refl, c.write_answer-ending.ensures.reads),
       );
       unread = refl;
+      steps = subst (λ (d : DiskState). Told (g.D.Disk.disk c.args.disk) d BreaksOff) (sym same)
+          (breaks_opened (g.D.Disk.disk c.args.disk) (g.D.Disk.disk c.in-Ok.desk.disk) begun.steps);
       harmless = subst (λ (d : DiskState). Told (g.D.Disk.disk c.args.disk) d IsHarmless) (sym same) begun.crash;
     }
 
@@ -38,5 +41,6 @@ returns-in-Err-clause-ends g c = λ input.
         silent = refl;
       });
       unread = refl;
+      steps = breaks_refused c.in-Err.fault (g.D.Disk.disk c.args.disk) (g.D.Disk.disk c.in-Err.disk) refused.refused;
       harmless = refused.crash_refused;
     }
