@@ -153,14 +153,20 @@ fn files_are_opened_or_refused(rt: HostRuntime) -> Result<(), Fail> {
     assert_eq!(rt; entries_in(&rt, alloc, FIRST)?, 1);
     let mut twice = FIRST[..54].to_vec(alloc)?;
     twice.extend_from_slice(&FIRST[16..])?;
+    // One byte more in the payload, whose length is then 34.
+    let mut longer = FIRST[..20].to_vec(alloc)?;
+    longer.push(34)?;
+    longer.extend_from_slice(&FIRST[21..54])?;
+    longer.extend_from_slice(b"x\0")?;
     for (file, want) in [
         (
             b"aaaaaaaaaaaaaaaaaa".as_slice(),
             OpenFault::NotAJournal([b'a'; 16]),
         ),
         (&FIRST[..40], OpenFault::Damaged(16)),
-        // A payload that is no record, and an entry that stands twice.
+        // A payload that is no record, one with a byte behind its record, and an entry that stands twice.
         (b"TBHOSTJOURNAL001\x01\0\0\0\x01x\0", OpenFault::Damaged(16)),
+        (longer.as_slice(), OpenFault::Damaged(16)),
         (twice.as_slice(), OpenFault::Damaged(54)),
     ] {
         match Desk::open(alloc, disk_of(&rt, alloc, file, Vec::new(alloc), 0)?) {
