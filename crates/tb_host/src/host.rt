@@ -431,15 +431,15 @@ fn any_command<
     match serve_words(alloc, words) {
         Ok(Some(asked)) => serve(rt, alloc, &asked.operator, out, disk, gates, clock),
         Ok(None) => {
-            let (ending, disk, _clock) = run_command(alloc, words, input, out, disk, clock);
+            let (ending, disk, _clock) = other_command(alloc, words, input, out, disk, clock);
             (ending, disk)
         }
         Err(OutOfMemory) => (Ending::OutOfMemory, disk),
     }
 }
 
-// The clock is handed back with the disk.
-fn run_command<D: Disk, C: Clock, I: Source, O: Sink>(
+// A command of one thread: each but `serve`. The clock is handed back with the disk.
+fn other_command<D: Disk, C: Clock, I: Source, O: Sink>(
     alloc: Global,
     words: &[String],
     input: &mut I,

@@ -35,7 +35,7 @@ returns-in-Ok-Some-clause-gates g c = λ none.
 
 pub returns-in-Ok-None-clause-usage : goal.returns-in-Ok-None-clause-usage
 returns-in-Ok-None-clause-usage g c =
-    let usage = c.run_command-ending.ensures.usage in (
+    let usage = c.other_command-ending.ensures.usage in (
       λ is inside. elim inside [
         | inl command ↦ usage.0 is command
         | inr serve ↦ found-none c.in-Ok-None.field-0 _ c.in-Ok-None.field-0-is
@@ -45,11 +45,11 @@ returns-in-Ok-None-clause-usage g c =
     )
 
 pub returns-in-Ok-None-clause-opens : goal.returns-in-Ok-None-clause-opens
-returns-in-Ok-None-clause-opens g c = λ unopened. inl (c.run_command-ending.ensures.opens unopened)
+returns-in-Ok-None-clause-opens g c = λ unopened. inl (c.other_command-ending.ensures.opens unopened)
 
 pub returns-in-Ok-None-clause-import : goal.returns-in-Ok-None-clause-import
 returns-in-Ok-None-clause-import g c = λ sender are.
-    (g.C.Clock.clock c.run_command-ending.result.2, c.run_command-ending.ensures.import sender are)
+    (g.C.Clock.clock c.other_command-ending.result.2, c.other_command-ending.ensures.import sender are)
 
 pub returns-in-Ok-None-clause-serve : goal.returns-in-Ok-None-clause-serve
 returns-in-Ok-None-clause-serve g c = λ asked are.

@@ -14,7 +14,7 @@ use Rattle.tb_host.proofs.HostCommandLemmas.{
   write-rose,
 }
 use Rattle.tb_host.proofs.ReportLemmas.{NotBegun-memory, ReportEnds-memory}
-use Rattle.tb_host.proofs.host.run_command.Goals as goal
+use Rattle.tb_host.proofs.host.other_command.Goals as goal
 
 pub do_command-requires-clause-in_range : goal.do_command-requires-clause-in_range
 do_command-requires-clause-in_range g c = c.in-Ok.ensures.command.1.2.in_range
