@@ -95,7 +95,7 @@ each-added (e ∷ es) (r ∷ rs) calls is in_range ranges made =
 answered-in : (fixed : List ℕ) (first last : List Entry) (m : Made)
     → IsLegal first
     → IsLegal last
-    → IsAnswered fixed m.history m.called m.before m.after
+    → IsAnswered fixed m.history m.called m.before m.after m.readings
     → IsPrefix (spelled_all first) (spelled_all m.history)
     → IsPrefix (spelled_all m.history) (spelled_all last)
     → ((e : Entry) → m.called.outcome ≡ outcome.Added e

@@ -167,7 +167,7 @@ module _ {D C G K : Type 0} (disk : D → DiskState) (clock : C → ClockState) 
         entries = raw.entries;
         doubted = raw.doubted;
         answered = subst (λ (f : List ℕ). All (λ (m : Made). Rattle.tb_session.specs.Codes.IsAnswered f m.history
-            m.called m.before m.after) (calls_of_gates done.all.runs)) fixed raw.answered;
+            m.called m.before m.after m.readings) (calls_of_gates done.all.runs)) fixed raw.answered;
         begins = raw.begins;
         prefixes = raw.prefixes;
         accepted = raw.accepted;

@@ -41,7 +41,7 @@ Begins front whole = (more : List Entry) × (whole ≡ front ++ more)
 -- The call was answered on a beginning of the last history that has the first. Where it was accepted its entry stands
 -- right behind that beginning.
 pub record IsAnsweredIn (fixed : List ℕ) (first last : List Entry) (m : Made) : Type 0 where
-  pub answered : IsAnswered fixed m.history m.called m.before m.after
+  pub answered : IsAnswered fixed m.history m.called m.before m.after m.readings
   pub has_first : Begins first m.history
   pub begins : Begins m.history last
   pub accepted : (e : Entry) → m.called.outcome ≡ outcome.Added e → Begins (m.history ++ e ∷ []) last

@@ -99,7 +99,8 @@ Served status = (status ≡ 0) ⊎ (status ≡ 5) ⊎ (status ≡ 10)
 
 module _ {G K : Type 0} (gate : G → GateState K) (source : K → SourceState) (sink : K → SinkState) where
   -- The desk was opened on the disk, the disk handed back keeps the last history, and so did every crash on the way.
-  -- These runs are what became of the gates' links, and one history stands behind all their calls.
+  -- These runs are what became of the gates' links: along each gate's turns the clock's readings grow, at which its
+  -- messages have their moments. And one history stands behind all their calls.
   pub record Serves (operator : List ℕ) (clock : ClockState) (old new : Handed G) (first last : Standing)
       (runs : List (Run K)) : Type 0 where
     pub keeps : Keeps old.disk new.disk first last

@@ -19,14 +19,19 @@ take-prefix n first whole begins is =
     ∙ (ap (λ (l : History). take (length first) l) begins.1 ∙ take-append_seam first begins.0)
 
 -- the calls of two lists that are told one behind the other
-pub calls_on-append : (history : History) (before after : ℕ) (first second : List (List ℕ × ℕ))
-    → calls_on history before after (first ++ second)
-    ≡ calls_on history before after first ++ calls_on history before after second
-calls_on-append history before after [] second = refl
-calls_on-append history before after (told ∷ first) second =
-    let call : Call = record
-    { code = told.0; prefix = take told.1 history; faults_before = before; faults_after = after } in
-    ap (λ (calls : List Call). call ∷ calls) (calls_on-append history before after first second)
+pub calls_on-append : (history : History) (before after readings : ℕ) (first second : List (List ℕ × ℕ))
+    → calls_on history before after readings (first ++ second)
+    ≡ calls_on history before after readings first ++ calls_on history before after readings second
+calls_on-append history before after readings [] second = refl
+calls_on-append history before after readings (told ∷ first) second =
+    let call : Call = record {
+      code = told.0;
+      prefix = take told.1 history;
+      faults_before = before;
+      faults_after = after;
+      readings = readings;
+    } in
+    ap (λ (calls : List Call). call ∷ calls) (calls_on-append history before after readings first second)
 
 -- an entry that is added before two lists of entries
 added_if-append : (answer : Answer) (entry : List ℕ) (first second : History)
@@ -63,10 +68,11 @@ module _ {T : Type 0} (m : Meanings T) (v : View) (value : T) where
       → IsTimed m v value c
       → m.fixed value ≡ v.fixed
       → v.faults_taken ≤ m.faults value
+      → v.readings ≤ m.readings value
       → Adds m v (c ∷ []) (m.history value)
       → Doubts m v (c ∷ []) (m.history value) (m.doubt value)
       → MayGive m v (c ∷ []) value
-  one-call c stands begins timed fixed faults adds doubts =
+  one-call c stands begins timed fixed faults readings adds doubts =
       let stand = Stands m v.fixed (m.history value) in
       let begin = λ (d : Call). IsPrefix v.seen d.prefix in record {
         stand = All-cons stand c [] stands (All-nil stand);
@@ -75,6 +81,7 @@ module _ {T : Type 0} (m : Meanings T) (v : View) (value : T) where
         timed = All-cons (IsTimed m v value) c [] timed (All-nil (IsTimed m v value));
         fixed = fixed;
         faults = faults;
+        readings = readings;
         adds = adds;
         doubts = doubts;
       }
@@ -88,6 +95,7 @@ module _ {T : Type 0} (m : Meanings T) (v : View) (value : T) where
         prefix = prefix;
         faults_before = v.faults_taken;
         faults_after = m.faults value;
+        readings = m.readings value;
       } ∷ []) value
       → MayGive m v (calls_of m v value ((code, before) ∷ [])) value
   one-told code before prefix begins is may =
@@ -96,6 +104,7 @@ module _ {T : Type 0} (m : Meanings T) (v : View) (value : T) where
         prefix = first;
         faults_before = v.faults_taken;
         faults_after = m.faults value;
+        readings = m.readings value;
       } in
       subst (λ (first : History). MayGive m v (told first ∷ []) value)
       (sym (take-prefix before prefix (m.history value) begins is)) may
@@ -130,7 +139,7 @@ module _ {T : Type 0} (m : Meanings T) (v : View) (settled : History) where
 
   -- an accepted call's entry stands right behind its prefix
   stands-last : (c : Call)
-      → m.answered v.fixed c.prefix c.code c.faults_before c.faults_after
+      → m.answered v.fixed c.prefix c.code c.faults_before c.faults_after c.readings
       → Stands m v.fixed (history_after m v.fixed c) c
   unfolding history_after
   stands-last c answered = record {
@@ -154,7 +163,7 @@ module _ {T : Type 0} (m : Meanings T) (v : View) (settled : History) where
       → AreMade calls history
       → c.prefix ≡ history
       → IsPrefix v.seen settled
-      → m.answered v.fixed c.prefix c.code c.faults_before c.faults_after
+      → m.answered v.fixed c.prefix c.code c.faults_before c.faults_after c.readings
       → AreMade (calls ++ c ∷ []) (history_after m v.fixed c)
   unfolding history_after
   made-more calls history c made on begins answered =
@@ -190,6 +199,7 @@ module _ {T : Type 0} (m : Meanings T) (v : View) (settled : History) where
     pub timed : All (IsTimed m v value) calls
     pub fixed : m.fixed value ≡ v.fixed
     pub faults : v.faults_taken ≤ m.faults value
+    pub readings : v.readings ≤ m.readings value
     pub doubts : Doubts m v calls (m.history value) (m.doubt value)
 
   -- a turn with several calls may end so
@@ -204,6 +214,7 @@ module _ {T : Type 0} (m : Meanings T) (v : View) (settled : History) where
     timed = ends.timed;
     fixed = ends.fixed;
     faults = ends.faults;
+    readings = ends.readings;
     adds = record {
       group = ends.group;
       resolved = ends.resolved;

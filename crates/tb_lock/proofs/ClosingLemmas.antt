@@ -11,7 +11,7 @@ use Rattle.atomic_table.specs.Table.{opening}
 use Rattle.tb_lock.specs.declared.view.View.{View}
 use Rattle.tb_lock.specs.declared.view.Stage.TheVariants.{Idle}
 use Rattle.tb_lock.specs.Meanings.{History, IsPrefix, repeated, Meanings, RepeatsStand}
-use Rattle.tb_lock.specs.Calls.{IsBetween, entry_of, Stands, Makes}
+use Rattle.tb_lock.specs.Calls.{IsBetween, IsReadBy, entry_of, Stands, Makes}
 use Rattle.tb_lock.specs.Views.{IsLive, spent, newcomer, SomeView, tickets_of, HasTicket, HasTurn, HasTaken, total}
 use Rattle.tb_lock.specs.Rule.{Homes, IsHome, HasSeen, IsMade, Rule}
 use Rattle.tb_lock.specs.Turns.{HasOnlyOwn, Closes, AreOut}
@@ -38,6 +38,7 @@ starts m x no_doubt =
       opening_faults = m.faults x;
       counted = m.history x;
       faults = m.faults x;
+      read = m.readings x;
       words = refl;
       queue = record {
         number = refl;
@@ -88,6 +89,12 @@ starts m x no_doubt =
         same = first-only (λ (u : View). IsLive u → u.opening_faults ≡ m.faults x) first (λ _. refl);
         calls = first-only (λ (u : View). All (IsBetween (m.faults x) (m.faults x)) u.mine) first
             (All-nil (IsBetween (m.faults x) (m.faults x)));
+      };
+      readings = record {
+        value = λ y home. ap m.readings (sym (home-value (some (Some x) ∷ []) x y refl home));
+        taken = λ j n v at has. absurd (first-only (λ (u : View). HasTaken n u.stage → ⊥) first (λ h. h) j v at has);
+        calls = first-only (λ (u : View). All (IsReadBy (m.readings x)) u.mine) first
+            (All-nil (IsReadBy (m.readings x)));
       };
     }
 
@@ -244,6 +251,7 @@ module _ {T : Type 0} (m : Meanings T) (id : ℕ) (last : View) (ticket serving 
       let fixed = rule.kept.same id last at live in
       let history = rule.count.value value home.1 in
       let faults = rule.failed.value value home.1 in
+      let readings = rule.readings.value value home.1 in
       let opened = rule.failed.same id last at live in
       let least = rule.failed.least in
       let has = rule.seen.each id last at live in
@@ -262,9 +270,11 @@ module _ {T : Type 0} (m : Meanings T) (id : ℕ) (last : View) (ticket serving 
           once = view-once m left.final.0.views id last rule.once at;
           repeats = All-weaker (Stands m last.fixed (m.history value))
               (λ c. m.answer c.code ≡ repeated → Contains c.prefix (entry_of m last.fixed c))
-              (λ c h is. law last.fixed c.prefix c.code c.faults_before c.faults_after h.answered is) last.mine stand;
+              (λ c h is. law last.fixed c.prefix c.code c.faults_before c.faults_after c.readings h.answered is) last.mine
+              stand;
           counts = subst (λ (y : ℕ × ℕ). All (IsBetween y.0 y.1) last.mine)
               (λ i. (sym opened i, sym faults i)) (rule.failed.calls id last at);
+          read = subst (λ (n : ℕ). All (IsReadBy n) last.mine) (sym readings) (rule.readings.calls id last at);
           least = omega arith;
           whole = only-own value home.1 live;
         },

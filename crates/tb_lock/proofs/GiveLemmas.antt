@@ -8,7 +8,7 @@ use Rattle.tb_lock.specs.declared.view.Call.{Call}
 use Rattle.tb_lock.specs.declared.view.View.{View}
 use Rattle.tb_lock.specs.declared.view.Stage.TheVariants.{Holding}
 use Rattle.tb_lock.specs.Meanings.{History, IsPrefix, Meanings}
-use Rattle.tb_lock.specs.Calls.{IsBetween, Stands, Leaves, accepted_of, calls_on}
+use Rattle.tb_lock.specs.Calls.{IsBetween, IsReadBy, Stands, Leaves, accepted_of, calls_on}
 use Rattle.tb_lock.specs.Views.{raised, IsView, HasTicket, HasTurn, HasTaken}
 use Rattle.tb_lock.specs.Rule.{Homes, Rule}
 use Rattle.tb_lock.specs.Turns.{counted, HaveCounts, MayGive}
@@ -21,18 +21,21 @@ use Rattle.tb_lock.proofs.EntryLemmas.{all-longer, answered-set, answered-longer
 use Rattle.tb_lock.proofs.OnceLemmas.{once-set, once-back}
 use Rattle.tb_lock.proofs.SeenLemmas.{count-same, count-back, seen-same, seen-longer}
 use Rattle.tb_lock.proofs.FaultLemmas.{faults-raised, faults-back}
+use Rattle.tb_lock.proofs.ReadLemmas.{read-set, read-back}
 
 -- a word that is added to, where the sum fits
 sum-word : (word more sum : ℕ) → more + word ≡ sum → sum < 2 ^ 64 → (word + more) % 2 ^ 64 ≡ sum
 sum-word word more sum is small = omega arith
 
--- the calls that are told have the counts that they are given
-pub counts-told : (history : History) (before after : ℕ) (told : List (List ℕ × ℕ))
-    → All (λ (c : Call). (c.faults_before ≡ before) × (c.faults_after ≡ after)) (calls_on history before after told)
-counts-told history before after [] = All-nil (λ (c : Call). (c.faults_before ≡ before) × (c.faults_after ≡ after))
-counts-told history before after (t ∷ ts) =
-    All-cons (λ (c : Call). (c.faults_before ≡ before) × (c.faults_after ≡ after)) _
-    (calls_on history before after ts) (refl, refl) (counts-told history before after ts)
+-- the calls that are told have the counts and the readings that they are given
+pub counts-told : (history : History) (before after readings : ℕ) (told : List (List ℕ × ℕ))
+    → All (λ (c : Call). (c.faults_before ≡ before) × (c.faults_after ≡ after) × (c.readings ≡ readings))
+    (calls_on history before after readings told)
+counts-told history before after readings [] =
+    All-nil (λ (c : Call). (c.faults_before ≡ before) × (c.faults_after ≡ after) × (c.readings ≡ readings))
+counts-told history before after readings (t ∷ ts) =
+    All-cons (λ (c : Call). (c.faults_before ≡ before) × (c.faults_after ≡ after) × (c.readings ≡ readings)) _
+    (calls_on history before after readings ts) (refl, refl, refl) (counts-told history before after readings ts)
 
 module _ {T : Type 0} (m : Meanings T) where
   -- the value goes back into the slot
@@ -98,6 +101,7 @@ module _ {T : Type 0} (m : Meanings T) where
         opening_faults = r.opening_faults;
         counted = r.counted;
         faults = r.faults + more;
+        read = r.read;
         words = ap (λ (ws : List ℕ). slice_set ws 3 ((slice_index ws 3 + more) % 2 ^ 64)) r.words
             ∙ ap (λ (k : ℕ). (r.drawn % 2 ^ 64) ∷ (r.served % 2 ^ 64) ∷ length r.counted ∷ k ∷ [])
             (sum-word r.faults more (r.faults + more) (omega arith) (omega arith));
@@ -114,6 +118,8 @@ module _ {T : Type 0} (m : Meanings T) where
             (λ _ _. r.made.taken id n v at took);
         failed = faults-raised m r.opening_faults r.faults s.homes s.views id n more v w r.failed at live away holds
             (others-free s r id n v at turn) refl (ap (λ (k : ℕ). k + more) known) refl refl refl;
+        readings = read-set m r.read s.homes s.views id w r.readings (λ _ _. r.readings.taken id n v at took)
+            (r.readings.calls id v at);
       }
 
   -- the step that raises the faults keeps the rule
@@ -167,6 +173,7 @@ module _ {T : Type 0} (m : Meanings T) where
         opening_faults = r.opening_faults;
         counted = m.history x;
         faults = r.faults;
+        read = m.readings x;
         words = ap (λ (ws : List ℕ). slice_set ws 2 ((slice_index ws 2 + new) % 2 ^ 64)) r.words
             ∙ ap (λ (k : ℕ). (r.drawn % 2 ^ 64) ∷ (r.served % 2 ^ 64) ∷ k ∷ r.faults ∷ [])
             (sum-word (length r.counted) new (length (m.history x))
@@ -197,11 +204,17 @@ module _ {T : Type 0} (m : Meanings T) where
             d) may.doubts));
         failed = faults-back m r.opening_faults r.faults s.homes s.views id me.0 w x calls r.failed at live
             (sym asked.faults ∙ known.word) free refl refl
-            (All-weaker (λ c. (c.faults_before ≡ me.0.faults_taken) × (c.faults_after ≡ m.faults x))
+            (All-weaker (λ c. (c.faults_before ≡ me.0.faults_taken) × (c.faults_after ≡ m.faults x)
+            × (c.readings ≡ m.readings x))
             (IsBetween r.opening_faults r.faults)
             (λ c count. let low = known.least in let before = count.0 in let after = count.1 in
             let rose = may.faults in let is = known.word in
             record { least = omega arith; rising = omega arith; most = omega arith }) calls asked.counts);
+        readings = read-back m r.read s.homes s.views id me.0 w x calls r.readings at
+            (let is = r.readings.taken id n me.0 at took in let rose = may.readings in omega arith) free refl
+            (All-weaker (λ c. (c.faults_before ≡ me.0.faults_taken) × (c.faults_after ≡ m.faults x)
+            × (c.readings ≡ m.readings x))
+            (IsReadBy (m.readings x)) (λ c count. let is = count.2 in omega arith) calls asked.counts);
       }
 
   -- the step that raises the count keeps the rule
@@ -242,6 +255,7 @@ module _ {T : Type 0} (m : Meanings T) where
         timed = may.timed;
         fixed = may.fixed;
         faults = may.faults;
+        readings = may.readings;
         adds = record { group = may.adds.group; resolved = may.adds.resolved; grown = may.adds.grown };
         doubts = may.doubts;
       }

@@ -7,6 +7,7 @@ pub mod KeptLemmas
 pub mod OnceLemmas
 pub mod PrefixLemmas
 pub mod QueueLemmas
+pub mod ReadLemmas
 pub mod SeatLemmas
 pub mod SeenLemmas
 pub mod ShareLemmas

@@ -7,7 +7,7 @@ use Rattle.atomic_table.proofs.Lists.{set_else}
 use Rattle.tb_lock.specs.declared.view.View.{View}
 use Rattle.tb_lock.specs.declared.view.Stage.TheVariants.{Idle}
 use Rattle.tb_lock.specs.Meanings.{Meanings}
-use Rattle.tb_lock.specs.Calls.{IsBetween, Stands, Makes}
+use Rattle.tb_lock.specs.Calls.{IsBetween, IsReadBy, Stands, Makes}
 use Rattle.tb_lock.specs.Views.{IsLive, kept_half, given_half, joined, spent, IsView, tickets_at, HasTaken}
 use Rattle.tb_lock.specs.Rule.{IsMade, Rule}
 use Rattle.tb_lock.proofs.ViewLemmas.{each-set, each-snoc, idle-turn, idle-taken}
@@ -18,6 +18,7 @@ use Rattle.tb_lock.proofs.EntryLemmas.{answered-set, answered-more, made-joined,
 use Rattle.tb_lock.proofs.OnceLemmas.{once-set, once-more, once-joined}
 use Rattle.tb_lock.proofs.SeenLemmas.{count-same, count-more, seen-same, seen-more, seen-joined}
 use Rattle.tb_lock.proofs.FaultLemmas.{faults-free, faults-more}
+use Rattle.tb_lock.proofs.ReadLemmas.{read-set, read-one-more}
 
 module _ {T : Type 0} (m : Meanings T) where
   -- a pass between turns, with a share of at least 2, may be split
@@ -38,6 +39,7 @@ module _ {T : Type 0} (m : Meanings T) where
         opening_faults = r.opening_faults;
         counted = r.counted;
         faults = r.faults;
+        read = r.read;
         words = r.words;
         queue = queue-more r.drawn r.served (set s.views id left) right
             (queue-same r.drawn r.served s.views id v left r.queue at refl (λ n mine. mine)) refl;
@@ -70,6 +72,9 @@ module _ {T : Type 0} (m : Meanings T) where
             (faults-free m r.opening_faults r.faults s.homes s.views id left r.failed
             (λ n has. idle-taken n v.stage idle has) (λ _. r.failed.same id v at live) (r.failed.calls id v at)) refl
             (r.failed.same id v at live) refl;
+        readings = read-one-more m r.read s.homes (set s.views id left) right
+            (read-set m r.read s.homes s.views id left r.readings (λ n has. absurd (idle-taken n v.stage idle has))
+            (r.readings.calls id v at)) refl refl;
       }
 
   -- two passes between turns may be joined
@@ -86,6 +91,7 @@ module _ {T : Type 0} (m : Meanings T) where
         opening_faults = r.opening_faults;
         counted = r.counted;
         faults = r.faults;
+        read = r.read;
         words = r.words;
         queue = queue-same r.drawn r.served (set s.views id both) other w spent
             (queue-same r.drawn r.served s.views id v both r.queue at refl (λ n mine. mine)) there
@@ -117,4 +123,8 @@ module _ {T : Type 0} (m : Meanings T) where
             (All-append (IsBetween r.opening_faults r.faults) v.mine w.mine (r.failed.calls id v at)
             (r.failed.calls other w was)))
             (λ n has. has) (λ alive. absurd (omega arith)) (All-nil (IsBetween r.opening_faults r.faults));
+        readings = read-set m r.read s.homes (set s.views id both) other spent
+            (read-set m r.read s.homes s.views id both r.readings (λ n has. absurd (idle-taken n v.stage idle has))
+            (All-append (IsReadBy r.read) v.mine w.mine (r.readings.calls id v at) (r.readings.calls other w was)))
+            (λ n has. absurd has) (All-nil (IsReadBy r.read));
       }

@@ -10,7 +10,7 @@ use Rattle.tb_lock.specs.declared.view.Call.{Call}
 use Rattle.tb_lock.specs.declared.view.View.{View}
 use Rattle.tb_lock.specs.declared.view.Stage.TheVariants.{Idle, Waiting, Come, Counted}
 use Rattle.tb_lock.specs.Meanings.{Meanings}
-use Rattle.tb_lock.specs.Calls.{IsBetween, Stands}
+use Rattle.tb_lock.specs.Calls.{IsBetween, IsReadBy, Stands}
 use Rattle.tb_lock.specs.Views.{IsLive, at_stage, IsView, HasTicket, HasTurn, HasTaken}
 use Rattle.tb_lock.specs.Rule.{IsQueue, AreShares, IsKept, words_of, Rule}
 use Rattle.tb_lock.specs.Steps.{Draws, LooksAtServing, PassesOn}
@@ -22,6 +22,7 @@ use Rattle.tb_lock.proofs.EntryLemmas.{answered-set, entries-set}
 use Rattle.tb_lock.proofs.OnceLemmas.{once-set}
 use Rattle.tb_lock.proofs.SeenLemmas.{count-same, seen-same}
 use Rattle.tb_lock.proofs.FaultLemmas.{faults-free}
+use Rattle.tb_lock.proofs.ReadLemmas.{read-set}
 
 -- a word that counts up
 next-word : (n : ℕ) → (n % 2 ^ 64 + 1) % 2 ^ 64 ≡ (n + 1) % 2 ^ 64
@@ -51,6 +52,7 @@ stepped-view m s r id v w at live live' seen mine opening least free drawn serve
   opening_faults = r.opening_faults;
   counted = r.counted;
   faults = r.faults;
+  read = r.read;
   words = words;
   queue = queue;
   shares = shares;
@@ -65,6 +67,8 @@ stepped-view m s r id v w at live live' seen mine opening least free drawn serve
   failed = faults-free m r.opening_faults r.faults s.homes s.views id w r.failed free
       (λ _. least ∙ r.failed.same id v at live)
       (subst (λ (l : List Call). All (IsBetween r.opening_faults r.faults) l) (sym mine) (r.failed.calls id v at));
+  readings = read-set m r.read s.homes s.views id w r.readings (λ n has. absurd (free n has))
+      (subst (λ (l : List Call). All (IsReadBy r.read) l) (sym mine) (r.readings.calls id v at));
 }
 
 module _ {T : Type 0} (m : Meanings T) where

@@ -7,7 +7,7 @@ use Rattle.atomic_table.specs.Table.{State, Me, step, takes, stepped, Allows}
 use Rattle.tb_lock.specs.declared.view.View.{View}
 use Rattle.tb_lock.specs.declared.view.Stage.TheVariants.{Come}
 use Rattle.tb_lock.specs.Meanings.{History, IsPrefix, Meanings}
-use Rattle.tb_lock.specs.Calls.{IsBetween, Stands}
+use Rattle.tb_lock.specs.Calls.{IsBetween, IsReadBy, Stands}
 use Rattle.tb_lock.specs.Views.{IsLive, IsView, HasTicket, HasTurn}
 use Rattle.tb_lock.specs.Rule.{Homes, IsHome, words_of, Rule}
 use Rattle.tb_lock.specs.Turns.{taken}
@@ -21,6 +21,7 @@ use Rattle.tb_lock.proofs.EntryLemmas.{answered-set, entries-away}
 use Rattle.tb_lock.proofs.OnceLemmas.{view-once, once-set}
 use Rattle.tb_lock.proofs.SeenLemmas.{count-away, seen-taken}
 use Rattle.tb_lock.proofs.FaultLemmas.{faults-away}
+use Rattle.tb_lock.proofs.ReadLemmas.{read-away}
 
 module _ {T : Type 0} (m : Meanings T) where
   -- a word that is read stays
@@ -54,6 +55,7 @@ module _ {T : Type 0} (m : Meanings T) where
         opening_faults = r.opening_faults;
         counted = r.counted;
         faults = r.faults;
+        read = r.read;
         words = read-same r.drawn r.served (length r.counted) r.faults s.words r.words ∙ r.words;
         queue = queue-same r.drawn r.served s.views id me.0 w r.queue at (sym (tickets-of_ticket n me.0.stage has))
             (λ k mine. subst (λ (i : ℕ). HasTicket i me.0.stage) mine has);
@@ -68,6 +70,7 @@ module _ {T : Type 0} (m : Meanings T) where
             (r.made.value x home);
         failed = faults-away m r.opening_faults r.faults s.homes s.views id me.0 w r.failed at live failed failed refl
             refl;
+        readings = read-away m r.read s.homes s.views id me.0 w r.readings at (r.readings.value x home) refl;
       }
 
   -- and the pass learns what the value stands for
@@ -95,6 +98,8 @@ module _ {T : Type 0} (m : Meanings T) where
         once = view-once m s.views id me.0 r.once at;
         counts = subst (λ (y : ℕ × ℕ). All (IsBetween y.0 y.1) me.0.mine) (λ i. (sym opened i, sym failed i))
             (r.failed.calls id me.0 at);
+        read = subst (λ (n : ℕ). All (IsReadBy n) me.0.mine) (sym (r.readings.value x home))
+            (r.readings.calls id me.0 at);
         least = omega arith;
       }
 

@@ -47,15 +47,17 @@ pub record AddsInTurn (view : View) (old settled new : Tally) (moment number : �
   pub took : Took view old
   pub settles : Settles old settled
   pub read : IsReadBetween settled.clock moment
+  pub rose : settled.clock ≤ moment
   pub adds : Adds outcome (record settled { clock = moment }) new number
 
--- the call of such a turn, on a prefix
+-- the call of such a turn, on a prefix: the moment is how often the clock was read
 abbrev pub call_at : ℕ → ℕ → ℕ → ℕ → ℕ → History → Call
 call_at kind number moment before after prefix = record {
   code = kind ∷ number ∷ moment ∷ [];
   prefix = prefix;
   faults_before = before;
   faults_after = after;
+  readings = moment;
 }
 
 module _ (view : View) (old settled new : Tally) (moment number : ℕ) (outcome : Outcome)
@@ -68,6 +70,13 @@ module _ (view : View) (old settled new : Tally) (moment number : ℕ) (outcome 
         same-moment new.clock told (sym (ap (λ (code : List ℕ). moment_in code) is) ∙ same),
         subst (λ (y : ℕ × ℕ). IsReadBetween y.0 y.1) (λ i. (sym before i, sym clock i)) turn.read,
       )
+
+  -- the number of readings isn't less
+  not-fewer : view.readings ≤ new.clock
+  not-fewer =
+      let clock = turn.adds.same.2 in
+      let before = turn.took.readings ∙ sym turn.settles.same.3 in
+      let rose = turn.rose in omega arith
 
   -- the fixed part is as it was taken
   same-fixed : tally_means.fixed new ≡ view.fixed
@@ -129,7 +138,7 @@ module _ (view : View) (old settled new : Tally) (moment number : ℕ) (outcome 
       one-told tally_means view new code before prefix begins
       (behind ∙ sym (length-map settled.numbers.items (λ (n : ℕ). n ∷ [])))
       (one-call tally_means view new call stands (entries_of turn.settles.group, settled-history)
-      (timed call kind refl) same-fixed answer.least
+      (timed call kind refl) same-fixed answer.least not-fewer
       record { group = entries_of turn.settles.group; resolved = settled-group; grown = whole } answer.doubts)
 
 -- the count of faults of the tally that was taken is that of the settled one

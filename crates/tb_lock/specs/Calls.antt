@@ -18,18 +18,28 @@ added_if faulted entry others = others
 added_if entryless entry others = others
 
 -- the calls that are told, each with as many first entries of the history as are told for it, between these counts of
--- faults
-abbrev pub calls_on : History → ℕ → ℕ → List (List ℕ × ℕ) → List Call
-calls_on history before after [] = []
-calls_on history before after (c ∷ cs) =
-    (record { code = c.0; prefix = take c.1 history; faults_before = before; faults_after = after })
-    ∷ calls_on history before after cs
+-- faults, in a turn at whose end the clock had given so many readings
+abbrev pub calls_on : History → ℕ → ℕ → ℕ → List (List ℕ × ℕ) → List Call
+calls_on history before after readings [] = []
+calls_on history before after readings (c ∷ cs) =
+    (record {
+      code = c.0;
+      prefix = take c.1 history;
+      faults_before = before;
+      faults_after = after;
+      readings = readings;
+    })
+    ∷ calls_on history before after readings cs
 
 -- the call's counts of faults lie between two numbers, the one before not above the one after
 pub record IsBetween (low high : ℕ) (c : Call) : Type 0 where
   pub least : low ≤ c.faults_before
   pub rising : c.faults_before ≤ c.faults_after
   pub most : c.faults_after ≤ high
+
+-- the turn of the call ended at no more readings of the clock than these
+abbrev pub IsReadBy : ℕ → Call → Type 0
+IsReadBy readings c = c.readings ≤ readings
 
 -- one, where a call so answered behind so many entries has its entry at place n of the history
 abbrev pub one_at : ℕ → Answer → ℕ → ℕ
@@ -58,7 +68,7 @@ module _ {T : Type 0} (m : Meanings T) (fixed : List ℕ) where
 
   -- the call was answered on a beginning of the history, and there its entry follows where it was accepted
   pub record Stands (history : History) (c : Call) : Type 0 where
-    pub answered : m.answered fixed c.prefix c.code c.faults_before c.faults_after
+    pub answered : m.answered fixed c.prefix c.code c.faults_before c.faults_after c.readings
     pub prefix : IsPrefix c.prefix history
     pub entry : m.answer c.code ≡ accepted → IsPrefix (c.prefix ++ entry_of c ∷ []) history
 

@@ -28,8 +28,8 @@ pub record Meanings (T : Type 0) : Type 1 where
   -- what stays the same for good
   pub fixed : T → List ℕ
   -- with this fixed part and this history before it, the call may be answered as it was, while the count of faults
-  -- goes from the one number to the other
-  pub answered : List ℕ → History → List ℕ → ℕ → ℕ → Type 0
+  -- goes from the one number to the other, in a turn at whose end the clock had given so many readings
+  pub answered : List ℕ → History → List ℕ → ℕ → ℕ → ℕ → Type 0
   pub answer : List ℕ → Answer
   -- with this fixed part and this history before it, the entry of a call that has one
   pub entry : List ℕ → History → List ℕ → List ℕ
@@ -38,5 +38,7 @@ pub record Meanings (T : Type 0) : Type 1 where
 
 -- the entry of a call that was answered as a repeat stands in the history before it
 abbrev pub RepeatsStand : {T : Type 0} → Meanings T → Type 0
-RepeatsStand m = (fixed : List ℕ) (prefix : History) (code : List ℕ) (before after : ℕ)
-    → m.answered fixed prefix code before after → m.answer code ≡ repeated → Contains prefix (m.entry fixed prefix code)
+RepeatsStand m = (fixed : List ℕ) (prefix : History) (code : List ℕ) (before after readings : ℕ)
+    → m.answered fixed prefix code before after readings
+    → m.answer code ≡ repeated
+    → Contains prefix (m.entry fixed prefix code)

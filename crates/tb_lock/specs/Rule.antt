@@ -5,7 +5,7 @@ use Rattle.atomic_table.specs.Table.{State}
 use Rattle.tb_lock.specs.declared.view.View.{View}
 use Rattle.tb_lock.specs.declared.view.Stage.TheVariants.{Holding}
 use Rattle.tb_lock.specs.Meanings.{History, IsPrefix, Meanings}
-use Rattle.tb_lock.specs.Calls.{IsBetween, Stands, Makes, accepted_at}
+use Rattle.tb_lock.specs.Calls.{IsBetween, IsReadBy, Stands, Makes, accepted_at}
 use Rattle.tb_lock.specs.Views.{IsLive, spent, IsView, EachView, SomeView, total, share_of, tickets_of, HasTicket, HasTurn, HasTaken}
 
 -- Tickets. As many views have one as were drawn and not yet served. Their numbers are the one served now and those
@@ -99,12 +99,19 @@ pub record AreFaults {T : Type 0} (m : Meanings T) (opening_faults faults : ℕ)
   pub same : EachView views (λ v. IsLive v → v.opening_faults ≡ opening_faults)
   pub calls : EachView views (λ v. All (IsBetween opening_faults faults) v.mine)
 
+-- Readings. So many readings the clock of the value at home has given, and had given as the value was taken. The turn of
+-- no call ended at more of them.
+pub record AreRead {T : Type 0} (m : Meanings T) (read : ℕ) (homes : Homes T) (views : List View) : Type 0 where
+  pub value : (value : T) → IsHome homes value → m.readings value ≡ read
+  pub taken : (j n : ℕ) (v : View) → IsView views j v → HasTaken n v.stage → v.readings ≡ read
+  pub calls : EachView views (λ v. All (IsReadBy read) v.mine)
+
 -- the words: the numbers of the next ticket and of the turn, the count, and the faults
 abbrev pub words_of : ℕ → ℕ → ℕ → ℕ → List ℕ
 words_of drawn served count faults = (drawn % 2 ^ 64) ∷ (served % 2 ^ 64) ∷ count ∷ faults ∷ []
 
--- the rule: of the tickets drawn and served since the lock was made, the fixed part, the opening, the counted history
--- and the faults
+-- the rule: of the tickets drawn and served since the lock was made, the fixed part, the opening, the counted history,
+-- the faults and the number of the clock's readings
 pub record Rule {T : Type 0} (m : Meanings T) (s : State (Option T) View) : Type 0 where
   pub drawn : ℕ
   pub served : ℕ
@@ -113,6 +120,7 @@ pub record Rule {T : Type 0} (m : Meanings T) (s : State (Option T) View) : Type
   pub opening_faults : ℕ
   pub counted : History
   pub faults : ℕ
+  pub read : ℕ
   pub words : s.words ≡ words_of drawn served (length counted) faults
   pub queue : IsQueue drawn served s.views
   pub shares : AreShares s.views
@@ -123,3 +131,4 @@ pub record Rule {T : Type 0} (m : Meanings T) (s : State (Option T) View) : Type
   pub once : AreOnce m s.views
   pub made : AreMade m fixed opening counted s.homes s.views
   pub failed : AreFaults m opening_faults faults s.homes s.views
+  pub readings : AreRead m read s.homes s.views

@@ -5,7 +5,7 @@ use Rattle.tb_lock.specs.declared.view.Call.{Call}
 use Rattle.tb_lock.specs.declared.view.View.{View}
 use Rattle.tb_lock.specs.declared.view.Stage.TheVariants.{Idle, Waiting, Come, Holding, Raised}
 use Rattle.tb_lock.specs.Meanings.{IsPrefix, Meanings}
-use Rattle.tb_lock.specs.Calls.{IsBetween, IsOnce, Stands}
+use Rattle.tb_lock.specs.Calls.{IsBetween, IsReadBy, IsOnce, Stands}
 use Rattle.tb_lock.specs.Views.{at_stage, raised}
 use Rattle.tb_lock.specs.Turns.{taken, counted, HaveCounts, MayGive}
 
@@ -38,6 +38,7 @@ module _ {T : Type 0} (m : Meanings T) where
     pub stand : All (Stands m me.0.fixed (m.history value)) me.0.mine
     pub once : IsOnce m me.0.mine
     pub counts : All (IsBetween me.0.opening_faults (m.faults value)) me.0.mine
+    pub read : All (IsReadBy (m.readings value)) me.0.mine
     pub least : me.0.opening_faults ≤ m.faults value
 
   abbrev pub LooksAtFaults : Step (Option T) → Me (Option T) View → ℕ → Me (Option T) View → Type 0

@@ -68,7 +68,7 @@ tally_means = record {
   reading = λ t. t.clock;
   readings = λ t. t.clock;
   fixed = λ t. t.room ∷ t.fails ∷ [];
-  answered = λ fixed prefix code before after. MayAnswer (answer_in code) prefix (entry_in code) before after;
+  answered = λ fixed prefix code before after readings. MayAnswer (answer_in code) prefix (entry_in code) before after;
   answer = answer_in;
   entry = λ fixed prefix code. entry_in code;
   moment = moment_in;
@@ -76,7 +76,7 @@ tally_means = record {
 
 -- the number of a repeat stands before it
 pub tally_repeats : RepeatsStand tally_means
-tally_repeats fixed prefix code before after answered is = stands (answer_in code) is answered
+tally_repeats fixed prefix code before after readings answered is = stands (answer_in code) is answered
   where
     stands : (answer : Answer) → answer ≡ repeated → MayAnswer answer prefix (entry_in code) before after
         → Contains prefix (entry_in code)

@@ -5,7 +5,7 @@ use Rattle.tb_lock.specs.declared.view.View.{View}
 use Rattle.tb_lock.specs.declared.view.Stage.TheVariants.{Idle, Holding, Counted}
 use Rattle.tb_lock.specs.Meanings.{History, IsPrefix, repeated, Meanings}
 use Rattle.tb_lock.specs.Views.{at_stage}
-use Rattle.tb_lock.specs.Calls.{IsBetween, calls_on, entry_of, IsOnce, Stands, Makes, Leaves, accepted_of}
+use Rattle.tb_lock.specs.Calls.{IsBetween, IsReadBy, calls_on, entry_of, IsOnce, Stands, Makes, Leaves, accepted_of}
 
 -- a clock whose readings were counted before and after was read in between: the number rose, or stands at its last
 -- value
@@ -48,12 +48,14 @@ module _ {T : Type 0} (m : Meanings T) where
     pub once : IsOnce m before.mine
     -- the counts of faults of these calls are at least the opening's and at most the value's
     pub counts : All (IsBetween before.opening_faults (m.faults value)) before.mine
+    -- and the turn of none of them ended at more readings of the clock than the value has
+    pub read : All (IsReadBy (m.readings value)) before.mine
     pub least : before.opening_faults ≤ m.faults value
 
   -- the calls that are told of a turn at whose end the value is this one: each on as many first entries as are told,
-  -- with the counts of faults at the take and at the give
+  -- with the counts of faults at the take and at the give, and the number of the clock's readings at the give
   abbrev pub calls_of : View → T → List (List ℕ × ℕ) → List Call
-  calls_of v value told = calls_on (m.history value) v.faults_taken (m.faults value) told
+  calls_of v value told = calls_on (m.history value) v.faults_taken (m.faults value) (m.readings value) told
 
   -- the new entries are first the whole group in doubt, or nothing, and then those of the calls that were accepted
   pub record Adds (v : View) (calls : List Call) (history : History) : Type 0 where
@@ -71,13 +73,16 @@ module _ {T : Type 0} (m : Meanings T) where
   IsTimed v value c = (moment : ℕ) → m.moment c.code ≡ Some moment
       → (moment ≡ m.reading value) × IsReadBetween v.readings (m.readings value)
 
-  -- the counts of faults of the calls are those at the take and at the give
+  -- the counts of faults of the calls are those at the take and at the give, and they have the number of readings at
+  -- the give
   abbrev pub HaveCounts : View → T → List Call → Type 0
-  HaveCounts v value calls = All (λ c. (c.faults_before ≡ v.faults_taken) × (c.faults_after ≡ m.faults value)) calls
+  HaveCounts v value calls = All (λ c. (c.faults_before ≡ v.faults_taken) × (c.faults_after ≡ m.faults value)
+      × (c.readings ≡ m.readings value)) calls
 
   -- What a turn with these calls has to show at its end. Each was answered on a beginning of the value's history, which
   -- itself begins with the history taken, and its entry follows there where it was accepted. No entry is told to two of
-  -- them as accepted. The fixed part is as it was taken, and the count of faults is not less.
+  -- them as accepted. The fixed part is as it was taken, and neither the count of faults nor the number of the clock's
+  -- readings is less.
   pub record MayGive (v : View) (calls : List Call) (value : T) : Type 0 where
     pub stand : All (Stands m v.fixed (m.history value)) calls
     pub begin : All (λ c. IsPrefix v.seen c.prefix) calls
@@ -85,6 +90,7 @@ module _ {T : Type 0} (m : Meanings T) where
     pub timed : All (IsTimed v value) calls
     pub fixed : m.fixed value ≡ v.fixed
     pub faults : v.faults_taken ≤ m.faults value
+    pub readings : v.readings ≤ m.readings value
     pub adds : Adds v calls (m.history value)
     pub doubts : Doubts v calls (m.history value) (m.doubt value)
 
@@ -126,6 +132,8 @@ module _ {T : Type 0} (m : Meanings T) where
     pub repeats : All (λ c. m.answer c.code ≡ repeated → Contains c.prefix (entry_of m last.fixed c)) last.mine
     -- the counts of faults of these calls are at least the opening's and at most the value's
     pub counts : All (IsBetween last.opening_faults (m.faults value)) last.mine
+    -- the turn of none of them ended at more readings of the clock than the value has
+    pub read : All (IsReadBy (m.readings value)) last.mine
     -- which itself is at least the opening's, also where the pass made no call
     pub least : last.opening_faults ≤ m.faults value
     pub whole : last.share ≡ 2 ^ 64 - 1 → HasOnlyOwn last value

@@ -1,7 +1,7 @@
 //! A small value for this crate's tests and edits: numbers in the order in which they came, each once.
 //!
 //! It stands in the library and not among the tests, since the wrong bodies of `must-fail/` are tried without tests.
-ghost use Rattle.std.specs.Prelude.{◌≡◌, [], None};
+ghost use Rattle.std.specs.Prelude.{◌≡◌, ◌≤◌, [], None};
 ghost use Rattle.tb_lock.specs.Turns.{IsReadBetween};
 ghost use Rattle.tb_lock.specs.Tally.{Adds, Settles};
 
@@ -78,7 +78,8 @@ impl Told for Reading {
 
 // One more, or the last value.
 fn counted_on(count: u64) -> u64
-    ensures { IsReadBetween count result }
+    ensures read { IsReadBetween count result }
+    ensures rose { count ≤ result }
 {
     count.saturating_add(1)
 }

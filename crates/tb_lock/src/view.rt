@@ -16,12 +16,14 @@ pub enum Stage {
     Counted(u64),
 }
 
-/// A call, the history on which it was answered, and the counts of faults before and after it.
+/// A call, the history on which it was answered, the counts of faults before and after it, and how
+/// many readings the clock had given at the end of its turn.
 pub struct Call {
     pub code: LinkedList<u64>,
     pub prefix: LinkedList<LinkedList<u64>>,
     pub faults_before: u64,
     pub faults_after: u64,
+    pub readings: u64,
 }
 
 /// A pass, as contracts see it. The last five fields are of its turn.

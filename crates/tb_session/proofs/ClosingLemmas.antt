@@ -12,7 +12,7 @@ use Rattle.tb_message.specs.Spelling.{spelling}
 use Rattle.tb_lock.specs.declared.view.Call.{Call}
 use Rattle.tb_lock.specs.declared.view.View.{View}
 use Rattle.tb_lock.specs.Meanings.{History, IsPrefix}
-use Rattle.tb_lock.specs.Calls.{AreApart as AreApartCalls, Stands, IsBetween, MayAdd, Makes}
+use Rattle.tb_lock.specs.Calls.{AreApart as AreApartCalls, Stands, IsBetween, IsReadBy, MayAdd, Makes}
 use Rattle.tb_lock.specs.Turns.{Closes, HasOnlyOwn}
 use Rattle.tb_lock.specs.Views.{newcomer}
 use Rattle.tb_lock.proofs.PrefixLemmas.{any-later, any-weaker}
@@ -102,6 +102,12 @@ module _ {D C G K : Type 0} (disk : D → DiskState) (clock : C → ClockState) 
         all-unmapped (IsBetween v'.opening_faults after.desk.faults) call_of calls
         (subst (λ (l : List Call). All (IsBetween v'.opening_faults after.desk.faults) l) turns.mine closes.counts)
 
+    -- its turn ended at no more readings than the last
+    read : All (λ m. IsReadBy (clock after.clock).readings (call_of m)) calls
+    read =
+        all-unmapped (IsReadBy (clock after.clock).readings) call_of calls
+        (subst (λ (l : List Call). All (IsReadBy (clock after.clock).readings) l) turns.mine closes.read)
+
     -- two calls that the lock keeps apart were accepted on histories of different lengths
     apart : (m n : Made) → AreApartCalls (room_means disk clock) (call_of m) (call_of n) → AreApart m n
     apart m n calls_apart e f first second same =
@@ -163,7 +169,7 @@ module _ {D C G K : Type 0} (disk : D → DiskState) (clock : C → ClockState) 
         entries = λ k d within. any_made _ (only.entries k d within);
         doubted = λ k d within. any_made _ (only.doubt k d within);
         answered = λ k d within. IsAnswered-house _ (house_of disk clock room) (operator-house disk clock room)
-            (moments-house disk clock room) _ _ _ _ (turns.answered k d within);
+            (moments-house disk clock room) _ _ _ _ _ (turns.answered k d within);
         begins = turns.begin;
         prefixes = λ k d within. (stand k d within).prefix;
         accepted = λ k d within e is. one_accepted (get_or calls k d) e is (stand k d within);
@@ -171,6 +177,7 @@ module _ {D C G K : Type 0} (disk : D → DiskState) (clock : C → ClockState) 
         counts = λ k d within. let one = counts k d within in
             (omega (arith, one.least, turns.same.opening_faults), one.rising, one.most);
       };
+      read = read;
       served_is = turns.counted;
       accepted_is = omega (arith, is, longer);
       failed_is = turns.failed_is;

@@ -15,7 +15,7 @@ use Rattle.tb_session.proofs.OrderLemmas.{joined-append, joined-turns}
 pub gains-nothing : (v : View) → Gains v v []
 gains-nothing v = record {
   mine = sym (append-nil v.mine);
-  answered = All-nil (λ (m : Made). IsAnswered v.fixed m.history m.called m.before m.after);
+  answered = All-nil (λ (m : Made). IsAnswered v.fixed m.history m.called m.before m.after m.readings);
   begin = All-nil (λ (m : Made). IsPrefix v.seen (spelled_all m.history));
   seen = prefix-self v.seen;
   turns = [];
@@ -36,9 +36,10 @@ gains-then a b c first later one two = record {
       ∙ (ap (λ (l : List Call). l ++ map call_of later) one.mine
       ∙ (append_assoc a.mine (map call_of first) (map call_of later)
       ∙ ap (λ (l : List Call). a.mine ++ l) (sym (map-append call_of first later))));
-  answered = All-append (λ (m : Made). IsAnswered a.fixed m.history m.called m.before m.after) first later one.answered
-      (subst (λ (f : List ℕ). All (λ (m : Made). IsAnswered f m.history m.called m.before m.after) later) one.fixed
-      two.answered);
+  answered = All-append (λ (m : Made). IsAnswered a.fixed m.history m.called m.before m.after m.readings) first later
+      one.answered
+      (subst (λ (f : List ℕ). All (λ (m : Made). IsAnswered f m.history m.called m.before m.after m.readings) later)
+      one.fixed two.answered);
   begin = All-append (λ (m : Made). IsPrefix a.seen (spelled_all m.history)) first later one.begin
       (All-weaker (λ (m : Made). IsPrefix b.seen (spelled_all m.history))
       (λ (m : Made). IsPrefix a.seen (spelled_all m.history))

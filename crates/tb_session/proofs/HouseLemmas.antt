@@ -1,6 +1,6 @@
 -- Calls are answered by the operator's name and the clock's moments, whatever else stays fixed.
 use Rattle.std.proofs.Common.{◌≡◌, ℕ, List, [], ◌∷◌, ◌++◌, get_or, Option, Some, None, subst}
-use Rattle.std.specs.Prelude.{Result, Ok, Err, Contains, IfSome}
+use Rattle.std.specs.Prelude.{Result, Ok, Err, IfSome}
 use Rattle.tb_terms.specs.declared.refusal.Refusal.{Refusal}
 use Rattle.tb_link.specs.Sources.{SourceState}
 use Rattle.tb_link.specs.Sinks.{SinkState}
@@ -12,22 +12,22 @@ use Rattle.tb_message.specs.declared.message.Entry.{Entry}
 use Rattle.tb_session.specs.declared.answer.Answer.{Answer}
 use Rattle.tb_session.specs.declared.called.Called.{Called}
 use Rattle.tb_session.specs.Calls.{ComesOut, IsAnswerBy}
-use Rattle.tb_session.specs.Codes.{Made, IsAnswered, operator_in, moments_in}
+use Rattle.tb_session.specs.Codes.{Made, GivesAt, IsAnswered, operator_in, moments_in}
 use Rattle.tb_session.specs.Session.{Becomes, Exchange, IsExchange, IsSession, Session, caller_key}
 use Rattle.tb_session.specs.Serve.{AreRuns, IsRun, Run}
 
 module _ (fixed other : List ℕ) (operators : operator_in fixed ≡ operator_in other)
     (moments : moments_in fixed ≡ moments_in other) where
   -- a call is answered alike
-  pub IsAnswered-house : (history : List Entry) (c : Called) (before after : ℕ)
-      → IsAnswered fixed history c before after
-      → IsAnswered other history c before after
-  IsAnswered-house history c before after answered = record {
+  pub IsAnswered-house : (history : List Entry) (c : Called) (before after readings : ℕ)
+      → IsAnswered fixed history c before after readings
+      → IsAnswered other history c before after readings
+  IsAnswered-house history c before after readings answered = record {
     legal = answered.legal;
     in_range = answered.in_range;
     comes_out = subst (λ (name : List ℕ). ComesOut name history c c.outcome before after) operators answered.comes_out;
     given = answered.given;
-    timed = λ moment is. subst (λ (o : Option (List ℕ)). IfSome o (λ moments. Contains moments moment.seconds)) moments
+    timed = λ moment is. subst (λ (o : Option (List ℕ)). IfSome o (GivesAt readings moment)) moments
         (answered.timed moment is);
   }
 

@@ -5,6 +5,7 @@ use Rattle.std.proofs.lemmas.List.{length-map, take-replicate}
 use Rattle.std.proofs.Math.Seq.{take-append_seam}
 use Rattle.std.proofs.lemmas.List.Elements.{All-nil, All-cons, All-head, All-tail}
 use Rattle.tb_units.specs.declared.moment.Moment.{Moment}
+use Rattle.tb_link.specs.Counts.{last_count}
 use Rattle.tb_disk.specs.Disks.{DiskState}
 use Rattle.tb_gates.specs.Clocks.{ClockState}
 use Rattle.tb_message.specs.declared.key.Key.{Key}
@@ -29,6 +30,7 @@ use Rattle.tb_session.specs.Gains.{AreBidsOfOne, AsksBid, BecameCalls, Gains, Ga
 use Rattle.tb_session.specs.Turned.{Reads}
 use Rattle.tb_session.specs.Groups.{AreCallsOf, AreReplied, CallsTogether, GainsGroup, Replied, TellsGroup, answer_at, answer_of, answers_at, replied_by, said_in, told_back, told_group}
 use Rattle.tb_session.proofs.OpeningLemmas.{operator-locked}
+use Rattle.tb_session.proofs.TurnLemmas.{reads-on}
 use Rattle.tb_session.proofs.TogetherLemmas.{are-beside, gains-none, gains-together, made-length, made_from, may-nothing, may-together}
 
 -- as many calls as messages
@@ -57,35 +59,36 @@ calls-read k moment (asked ∷ messages) (r ∷ replied) old new are reads =
 -- the bids became these calls
 became-calls : (operator fixed : List ℕ) (k : Key) (moment : Moment) (bids : List (ℕ × Message))
     (replied : List Replied)
-    (at : List Entry) (low high from upto : ℕ)
+    (at : List Entry) (low high readings from upto : ℕ)
     → operator_in fixed ≡ operator
     → AreCallsOf k moment bids replied
     → AreReplied operator at from upto replied
-    → BecameCalls fixed k bids (made_from at low high replied) (said_in replied)
-became-calls operator fixed k moment [] [] at low high from upto is are answered = tt
-became-calls operator fixed k moment [] (r ∷ replied) at low high from upto is are answered = absurd are
-became-calls operator fixed k moment (asked ∷ bids) [] at low high from upto is are answered = absurd are
-became-calls operator fixed k moment (asked ∷ bids) (r ∷ replied) at low high from upto is are answered = (
+    → BecameCalls fixed k bids (made_from at low high readings replied) (said_in replied)
+became-calls operator fixed k moment [] [] at low high readings from upto is are answered = tt
+became-calls operator fixed k moment [] (r ∷ replied) at low high readings from upto is are answered = absurd are
+became-calls operator fixed k moment (asked ∷ bids) [] at low high readings from upto is are answered = absurd are
+became-calls operator fixed k moment (asked ∷ bids) (r ∷ replied) at low high readings from upto is are answered = (
   are.0,
   are.1,
   subst (λ (name : List ℕ). IsAnswerBy name at r.called r.called.outcome r.said) (sym is) answered.0.answer,
-  became-calls operator fixed k moment bids replied _ low high from upto is are.3 answered.1,
+  became-calls operator fixed k moment bids replied _ low high readings from upto is are.3 answered.1,
 )
 
 -- each of which is a bid with this key
 are-bids : (k : Key) (moment : Moment) (bids : List (ℕ × Message)) (replied : List Replied)
-    (at : List Entry) (low high : ℕ)
+    (at : List Entry) (low high readings : ℕ)
     → AreBids bids
     → AreCallsOf k moment bids replied
-    → All (IsBidWith k) (made_from at low high replied)
-are-bids k moment [] [] at low high all are = All-nil (IsBidWith k)
-are-bids k moment [] (r ∷ replied) at low high all are = absurd are
-are-bids k moment (asked ∷ bids) [] at low high all are = absurd are
-are-bids k moment (asked ∷ bids) (r ∷ replied) at low high all are =
+    → All (IsBidWith k) (made_from at low high readings replied)
+are-bids k moment [] [] at low high readings all are = All-nil (IsBidWith k)
+are-bids k moment [] (r ∷ replied) at low high readings all are = absurd are
+are-bids k moment (asked ∷ bids) [] at low high readings all are = absurd are
+are-bids k moment (asked ∷ bids) (r ∷ replied) at low high readings all are =
     let Bid : ℕ × Message → Type 0 = λ (one : ℕ × Message). IsBid one.1 in
-    All-cons (IsBidWith k) (record { called = r.called; history = at; before = low; after = high }) _
+    let m : Made = record { called = r.called; history = at; before = low; after = high; readings = readings } in
+    All-cons (IsBidWith k) m _
     (are.0, subst (λ (a : Ask). AsksBid a) (sym are.1) (All-head Bid asked bids all))
-    (are-bids k moment bids replied _ low high (All-tail Bid asked bids all) are.3)
+    (are-bids k moment bids replied _ low high readings (All-tail Bid asked bids all) are.3)
 
 -- the verdicts in the places
 answers-given : (given : List Verdict)
@@ -157,41 +160,50 @@ answers-failed places said n long few tells = (
 module _ {D C : Type 0} (disk : D → DiskState) (clock : C → ClockState) (v0 v : View) (old new : Room D C)
     (taken : IsTaken (room_means disk clock) v0 v old) (k : Key) (bids : List (ℕ × Message)) (moment : Moment)
     (places : List (Option Verdict)) (entries : ℕ) (counted : entries ≡ length new.desk.host.history)
-    (some : 1 ≤ length bids) (few : length bids ≤ 64) (all_bids : AreBids bids) where
+    (some : 1 ≤ length bids) (few : length bids ≤ 64) (all_bids : AreBids bids)
+    (limited : (clock old.clock).readings ≤ last_count) where
   module _ (replied : List Replied) (together : CallsTogether disk clock old new k bids moment replied) where
     reads : All (λ r. Reads r.called.moment (clock old.clock) (clock new.clock)) replied
     reads = calls-read k moment bids replied (clock old.clock) (clock new.clock) together.calls together.reads
+
+    -- the clock has given no fewer readings
+    on : (clock old.clock).readings ≤ (clock new.clock).readings
+    on = reads-on (Some moment) (clock old.clock) (clock new.clock) together.reads limited
 
     -- the turn may end
     one-may : MayGive (room_means disk clock) v (calls_of (room_means disk clock) v new (told_back entries replied)) new
     one-may =
         subst (λ (n : ℕ). MayGive (room_means disk clock) v
         (calls_of (room_means disk clock) v new (told_back n replied)) new) (sym counted)
-        (may-together disk clock v0 v old new taken replied together.does together.same together.reads.moments reads)
+        (may-together disk clock v0 v old new taken replied together.does together.same together.reads.moments reads on)
 
     one-none : new.desk.host.history ≡ old.desk.host.history → new.desk.doubt ≡ old.desk.doubt
         → MayGive (room_means disk clock) v [] new
     one-none history doubt =
         may-nothing disk clock v0 v old new taken replied together.does together.same
-        together.reads.moments reads history doubt
+        together.reads.moments reads on history doubt
 
     none-gained : new.desk.host.history ≡ old.desk.host.history → new.desk.doubt ≡ old.desk.doubt
         → Gains v0 (given (room_means disk clock) v [] new) []
     none-gained history doubt =
         gains-none disk clock v0 v old new taken replied together.does together.same
-        together.reads.moments reads history doubt
+        together.reads.moments reads on history doubt
 
     abbrev made : List Made
-    made = made_from together.does.at v.faults_taken new.desk.faults replied
+    made = made_from together.does.at v.faults_taken new.desk.faults (clock new.clock).readings replied
 
     one_turn : (1 ≤ length made) × AreBidsOfOne made
     one_turn =
-        let long = made-length replied together.does.at v.faults_taken new.desk.faults in
+        let long = made-length replied together.does.at v.faults_taken new.desk.faults (clock new.clock).readings in
         let same = calls-length k moment bids replied together.calls in (
           omega (arith, long, same, some),
           (
             omega (arith, long, same, few),
-            (k, are-bids k moment bids replied together.does.at v.faults_taken new.desk.faults all_bids together.calls),
+            (
+              k,
+              are-bids k moment bids replied together.does.at v.faults_taken new.desk.faults
+                  (clock new.clock).readings all_bids together.calls,
+            ),
           ),
         )
 
@@ -212,11 +224,11 @@ module _ {D C : Type 0} (disk : D → DiskState) (clock : C → ClockState) (v0 
       gains = subst (λ (n : ℕ). Gains v0 (given (room_means disk clock) v
           (calls_of (room_means disk clock) v new (told_back n replied)) new) made) (sym counted)
           (gains-together disk clock v0 v old new taken replied together.does together.same together.reads.moments reads
-          (inr one_turn));
+          on (inr one_turn));
       became = subst (λ (l : List Answer). BecameCalls v0.fixed k bids made l) (sym is)
           (became-calls old.operator v0.fixed k moment bids replied together.does.at v.faults_taken new.desk.faults
-          old.desk.faults new.desk.faults operator_is together.calls together.does.answered);
-      beside = are-beside replied together.does.at v.faults_taken new.desk.faults;
+          (clock new.clock).readings old.desk.faults new.desk.faults operator_is together.calls together.does.answered);
+      beside = are-beside replied together.does.at v.faults_taken new.desk.faults (clock new.clock).readings;
       one = one_turn;
       plain = subst (λ (l : List Answer). All IsPlain l) (sym is) plain;
     }

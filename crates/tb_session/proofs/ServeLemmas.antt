@@ -27,7 +27,7 @@ module _ {D C G K : Type 0} (gate : G → GateState K) (source : K → SourceSta
     pub are_runs : AreRuns gate source sink v.fixed (map (λ (w : Worker D C G). w.gate) olds)
         (map (λ (w : Worker D C G). w.gate) news) runs
     pub mine : flat_map calls_with news ≡ map call_of (calls_of_gates runs)
-    pub answered : All (λ m. IsAnswered v.fixed m.history m.called m.before m.after) (calls_of_gates runs)
+    pub answered : All (λ m. IsAnswered v.fixed m.history m.called m.before m.after m.readings) (calls_of_gates runs)
     pub begin : All (λ m. IsPrefix v.seen (spelled_all m.history)) (calls_of_gates runs)
     pub share : sum_by share_of news ≡ sum_by share_of olds
     pub counted : sum_by served_of news ≡ links_of_gates runs
@@ -61,9 +61,10 @@ module _ {D C G K : Type 0} (gate : G → GateState K) (source : K → SourceSta
       finished = worked.works.finished;
     }
 
-    one_answered : All (λ m. IsAnswered v.fixed m.history m.called m.before m.after) made
+    one_answered : All (λ m. IsAnswered v.fixed m.history m.called m.before m.after m.readings) made
     one_answered =
-        subst (λ (f : List ℕ). All (λ m. IsAnswered f m.history m.called m.before m.after) made) hired.same.fixed
+        subst (λ (f : List ℕ). All (λ m. IsAnswered f m.history m.called m.before m.after m.readings) made)
+        hired.same.fixed
         on.gains.answered
 
     one_begin : All (λ m. IsPrefix v.seen (spelled_all m.history)) made
@@ -77,7 +78,7 @@ module _ {D C G K : Type 0} (gate : G → GateState K) (source : K → SourceSta
       mine = ap (λ (l : List Call). l ++ flat_map calls_with ns) mine_is
           ∙ (ap (λ (l : List Call). map call_of made ++ l) more.mine
           ∙ sym (map-append call_of made (calls_of_gates more.runs)));
-      answered = All-append (λ m. IsAnswered v.fixed m.history m.called m.before m.after) made
+      answered = All-append (λ m. IsAnswered v.fixed m.history m.called m.before m.after m.readings) made
           (calls_of_gates more.runs)
           one_answered more.answered;
       begin = All-append (λ m. IsPrefix v.seen (spelled_all m.history)) made (calls_of_gates more.runs) one_begin
@@ -110,7 +111,7 @@ module _ {D C G K : Type 0} (gate : G → GateState K) (source : K → SourceSta
     runs = [];
     are_runs = tt;
     mine = refl;
-    answered = All-nil (λ m. IsAnswered v.fixed m.history m.called m.before m.after);
+    answered = All-nil (λ m. IsAnswered v.fixed m.history m.called m.before m.after m.readings);
     begin = All-nil (λ m. IsPrefix v.seen (spelled_all m.history));
     share = refl;
     counted = refl;

@@ -34,66 +34,68 @@ use Rattle.tb_session.specs.Turned.{SameHouse, added_by, Reads}
 use Rattle.tb_session.specs.Groups.{Replied, added_in, would_add, in_doubt, IsReplied, AreReplied, DoTogether, told_back}
 use Rattle.tb_session.proofs.OpeningLemmas.{operator-locked}
 use Rattle.tb_session.proofs.OrderLemmas.{one-more}
-use Rattle.tb_session.proofs.TurnLemmas.{spelled-append, spelled-begins, added-spelled, accepted-entry, reads-timed, reads-given, left-begins}
+use Rattle.tb_session.proofs.TurnLemmas.{spelled-append, spelled-begins, added-spelled, accepted-entry, reads-timed, reads-given, read-since, left-begins}
 
 -- the calls as they were made, each on what the calls before it left
-abbrev pub made_from : List Entry → ℕ → ℕ → List Replied → List Made
-made_from at low high [] = []
-made_from at low high (r ∷ others) =
-    record { called = r.called; history = at; before = low; after = high }
-    ∷ made_from (at ++ added_by r.called.outcome) low high others
+abbrev pub made_from : List Entry → ℕ → ℕ → ℕ → List Replied → List Made
+made_from at low high readings [] = []
+made_from at low high readings (r ∷ others) =
+    record { called = r.called; history = at; before = low; after = high; readings = readings }
+    ∷ made_from (at ++ added_by r.called.outcome) low high readings others
 
 -- one history begins another that is longer by these entries
 longer : (xs ys zs more : List Entry) → zs ≡ xs ++ (ys ++ more) → zs ≡ (xs ++ ys) ++ more
 longer xs ys zs more is = is ∙ sym (append_assoc xs ys more)
 
 -- what a call leaves is its history with its entry
-left-is : (r : Replied) (at : List Entry) (low high : ℕ)
-    → left_by (call_of (record { called = r.called; history = at; before = low; after = high }))
+left-is : (r : Replied) (at : List Entry) (low high readings : ℕ)
+    → left_by (call_of (record { called = r.called; history = at; before = low; after = high; readings = readings }))
     ≡ spelled_all (at ++ added_by r.called.outcome)
-left-is r at low high =
+left-is r at low high readings =
     ap (λ (e : List ℕ). spelled_all at ++ added_if (kind_at (outcome_code r.called.outcome)) e []) (entry-code r.called)
     ∙ (ap (λ (l : History). spelled_all at ++ l) (added-spelled r.called.outcome)
     ∙ sym (spelled-append at (added_by r.called.outcome)))
 
 -- all calls from here on were answered on a history that begins with this one
-all-begin : (first : History) (replied : List Replied) (at : List Entry) (low high : ℕ)
+all-begin : (first : History) (replied : List Replied) (at : List Entry) (low high readings : ℕ)
     → IsPrefix first (spelled_all at)
-    → All (λ m. IsPrefix first (spelled_all m.history)) (made_from at low high replied)
-all-begin first [] at low high begins = All-nil (λ (m : Made). IsPrefix first (spelled_all m.history))
-all-begin first (r ∷ replied) at low high begins =
+    → All (λ m. IsPrefix first (spelled_all m.history)) (made_from at low high readings replied)
+all-begin first [] at low high readings begins = All-nil (λ (m : Made). IsPrefix first (spelled_all m.history))
+all-begin first (r ∷ replied) at low high readings begins =
     let Begins : Made → Type 0 = λ (m : Made). IsPrefix first (spelled_all m.history) in
-    All-cons Begins (record { called = r.called; history = at; before = low; after = high })
-    (made_from (at ++ added_by r.called.outcome) low high replied) begins
-    (all-begin first replied (at ++ added_by r.called.outcome) low high
+    All-cons Begins (record { called = r.called; history = at; before = low; after = high; readings = readings })
+    (made_from (at ++ added_by r.called.outcome) low high readings replied) begins
+    (all-begin first replied (at ++ added_by r.called.outcome) low high readings
     (prefix-trans first (spelled_all at) (spelled_all (at ++ added_by r.called.outcome)) begins
     (spelled-begins at (added_by r.called.outcome) _ refl)))
 
 -- so what a call left begins the histories of those behind it, which have its counts
-all-beside : (call : Call) (replied : List Replied) (at : List Entry) (low high : ℕ)
+all-beside : (call : Call) (replied : List Replied) (at : List Entry) (low high readings : ℕ)
     → call.faults_before ≡ low
     → call.faults_after ≡ high
+    → call.readings ≡ readings
     → IsPrefix (left_by call) (spelled_all at)
-    → All (StandsBeside call) (map call_of (made_from at low high replied))
-all-beside call [] at low high before after begins = All-nil (StandsBeside call)
-all-beside call (r ∷ replied) at low high before after begins =
-    All-cons (StandsBeside call) (call_of (record { called = r.called; history = at; before = low; after = high }))
-    (map call_of (made_from (at ++ added_by r.called.outcome) low high replied))
-    (record { history = begins; before = before; after = after })
-    (all-beside call replied (at ++ added_by r.called.outcome) low high before after
+    → All (StandsBeside call) (map call_of (made_from at low high readings replied))
+all-beside call [] at low high readings before after read begins = All-nil (StandsBeside call)
+all-beside call (r ∷ replied) at low high readings before after read begins =
+    let m : Made = record { called = r.called; history = at; before = low; after = high; readings = readings } in
+    All-cons (StandsBeside call) (call_of m)
+    (map call_of (made_from (at ++ added_by r.called.outcome) low high readings replied))
+    (record { history = begins; before = before; after = after; readings = read })
+    (all-beside call replied (at ++ added_by r.called.outcome) low high readings before after read
     (prefix-trans (left_by call) (spelled_all at) (spelled_all (at ++ added_by r.called.outcome)) begins
     (spelled-begins at (added_by r.called.outcome) _ refl)))
 
 -- so the calls are those of one turn, in order
-pub are-beside : (replied : List Replied) (at : List Entry) (low high : ℕ)
-    → AreBeside (map call_of (made_from at low high replied))
-are-beside [] at low high = tt
-are-beside (r ∷ replied) at low high =
-    let m : Made = record { called = r.called; history = at; before = low; after = high } in (
-      all-beside (call_of m) replied (at ++ added_by r.called.outcome) low high refl refl
+pub are-beside : (replied : List Replied) (at : List Entry) (low high readings : ℕ)
+    → AreBeside (map call_of (made_from at low high readings replied))
+are-beside [] at low high readings = tt
+are-beside (r ∷ replied) at low high readings =
+    let m : Made = record { called = r.called; history = at; before = low; after = high; readings = readings } in (
+      all-beside (call_of m) replied (at ++ added_by r.called.outcome) low high readings refl refl refl
           (subst (λ (l : History). IsPrefix l (spelled_all (at ++ added_by r.called.outcome)))
-          (sym (left-is r at low high)) (prefix-self (spelled_all (at ++ added_by r.called.outcome)))),
-      are-beside replied (at ++ added_by r.called.outcome) low high,
+          (sym (left-is r at low high readings)) (prefix-self (spelled_all (at ++ added_by r.called.outcome)))),
+      are-beside replied (at ++ added_by r.called.outcome) low high readings,
     )
 
 module _ {D C : Type 0} (disk : D → DiskState) (clock : C → ClockState) where
@@ -115,24 +117,29 @@ module _ {D C : Type 0} (disk : D → DiskState) (clock : C → ClockState) wher
       (beside-once calls beside.1)
 
 -- there are as many
-pub made-length : (replied : List Replied) (at : List Entry) (low high : ℕ)
-    → length (made_from at low high replied) ≡ length replied
-made-length [] at low high = refl
-made-length (r ∷ replied) at low high =
-    omega (arith, made-length replied (at ++ added_by r.called.outcome) low high)
+pub made-length : (replied : List Replied) (at : List Entry) (low high readings : ℕ)
+    → length (made_from at low high readings replied) ≡ length replied
+made-length [] at low high readings = refl
+made-length (r ∷ replied) at low high readings =
+    omega (arith, made-length replied (at ++ added_by r.called.outcome) low high readings)
 
 module _ {D C : Type 0} (disk : D → DiskState) (clock : C → ClockState) (v0 v : View) (old new : Room D C)
     (taken : IsTaken (room_means disk clock) v0 v old) (replied : List Replied)
     (does : DoTogether old.operator (held old.desk) (held new.desk) old.desk.faults new.desk.faults replied)
     (same : SameHouse disk clock old new) (moments : (clock new.clock).moments ≡ (clock old.clock).moments)
-    (reads : All (λ r. Reads r.called.moment (clock old.clock) (clock new.clock)) replied) where
+    (reads : All (λ r. Reads r.called.moment (clock old.clock) (clock new.clock)) replied)
+    (on : (clock old.clock).readings ≤ (clock new.clock).readings) where
+  -- how many readings the clock has given at the end
+  abbrev read_to : ℕ
+  read_to = (clock new.clock).readings
+
   -- the history at the end
   abbrev last : History
   last = spelled_all new.desk.host.history
 
   -- the calls as they were made
   abbrev made : List Made
-  made = made_from does.at v.faults_taken new.desk.faults replied
+  made = made_from does.at v.faults_taken new.desk.faults read_to replied
 
   -- and as the lock keeps them
   abbrev calls : List Call
@@ -157,14 +164,21 @@ module _ {D C : Type 0} (disk : D → DiskState) (clock : C → ClockState) (v0 
   module _ (r : Replied) (at : List Entry) where
     -- as it was made
     abbrev one : Made
-    one = record { called = r.called; history = at; before = v.faults_taken; after = new.desk.faults }
+    one = record {
+      called = r.called;
+      history = at;
+      before = v.faults_taken;
+      after = new.desk.faults;
+      readings = read_to;
+    }
 
     -- it was answered there
     one_answered : IsReplied old.operator at old.desk.faults new.desk.faults r
         → Reads r.called.moment (clock old.clock) (clock new.clock)
-        → IsAnswered v.fixed at r.called v.faults_taken new.desk.faults
+        → IsAnswered v.fixed at r.called v.faults_taken new.desk.faults read_to
     one_answered is read =
-        let out : IsAnswered (fixed_of disk clock old) at r.called old.desk.faults new.desk.faults = record {
+        let out : IsAnswered (fixed_of disk clock old) at r.called old.desk.faults new.desk.faults
+        read_to = record {
           legal = is.legal;
           in_range = is.in_range;
           comes_out = subst (λ (name : List ℕ). ComesOut name at r.called r.called.outcome old.desk.faults
@@ -175,9 +189,11 @@ module _ {D C : Type 0} (disk : D → DiskState) (clock : C → ClockState) (v0 
           timed = reads-given old.operator (disk old.desk.opened) old.desk.recovered r.called.moment (clock old.clock)
               (clock new.clock) read;
         } in
-        subst (λ (f : List ℕ). IsAnswered f at r.called v.faults_taken new.desk.faults) fixed_old
-        (subst (λ (n : ℕ). IsAnswered (fixed_of disk clock old) at r.called n new.desk.faults) (sym taken.faults_taken)
-        out)
+        subst (λ (f : List ℕ). IsAnswered f at r.called v.faults_taken new.desk.faults read_to)
+        fixed_old
+        (subst
+        (λ (n : ℕ). IsAnswered (fixed_of disk clock old) at r.called n new.desk.faults read_to)
+        (sym taken.faults_taken) out)
 
     -- it stands in the history at the end
     one_stands : IsReplied old.operator at old.desk.faults new.desk.faults r
@@ -207,7 +223,7 @@ module _ {D C : Type 0} (disk : D → DiskState) (clock : C → ClockState) (v0 
     one_timed read seconds is =
         let found = reads-timed r.called.moment (clock old.clock) (clock new.clock) read seconds is in (
           found.0,
-          subst (λ (n : ℕ). IsReadBetween n (clock new.clock).readings)
+          subst (λ (n : ℕ). IsReadBetween n read_to)
               (sym taken.readings) found.1,
         )
 
@@ -217,7 +233,7 @@ module _ {D C : Type 0} (disk : D → DiskState) (clock : C → ClockState) (v0 
       → All (λ r. Reads r.called.moment (clock old.clock) (clock new.clock)) others
       → new.desk.host.history ≡ at ++ added_in others
       → All (Stands (room_means disk clock) v.fixed last)
-      (map call_of (made_from at v.faults_taken new.desk.faults others))
+      (map call_of (made_from at v.faults_taken new.desk.faults read_to others))
   all_stand [] at are read is = All-nil (Stands (room_means disk clock) v.fixed last)
   all_stand (r ∷ others) at are read is =
       let Read : Replied → Type 0 = λ (x : Replied). Reads x.called.moment (clock old.clock) (clock new.clock) in
@@ -231,19 +247,21 @@ module _ {D C : Type 0} (disk : D → DiskState) (clock : C → ClockState) (v0 
   all_answered : (others : List Replied) (at : List Entry)
       → AreReplied old.operator at old.desk.faults new.desk.faults others
       → All (λ r. Reads r.called.moment (clock old.clock) (clock new.clock)) others
-      → All (λ m. IsAnswered v.fixed m.history m.called m.before m.after)
-      (made_from at v.faults_taken new.desk.faults others)
-  all_answered [] at are read = All-nil (λ (m : Made). IsAnswered v.fixed m.history m.called m.before m.after)
+      → All (λ m. IsAnswered v.fixed m.history m.called m.before m.after m.readings)
+      (made_from at v.faults_taken new.desk.faults read_to others)
+  all_answered [] at are read =
+      All-nil (λ (m : Made). IsAnswered v.fixed m.history m.called m.before m.after m.readings)
   all_answered (r ∷ others) at are read =
       let Read : Replied → Type 0 = λ (x : Replied). Reads x.called.moment (clock old.clock) (clock new.clock) in
-      All-cons (λ (m : Made). IsAnswered v.fixed m.history m.called m.before m.after) (one r at) _
+      All-cons (λ (m : Made). IsAnswered v.fixed m.history m.called m.before m.after m.readings) (one r at) _
       (one_answered r at are.0 (All-head Read r others read))
       (all_answered others (at ++ added_by r.called.outcome) are.1 (All-tail Read r others read))
 
   -- and have that reading
   all_timed : (others : List Replied) (at : List Entry)
       → All (λ r. Reads r.called.moment (clock old.clock) (clock new.clock)) others
-      → All (IsTimed (room_means disk clock) v new) (map call_of (made_from at v.faults_taken new.desk.faults others))
+      → All (IsTimed (room_means disk clock) v new)
+      (map call_of (made_from at v.faults_taken new.desk.faults read_to others))
   all_timed [] at read = All-nil (IsTimed (room_means disk clock) v new)
   all_timed (r ∷ others) at read =
       let Read : Replied → Type 0 = λ (x : Replied). Reads x.called.moment (clock old.clock) (clock new.clock) in
@@ -253,12 +271,13 @@ module _ {D C : Type 0} (disk : D → DiskState) (clock : C → ClockState) (v0 
 
   -- the entries that the lock adds are those that the calls add
   all_added : (others : List Replied) (at : List Entry)
-      → accepted_of (room_means disk clock) v.fixed (map call_of (made_from at v.faults_taken new.desk.faults others))
+      → accepted_of (room_means disk clock) v.fixed
+      (map call_of (made_from at v.faults_taken new.desk.faults read_to others))
       ≡ spelled_all (added_in others)
   all_added [] at = refl
   all_added (r ∷ others) at =
       let more : History = accepted_of (room_means disk clock) v.fixed
-      (map call_of (made_from (at ++ added_by r.called.outcome) v.faults_taken new.desk.faults others)) in
+      (map call_of (made_from (at ++ added_by r.called.outcome) v.faults_taken new.desk.faults read_to others)) in
       ap (λ (e : List ℕ). added_if (kind_at (outcome_code r.called.outcome)) e more) (entry-code r.called)
       ∙ (added-front r.called.outcome more
       ∙ (ap (λ (l : History). spelled_all (added_by r.called.outcome) ++ l)
@@ -276,8 +295,8 @@ module _ {D C : Type 0} (disk : D → DiskState) (clock : C → ClockState) (v0 
   -- as the lock is told them
   all_told : (others : List Replied) (at : List Entry)
       → new.desk.host.history ≡ at ++ added_in others
-      → calls_on last v.faults_taken new.desk.faults (told_back (length new.desk.host.history) others)
-      ≡ map call_of (made_from at v.faults_taken new.desk.faults others)
+      → calls_on last v.faults_taken new.desk.faults read_to (told_back (length new.desk.host.history) others)
+      ≡ map call_of (made_from at v.faults_taken new.desk.faults read_to others)
   all_told [] at is = refl
   all_told (r ∷ others) at is =
       let next = longer at (added_by r.called.outcome) new.desk.host.history (added_in others) is in
@@ -289,7 +308,8 @@ module _ {D C : Type 0} (disk : D → DiskState) (clock : C → ClockState) (v0 
         prefix = l;
         faults_before = v.faults_taken;
         faults_after = new.desk.faults;
-      } ∷ calls_on last v.faults_taken new.desk.faults (told_back (length new.desk.host.history) others))
+        readings = read_to;
+      } ∷ calls_on last v.faults_taken new.desk.faults read_to (told_back (length new.desk.host.history) others))
       (take-prefix count (spelled_all at) last
       (spelled-begins at (added_in (r ∷ others)) new.desk.host.history is) (counted ∙ sym (length-map at spelling)))
       ∙ ap (λ (l : List Call). call_of (one r at) ∷ l) (all_told others (at ++ added_by r.called.outcome) next)
@@ -310,7 +330,7 @@ module _ {D C : Type 0} (disk : D → DiskState) (clock : C → ClockState) (v0 
       → All (λ (c : Call). IsPrefix first c.prefix) calls
   all_seen first begins =
       All-mapped (λ (c : Call). IsPrefix first c.prefix) made
-      (all-begin first replied does.at v.faults_taken new.desk.faults begins)
+      (all-begin first replied does.at v.faults_taken new.desk.faults read_to begins)
     where
       All-mapped : (P : Call → Type 0) (ms : List Made) → All (λ m. P (call_of m)) ms → All P (map call_of ms)
       All-mapped P [] all = All-nil P
@@ -376,13 +396,14 @@ module _ {D C : Type 0} (disk : D → DiskState) (clock : C → ClockState) (v0 
   -- so what the calls would add is left by the lock's calls
   leaves_all : (others : List Replied) (at history : List Entry)
       → All (λ (e : List ℕ). Any (Leaves (room_means disk clock) v.fixed e)
-      (map call_of (made_from at v.faults_taken new.desk.faults others))) (spelled_all (in_doubt history others))
+      (map call_of (made_from at v.faults_taken new.desk.faults read_to others)))
+      (spelled_all (in_doubt history others))
   leaves_all [] at history = All-nil (λ (e : List ℕ). Any (Leaves (room_means disk clock) v.fixed e) [])
   leaves_all (r ∷ others) at history =
       let here : List Entry = would_add history r.called.outcome in
       let rest : List Entry = in_doubt (history ++ here) others in
       let later : List Call =
-      map call_of (made_from (at ++ added_by r.called.outcome) v.faults_taken new.desk.faults others) in
+      map call_of (made_from (at ++ added_by r.called.outcome) v.faults_taken new.desk.faults read_to others) in
       let Left : List ℕ → Type 0 =
       λ (e : List ℕ). Any (Leaves (room_means disk clock) v.fixed e) (call_of (one r at) ∷ later) in
       subst (λ (l : History). All Left l) (sym (spelled-append here rest))
@@ -411,15 +432,20 @@ module _ {D C : Type 0} (disk : D → DiskState) (clock : C → ClockState) (v0 
   least : v.faults_taken ≤ new.desk.faults
   least = omega (arith, does.least, taken.faults_taken)
 
+  -- nor is the number of readings
+  not_fewer : v.readings ≤ read_to
+  not_fewer = omega (arith, taken.readings, on)
+
   -- so the turn may end with these calls
   may_calls : MayGive (room_means disk clock) v calls new
   may_calls = record {
     stand = all_stand replied does.at does.answered reads does.grown;
     begin = all_seen v.seen seen_at;
-    once = beside-once disk clock calls (are-beside replied does.at v.faults_taken new.desk.faults);
+    once = beside-once disk clock calls (are-beside replied does.at v.faults_taken new.desk.faults read_to);
     timed = all_timed replied does.at reads;
     fixed = fixed_same;
     faults = least;
+    readings = not_fewer;
     adds = adds_them;
     doubts = doubts_them;
   }
@@ -447,13 +473,23 @@ module _ {D C : Type 0} (disk : D → DiskState) (clock : C → ClockState) (v0 
   follow_from : (c : Call) (others : List Replied) (at : List Entry)
       → IsPrefix (left_by c) (spelled_all at)
       → c.faults_after ≤ v.faults_taken
-      → All (Follows c) (map call_of (made_from at v.faults_taken new.desk.faults others))
-  follow_from c [] at begins most = All-nil (Follows c)
-  follow_from c (r ∷ others) at begins most =
-      All-cons (Follows c) (call_of (one r at)) _ (record { history = begins; faults = most })
+      → c.readings ≤ (clock old.clock).readings
+      → All (λ r. Reads r.called.moment (clock old.clock) (clock new.clock)) others
+      → All (Follows c) (map call_of (made_from at v.faults_taken new.desk.faults read_to others))
+  follow_from c [] at begins most by read = All-nil (Follows c)
+  follow_from c (r ∷ others) at begins most by read =
+      let Read : Replied → Type 0 = λ (x : Replied). Reads x.called.moment (clock old.clock) (clock new.clock) in
+      All-cons (Follows c) (call_of (one r at)) _
+      (record {
+        history = begins;
+        faults = most;
+        readings = omega (arith, by, on);
+        read = λ moment is. read-since c.readings (clock old.clock).readings read_to by
+            (reads-timed r.called.moment (clock old.clock) (clock new.clock) (All-head Read r others read) moment is).1;
+      })
       (follow_from c others (at ++ added_by r.called.outcome)
       (prefix-trans (left_by c) (spelled_all at) (spelled_all (at ++ added_by r.called.outcome)) begins
-      (spelled-begins at (added_by r.called.outcome) _ refl)) most)
+      (spelled-begins at (added_by r.called.outcome) _ refl)) most by (All-tail Read r others read))
 
   -- whichever call that is
   follows_all : All (λ c. All (Follows c) calls) v0.mine
@@ -463,22 +499,22 @@ module _ {D C : Type 0} (disk : D → DiskState) (clock : C → ClockState) (v0 
       follow_from c replied does.at
       (prefix-trans (left_by c) (spelled_all old.desk.host.history) (spelled_all does.at)
       (left-begins c (kind_in c.code) (entry_in c.code) (spelled_all old.desk.host.history) s.prefix s.entry) old_at)
-      (let most = (taken.counts k d lt).most in omega (arith, most, taken.faults_taken))
+      (let most = (taken.counts k d lt).most in omega (arith, most, taken.faults_taken)) (taken.read k d lt) reads
 
   -- so the pass gained them
   gains_calls : IsTurn made
       → Gains v0 (given (room_means disk clock) v calls new) made
   gains_calls turn = record {
     mine = ap (λ (l : List Call). l ++ calls) taken.mine;
-    answered = subst (λ (f : List ℕ). All (λ (m : Made). IsAnswered f m.history m.called m.before m.after) made)
-        taken.same_fixed (all_answered replied does.at does.answered reads);
-    begin = all-begin v0.seen replied does.at v.faults_taken new.desk.faults begin;
+    answered = subst (λ (f : List ℕ). All (λ (m : Made). IsAnswered f m.history m.called m.before m.after m.readings)
+        made) taken.same_fixed (all_answered replied does.at does.answered reads);
+    begin = all-begin v0.seen replied does.at v.faults_taken new.desk.faults read_to begin;
     seen = prefix-trans v0.seen (spelled_all does.at) last begin
         (spelled-begins does.at (added_in replied) _ does.grown);
     turns = made ∷ [];
     cut = sym (append-nil made);
     each = All-cons IsTurn made [] turn (All-nil IsTurn);
-    order = one-more v0.mine made (are-beside replied does.at v.faults_taken new.desk.faults) follows_all;
+    order = one-more v0.mine made (are-beside replied does.at v.faults_taken new.desk.faults read_to) follows_all;
     share = taken.share;
     fixed = taken.same_fixed;
     opening = taken.opening;
@@ -502,6 +538,7 @@ module _ {D C : Type 0} (disk : D → DiskState) (clock : C → ClockState) (v0 
       timed = All-nil (IsTimed (room_means disk clock) v new);
       fixed = fixed_same;
       faults = least;
+      readings = not_fewer;
       adds = record {
         group = [];
         resolved = inl refl;
@@ -517,7 +554,7 @@ module _ {D C : Type 0} (disk : D → DiskState) (clock : C → ClockState) (v0 
     pub gains-none : Gains v0 (given (room_means disk clock) v [] new) []
     gains-none = record {
       mine = ap (λ (l : List Call). l ++ []) taken.mine;
-      answered = All-nil (λ (m : Made). IsAnswered v0.fixed m.history m.called m.before m.after);
+      answered = All-nil (λ (m : Made). IsAnswered v0.fixed m.history m.called m.before m.after m.readings);
       begin = All-nil (λ (m : Made). IsPrefix v0.seen (spelled_all m.history));
       seen = subst (λ (l : History). IsPrefix v0.seen l) (sym (ap (λ (l : List Entry). spelled_all l) history))
           taken.begins;

@@ -7,7 +7,7 @@ use Rattle.std.proofs.lemmas.List.Elements.{All-nil, All-cons, All-weaker}
 use Rattle.tb_units.specs.declared.moment.Moment.{Moment}
 use Rattle.tb_link.specs.Counts.{last_count}
 use Rattle.tb_disk.specs.Disks.{DiskState}
-use Rattle.tb_gates.specs.Clocks.{ClockState}
+use Rattle.tb_gates.specs.Clocks.{ClockState, moment_after}
 use Rattle.tb_message.specs.declared.key.Key.{Key}
 use Rattle.tb_message.specs.declared.message.Entry.{Entry}
 use Rattle.tb_message.specs.Spelling.{spelling}
@@ -24,7 +24,7 @@ use Rattle.tb_session.specs.declared.called.Outcome.TheVariants as outcome
 use Rattle.tb_session.specs.declared.room.Room.{Room}
 use Rattle.tb_session.specs.declared.turn.Turn.{Turn}
 use Rattle.tb_session.specs.Calls.{ComesOut, IsAnswerBy}
-use Rattle.tb_session.specs.Codes.{spelled_all, code_of, kind_at, kind_in, entry_in, entry_of, outcome_code, moment_at, moment_code, MayGiveMoment, IsAnswered, Made, call_of, IsAnswerOf}
+use Rattle.tb_session.specs.Codes.{spelled_all, code_of, kind_at, kind_in, entry_in, entry_of, outcome_code, moment_at, moment_code, GivesAt, GivesMoment, IsAnswered, Made, call_of, IsAnswerOf}
 use Rattle.tb_session.specs.CodeLaws.{entry-code}
 use Rattle.tb_session.specs.Openings.{lock_code}
 use Rattle.tb_session.specs.Rooms.{room_means, fixed_of}
@@ -90,16 +90,37 @@ reads-timed (Some moment) a b reads seconds is =
     let same : moment.seconds ≡ seconds = cc in
     (sym same ∙ sym reads.reading, read-between a.readings b.readings reads.readings)
 
--- and it is one that the clock may give
+-- there are no fewer readings afterwards
+pub reads-on : (m : Option Moment) (a b : ClockState) → Reads m a b → a.readings ≤ last_count → a.readings ≤ b.readings
+reads-on None a b reads limited = omega (arith, ap (λ (s : ClockState). s.readings) reads)
+reads-on (Some moment) a b reads limited = omega (arith, reads.readings, limited)
+
+-- a clock that was read since some readings was read since fewer
+pub read-since : (fewer before after : ℕ) → fewer ≤ before → IsReadBetween before after → IsReadBetween fewer after
+read-since fewer before after le read = elim read [
+  | inl less ↦ inl (omega (arith, less, le))
+  | inr most ↦ inr most
+]
+
+-- a clock that tells its moments gives the one at this reading
+gives-at : (o : Option (List ℕ)) (before after : ℕ) (moment : Moment)
+    → after ≡ min (before + 1) last_count
+    → IfSome o (λ moments. Contains moments moment.seconds)
+    → IfSome o (λ moments. moment.seconds ≡ moment_after before moments)
+    → IfSome o (GivesAt after moment)
+gives-at None before after moment is told in_turn = tt
+gives-at (Some moments) before after moment is told in_turn = (told, (before, is, in_turn))
+
+-- and it is the one that the clock gives at this reading
 pub reads-given : (name : List ℕ) (opened : DiskState) (recovered : ℕ) (m : Option Moment) (a b : ClockState)
     → Reads m a b → (moment : Moment) → m ≡ Some moment
-    → MayGiveMoment (lock_code name opened recovered a.moments) moment
+    → GivesMoment (lock_code name opened recovered a.moments) b.readings moment
 reads-given name opened recovered None a b reads moment is = absurd (let bad : ⊥ = cc in bad)
 reads-given name opened recovered (Some given_one) a b reads moment is =
-    subst (λ (o : Option (List ℕ)). IfSome o (λ moments. Contains moments moment.seconds))
+    subst (λ (o : Option (List ℕ)). IfSome o (GivesAt b.readings moment))
     (sym (moments-locked name opened recovered a.moments))
-    (subst (λ (m : Moment). IfSome a.moments (λ moments. Contains moments m.seconds)) (same-some given_one moment is)
-    reads.told)
+    (subst (λ (m : Moment). IfSome a.moments (GivesAt b.readings m)) (same-some given_one moment is)
+    (gives-at a.moments a.readings b.readings given_one reads.readings reads.told reads.in_turn))
 
 -- the history that a call left begins the history, where the call stands in it
 pub left-begins : (c : Call) (k : Kind) (entry : List ℕ) (history : History) → IsPrefix c.prefix history
@@ -114,12 +135,19 @@ left-begins c entryless entry history begins after =
 
 module _ {D C : Type 0} (disk : D → DiskState) (clock : C → ClockState) (v0 v : View) (old new : Room D C) (t : Turn)
     (taken : IsTaken (room_means disk clock) v0 v old) (called : Calls disk clock old new t.called t.answer)
-    (before : t.before ≡ before_of t.called.outcome new.desk.host.history) where
+    (before : t.before ≡ before_of t.called.outcome new.desk.host.history)
+    (limited : (clock old.clock).readings ≤ last_count) where
   abbrev at : List Entry
   at = called.does.at
 
   abbrev made : Made
-  made = record { called = t.called; history = called.does.at; before = v.faults_taken; after = new.desk.faults }
+  made = record {
+    called = t.called;
+    history = called.does.at;
+    before = v.faults_taken;
+    after = new.desk.faults;
+    readings = (clock new.clock).readings;
+  }
 
   abbrev call : Call
   call = call_of made
@@ -157,6 +185,7 @@ module _ {D C : Type 0} (disk : D → DiskState) (clock : C → ClockState) (v0 
 
   -- the call was answered
   answered_old : IsAnswered (fixed_of disk clock old) at t.called old.desk.faults new.desk.faults
+      (clock new.clock).readings
   answered_old = record {
     legal = called.does.legal;
     in_range = called.does.in_range;
@@ -169,11 +198,13 @@ module _ {D C : Type 0} (disk : D → DiskState) (clock : C → ClockState) (v0 
         (clock new.clock) called.reads;
   }
 
-  answered : IsAnswered v.fixed at t.called v.faults_taken new.desk.faults
+  answered : IsAnswered v.fixed at t.called v.faults_taken new.desk.faults (clock new.clock).readings
   answered =
-      subst (λ (f : List ℕ). IsAnswered f at t.called v.faults_taken new.desk.faults) fixed_old
-      (subst (λ (n : ℕ). IsAnswered (fixed_of disk clock old) at t.called n new.desk.faults) (sym taken.faults_taken)
-      answered_old)
+      subst (λ (f : List ℕ). IsAnswered f at t.called v.faults_taken new.desk.faults (clock new.clock).readings)
+      fixed_old
+      (subst
+      (λ (n : ℕ). IsAnswered (fixed_of disk clock old) at t.called n new.desk.faults (clock new.clock).readings)
+      (sym taken.faults_taken) answered_old)
 
   stands : Stands (room_means disk clock) v.fixed (spelled_all new.desk.host.history) call
   stands = record {
@@ -251,9 +282,16 @@ module _ {D C : Type 0} (disk : D → DiskState) (clock : C → ClockState) (v0 
   least : v.faults_taken ≤ new.desk.faults
   least = omega (arith, called.does.least, taken.faults_taken)
 
+  -- the clock has given no fewer readings
+  read_on : (clock old.clock).readings ≤ (clock new.clock).readings
+  read_on = reads-on t.called.moment (clock old.clock) (clock new.clock) called.reads limited
+
+  not_fewer : v.readings ≤ (clock new.clock).readings
+  not_fewer = omega (arith, taken.readings, read_on)
+
   may_call : MayGive (room_means disk clock) v (call ∷ []) new
   may_call =
-      one-call (room_means disk clock) v new call stands seen_at timed fixed_same least adds_them doubts_them
+      one-call (room_means disk clock) v new call stands seen_at timed fixed_same least not_fewer adds_them doubts_them
 
   -- the lock cuts the prefix itself
   told_is : calls_of (room_means disk clock) v new (told_of t) ≡ call ∷ []
@@ -263,6 +301,7 @@ module _ {D C : Type 0} (disk : D → DiskState) (clock : C → ClockState) (v0 
         prefix = l;
         faults_before = v.faults_taken;
         faults_after = new.desk.faults;
+        readings = (clock new.clock).readings;
       } ∷ [])
       (take-prefix t.before (spelled_all at) (spelled_all new.desk.host.history) at_begins
       (before ∙ (before-is t.called.outcome at new.desk.host.history called.does.grown ∙ sym (length-map at spelling))))
@@ -280,15 +319,18 @@ module _ {D C : Type 0} (disk : D → DiskState) (clock : C → ClockState) (v0 
   old_at = subst (λ (l : History). IsPrefix l (spelled_all at)) seen_old seen_at
 
   follows_one : (c : Call) → Stands (room_means disk clock) v0.fixed (spelled_all old.desk.host.history) c
-      → IsBetween v0.opening_faults old.desk.faults c → Follows c call
-  follows_one c s n = record {
+      → IsBetween v0.opening_faults old.desk.faults c → c.readings ≤ (clock old.clock).readings → Follows c call
+  follows_one c s n by = record {
     history = prefix-trans (left_by c) (spelled_all old.desk.host.history) (spelled_all at)
         (left-begins c (kind_in c.code) (entry_in c.code) (spelled_all old.desk.host.history) s.prefix s.entry) old_at;
     faults = omega (arith, n.most, taken.faults_taken);
+    readings = omega (arith, by, read_on);
+    read = λ moment is. read-since c.readings (clock old.clock).readings (clock new.clock).readings by
+        (reads-timed t.called.moment (clock old.clock) (clock new.clock) called.reads moment is).1;
   }
 
   follows_all : All (λ c. Follows c call) v0.mine
-  follows_all = λ k d lt. follows_one _ (taken.stand k d lt) (taken.counts k d lt)
+  follows_all = λ k d lt. follows_one _ (taken.stand k d lt) (taken.counts k d lt) (taken.read k d lt)
 
   follows_turn : All (λ c. All (Follows c) (call ∷ [])) v0.mine
   follows_turn =
@@ -298,8 +340,9 @@ module _ {D C : Type 0} (disk : D → DiskState) (clock : C → ClockState) (v0 
   gains_call : Gains v0 (given (room_means disk clock) v (call ∷ []) new) (made ∷ [])
   gains_call = record {
     mine = ap (λ (l : List Call). l ++ call ∷ []) taken.mine;
-    answered = All-cons (λ m. IsAnswered v0.fixed m.history m.called m.before m.after) made []
-        (subst (λ (f : List ℕ). IsAnswered f at t.called v.faults_taken new.desk.faults) taken.same_fixed answered)
+    answered = All-cons (λ m. IsAnswered v0.fixed m.history m.called m.before m.after m.readings) made []
+        (subst (λ (f : List ℕ). IsAnswered f at t.called v.faults_taken new.desk.faults (clock new.clock).readings)
+        taken.same_fixed answered)
         (All-nil _);
     begin = All-cons (λ m. IsPrefix v0.seen (spelled_all m.history)) made [] begin (All-nil _);
     seen = prefix-trans v0.seen (spelled_all at) (spelled_all new.desk.host.history) begin at_begins;

@@ -44,14 +44,14 @@ stood_by operator history c outcome.Told before after out is = absurd (let bad :
 stood_by operator history c outcome.Lacked before after out is = absurd (let bad : ⊥ = cc in bad)
 
 -- the entry of a repeat stands in the history on which it was answered
-pub repeat-stands : (fixed : List ℕ) (history : List Entry) (c : Called) (before after : ℕ) (code : List ℕ)
+pub repeat-stands : (fixed : List ℕ) (history : List Entry) (c : Called) (before after readings : ℕ) (code : List ℕ)
     (prefix : History)
     → code ≡ code_of c
     → prefix ≡ spelled_all history
-    → IsAnswered fixed history c before after
+    → IsAnswered fixed history c before after readings
     → kind_in code ≡ repeated
     → Contains prefix (entry_in code)
-repeat-stands fixed history c before after code prefix coded is answered repeat =
+repeat-stands fixed history c before after readings code prefix coded is answered repeat =
     subst (λ (l : History). Contains l (entry_in code)) (sym is)
     (subst (λ (l : List ℕ). Contains (spelled_all history) l)
     (sym (ap (λ (l : List ℕ). entry_in l) coded ∙ entry-code c))

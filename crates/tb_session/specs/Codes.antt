@@ -2,6 +2,8 @@
 use Rattle.std.specs.Prelude.{◌≡◌, ℕ, zero, suc, pos, negsuc, List, [], ◌∷◌, ◌++◌, length, take, drop, map, Bool, true, false, Option, Some, None, IfSome, Contains}
 use Rattle.std.specs.List.{flat_map}
 use Rattle.tb_units.specs.declared.moment.Moment.{Moment}
+use Rattle.tb_link.specs.Counts.{counted}
+use Rattle.tb_gates.specs.Clocks.{moment_after}
 use Rattle.tb_terms.specs.Refusals.{member_of}
 use Rattle.tb_message.specs.declared.key.Key.{Key}
 use Rattle.tb_message.specs.declared.key.Key.TheVariants as key
@@ -147,27 +149,35 @@ abbrev pub moments_in : List ℕ → Option (List ℕ)
 moments_in [] = None
 moments_in (size ∷ others) = moments_at (drop size others)
 
--- the clock may give this moment
-abbrev pub MayGiveMoment : List ℕ → Moment → Type 0
-MayGiveMoment fixed moment = IfSome (moments_in fixed) (λ moments. Contains moments moment.seconds)
+-- of a clock with these moments this is one, and it is given at the reading of this number: the next after those before
+abbrev pub GivesAt : ℕ → Moment → List ℕ → Type 0
+GivesAt readings moment moments =
+    Contains moments moment.seconds
+    × ((before : ℕ) × (readings ≡ counted before) × (moment.seconds ≡ moment_after before moments))
+
+-- where the clock tells its moments it gives this one at the reading of this number
+abbrev pub GivesMoment : List ℕ → ℕ → Moment → Type 0
+GivesMoment fixed readings moment = IfSome (moments_in fixed) (GivesAt readings moment)
 
 -- ---- calls that were made
 
 -- With this fixed part the call was answered on this legal history, between these counts of faults; its entry is in
--- range; and the moment of a message is one that the clock may give.
-pub record IsAnswered (fixed : List ℕ) (history : List Entry) (c : Called) (before after : ℕ) : Type 0 where
+-- range; and the moment of a message is what the clock gives at the last of so many readings.
+pub record IsAnswered (fixed : List ℕ) (history : List Entry) (c : Called) (before after readings : ℕ) : Type 0 where
   pub legal : IsLegal history
   pub in_range : HasRange c.outcome
   pub comes_out : ComesOut (operator_in fixed) history c c.outcome before after
   pub given : IsGiven c.ask c.moment
-  pub timed : (moment : Moment) → c.moment ≡ Some moment → MayGiveMoment fixed moment
+  pub timed : (moment : Moment) → c.moment ≡ Some moment → GivesMoment fixed readings moment
 
--- a call that was made: on which history, and the counts of faults before and after
+-- a call that was made: on which history, the counts of faults before and after, and how many readings the clock had
+-- given at the end of its turn
 pub record Made : Type 0 where
   pub called : Called
   pub history : List Entry
   pub before : ℕ
   pub after : ℕ
+  pub readings : ℕ
 
 -- the same as the lock keeps it
 abbrev pub call_of : Made → Call
@@ -176,6 +186,7 @@ call_of m = record {
   prefix = spelled_all m.history;
   faults_before = m.before;
   faults_after = m.after;
+  readings = m.readings;
 }
 
 -- the call has this answer

@@ -1,5 +1,5 @@
 -- What a pass gains by the calls that are made with it.
-use Rattle.std.specs.Prelude.{◌≡◌, ◌⊎◌, ◌≤◌, ℕ, List, [], ◌∷◌, ◌++◌, length, map, flat_map, All}
+use Rattle.std.specs.Prelude.{◌≡◌, ◌⊎◌, ◌≤◌, ℕ, List, [], ◌∷◌, ◌++◌, length, map, flat_map, Some, All}
 use Rattle.tb_message.specs.declared.key.Key.{Key}
 use Rattle.tb_message.specs.declared.message.Message.{Message}
 use Rattle.tb_core.specs.House.{IsBid}
@@ -7,27 +7,31 @@ use Rattle.tb_lock.specs.declared.view.Call.{Call}
 use Rattle.tb_lock.specs.declared.view.View.{View}
 use Rattle.tb_lock.specs.Meanings.{History, IsPrefix}
 use Rattle.tb_lock.specs.Calls.{added_if}
+use Rattle.tb_lock.specs.Turns.{IsReadBetween}
 use Rattle.tb_session.specs.declared.answer.Answer.{Answer}
 use Rattle.tb_session.specs.declared.answer.Answer.TheVariants as answer
 use Rattle.tb_session.specs.declared.called.Ask.{Ask}
 use Rattle.tb_session.specs.declared.called.Ask.TheVariants as ask
-use Rattle.tb_session.specs.Codes.{Made, call_of, spelled_all, kind_in, entry_in, IsAnswered, IsAnswerOf}
+use Rattle.tb_session.specs.Codes.{Made, call_of, spelled_all, kind_in, moment_in, entry_in, IsAnswered, IsAnswerOf}
 
 -- the history that a call leaves behind: its prefix, and its entry where it was accepted
 abbrev pub left_by : Call → History
 left_by c = c.prefix ++ added_if (kind_in c.code) (entry_in c.code) []
 
--- the later call was answered on a history that begins with what the earlier one left, and its faults were counted
--- later
+-- the later call was answered on a history that begins with what the earlier one left, its faults were counted later,
+-- and the clock had given no fewer readings; where it has a moment the clock was read again
 pub record Follows (earlier later : Call) : Type 0 where
   pub history : IsPrefix (left_by earlier) later.prefix
   pub faults : earlier.faults_after ≤ later.faults_before
+  pub readings : earlier.readings ≤ later.readings
+  pub read : (moment : ℕ) → moment_in later.code ≡ Some moment → IsReadBetween earlier.readings later.readings
 
--- the same of two calls of one turn, which have its two counts of faults
+-- the same of two calls of one turn, which have its two counts of faults and its readings
 pub record StandsBeside (earlier later : Call) : Type 0 where
   pub history : IsPrefix (left_by earlier) later.prefix
   pub before : earlier.faults_before ≡ later.faults_before
   pub after : earlier.faults_after ≡ later.faults_after
+  pub readings : earlier.readings ≡ later.readings
 
 -- calls of one turn, in order
 abbrev pub AreBeside : List Call → Type 0
@@ -79,7 +83,7 @@ pub record AreTurns (made : List Made) : Type 0 where
 -- pass had seen, and turns that were in order stay so.
 pub record Gains (old new : View) (made : List Made) : Type 0 where
   pub mine : new.mine ≡ old.mine ++ map call_of made
-  pub answered : All (λ m. IsAnswered old.fixed m.history m.called m.before m.after) made
+  pub answered : All (λ m. IsAnswered old.fixed m.history m.called m.before m.after m.readings) made
   pub begin : All (λ m. IsPrefix old.seen (spelled_all m.history)) made
   pub seen : IsPrefix old.seen new.seen
   pub turns : List (List Made)

@@ -11,12 +11,12 @@ use Rattle.tb_session.specs.Openings.{lock_code}
 use Rattle.tb_session.specs.CodeLaws.{repeat-stands}
 
 -- a call with this code was answered on this history
-pub record IsCoded (fixed : List ℕ) (prefix : History) (code : List ℕ) (before after : ℕ) : Type 0 where
+pub record IsCoded (fixed : List ℕ) (prefix : History) (code : List ℕ) (before after readings : ℕ) : Type 0 where
   pub called : Called
   pub history : List Entry
   pub code_is : code ≡ code_of called
   pub prefix_is : prefix ≡ spelled_all history
-  pub answered : IsAnswered fixed history called before after
+  pub answered : IsAnswered fixed history called before after readings
 
 module _ {D C : Type 0} (disk : D → DiskState) (clock : C → ClockState) where
   -- what calls are answered by: the operator's name, whether the disk tells its contents and its count of faults, as
@@ -56,6 +56,6 @@ module _ {D C : Type 0} (disk : D → DiskState) (clock : C → ClockState) wher
 
   -- the entry of a repeat stands in the history on which it was answered
   pub room_repeats : RepeatsStand room_means
-  room_repeats fixed prefix code before after answered is =
-      repeat-stands fixed answered.history answered.called before after code prefix answered.code_is answered.prefix_is
-      answered.answered is
+  room_repeats fixed prefix code before after readings answered is =
+      repeat-stands fixed answered.history answered.called before after readings code prefix answered.code_is
+      answered.prefix_is answered.answered is

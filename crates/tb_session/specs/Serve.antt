@@ -42,7 +42,7 @@ some_failed runs = list_any (λ run. run.failed) runs
 module _ {G K : Type 0} (gate : G → GateState K) (source : K → SourceState) (sink : K → SinkState) (fixed : List ℕ)
   where
     -- A gate gave these links, each was served, and their calls are turns along which the histories grow and the counts
-    -- rise. It gave all that it had, or failed, and its count of faults rose.
+    -- rise, of faults and of the clock's readings. It gave all that it had, or failed, and its count of faults rose.
     pub record IsRun (old new : G) (run : Run K) : Type 0 where
       pub passed : Passed (gate old) (gate new) run.links
       pub sessions : All (IsServed source sink fixed) run.links
@@ -76,7 +76,7 @@ pub record IsHistoryOf (fixed : List ℕ) (opening history doubt : History) (low
   pub entries : All (λ entry. Any (MayHaveMade entry) calls) later
   pub doubted : All (λ entry. Any (MayHaveMade entry) calls) doubt
   -- each call was answered on a beginning of it that has the opening
-  pub answered : All (λ m. IsAnswered fixed m.history m.called m.before m.after) calls
+  pub answered : All (λ m. IsAnswered fixed m.history m.called m.before m.after m.readings) calls
   pub begins : All (λ m. IsPrefix opening (spelled_all m.history)) calls
   pub prefixes : All (λ m. IsPrefix (spelled_all m.history) history) calls
   -- behind which the entry stands of one that was accepted
@@ -97,6 +97,8 @@ module _ {D C G K : Type 0} (disk : D → DiskState) (clock : C → ClockState) 
     pub history : IsHistoryOf (house_of disk clock room) (spelled_all room.desk.host.history)
         (spelled_all after.desk.host.history) (spelled_all after.desk.doubt) room.desk.faults after.desk.faults
         (calls_of_gates runs)
+    -- the clock came back with no fewer readings than any call has
+    pub read : All (λ m. m.readings ≤ (clock after.clock).readings) (calls_of_gates runs)
     -- so many links were served, and the history is so much longer
     pub served_is : served ≡ links_of_gates runs
     pub accepted_is : accepted ≡ length history.later
@@ -118,7 +120,7 @@ module _ {G K : Type 0} (gate : G → GateState K) (source : K → SourceState) 
     pub runs : List (Run K)
     pub are_runs : AreRuns gate source sink old.fixed olds news runs
     pub mine : new.mine ≡ map call_of (calls_of_gates runs)
-    pub answered : All (λ m. IsAnswered old.fixed m.history m.called m.before m.after) (calls_of_gates runs)
+    pub answered : All (λ m. IsAnswered old.fixed m.history m.called m.before m.after m.readings) (calls_of_gates runs)
     pub begin : All (λ m. IsPrefix old.seen (spelled_all m.history)) (calls_of_gates runs)
     pub share : new.share ≡ old.share
     pub same : SameLock old new

@@ -14,7 +14,8 @@ give-requires-clause-may g c =
     let turn = c.group_turn-turn in
     subst (λ l. MayGive means v (calls_of means v turn.new.self l) turn.new.self) (sym turn.ensures.told)
     (group-may g.D.Disk.disk g.C.Clock.clock _ _ _ _ c.take-room.ensures.taken c.args.key.now c.args.bids.now.items
-    turn.result.moment turn.new.verdicts _ refl c.requires.size.0 c.requires.size.1 c.requires.bids turn.result.came
+    turn.result.moment turn.new.verdicts _ refl c.requires.size.0 c.requires.size.1 c.requires.bids
+    (g.met.C.Clock.bounded c.take-room.result.clock) turn.result.came
     turn.ensures.calls turn.ensures.lacked)
 
 pub returns-clause-gains : goal.returns-clause-gains
@@ -32,5 +33,6 @@ returns-clause-gains g c =
     (subst (λ l. GainsGroup v0 (given means v (calls_of means v turn.new.self l) turn.new.self) c.args.key.now bids said
     turn.new.verdicts) (sym turn.ensures.told)
     (group-gained g.D.Disk.disk g.C.Clock.clock _ _ _ _ c.take-room.ensures.taken c.args.key.now bids
-    turn.result.moment turn.new.verdicts _ refl c.requires.size.0 c.requires.size.1 c.requires.bids turn.result.came
+    turn.result.moment turn.new.verdicts _ refl c.requires.size.0 c.requires.size.1 c.requires.bids
+    (g.met.C.Clock.bounded c.take-room.result.clock) turn.result.came
     turn.ensures.calls turn.ensures.lacked turn.ensures.tells)))

@@ -16,6 +16,7 @@ give-requires-clause-may g c =
         fixed = t.same_fixed ∙ sym t.fixed;
       };
       settles = c.settle.ensures;
-      read = c.counted_on.ensures;
+      read = c.counted_on.ensures.read;
+      rose = c.counted_on.ensures.rose;
       adds = c.add-outcome.ensures;
     } behind
