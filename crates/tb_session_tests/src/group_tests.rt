@@ -3,12 +3,13 @@ ghost use Rattle.std.specs.Prelude.{IfOk};
 ghost use Rattle.tb_message.specs.Spelling.{IsNumbered};
 ghost use Rattle.tb_core.specs.House.{IsBid};
 
-use crate::tests::{Given, Memory, ends, opened, post, reply, whole};
+use crate::tests::{Given, Memory, ends, opened, opening_calls, post, replied, whole};
 use std::alloc::Global;
 use std::process::Abort;
 use std::sync::Wait;
 use std::test::Fail;
 use std::thread::Threads;
+use tb_disk::MemoryDisk;
 use tb_message::{Key, Message, Request, Verdict, read_request};
 use tb_session::*;
 use tb_terms::Refusal;
@@ -22,6 +23,11 @@ const BIDS: [&str; 2] = [
 /// A bid of another dealer.
 const OTHER_BID: &str =
     "{\"number\":7,\"kind\":\"bid\",\"auction\":\"bill13\",\"bidder\":\"fund2\",\"rate\":\"4.310\",\"amount\":100}";
+
+/// The replies to the two bids where they are accepted.
+const FIRST_REPLY: &str = replied!("200 OK", 22, "accepted 7 1730700000\n");
+
+const SECOND_REPLY: &str = replied!("200 OK", 22, "accepted 8 1730700000\n");
 
 /// The moment at which the room's clock stands.
 const MORNING: u64 = 1_730_700_000;
@@ -84,20 +90,38 @@ fn submit_pair(
     Ok((answer, told_by(verdicts[0]), told_by(verdicts[1])))
 }
 
+/// Each of the two bids is answered so.
+fn pair_told(
+    rt: &impl Abort,
+    alloc: Global,
+    room: &mut Memory,
+    key: &str,
+    wanted: (GroupAnswer, Told, Told),
+) -> Result<(), Fail> {
+    let found = submit_pair(rt, alloc, room, key)?;
+    assert!(rt; found == wanted);
+    Ok(())
+}
+
+/// The answers to the two bids: the key is nobody's, they are accepted now or were before, or the disk failed.
+const UNKNOWN: (GroupAnswer, Told, Told) = (GroupAnswer::Verdicts, Told::Unknown, Told::Unknown);
+
+const ACCEPTED: (GroupAnswer, Told, Told) = (
+    GroupAnswer::Verdicts,
+    Told::Accepted(7),
+    Told::Accepted(8),
+);
+
+const REPEATED: (GroupAnswer, Told, Told) = (
+    GroupAnswer::Verdicts,
+    Told::Repeated(7),
+    Told::Repeated(8),
+);
+
+const FAULT: (GroupAnswer, Told, Told) = (GroupAnswer::DiskFault, Told::Nothing, Told::Nothing);
+
 // The journal has a gate byte, a length of four bytes and two records of 46 bytes more.
-#[test]
-fn two_bids_of_a_key_stand_under_one_gate(rt: HostRuntime) -> Result<(), Fail> {
-    let alloc = rt.alloc();
-    let before = opened(&rt, alloc, Vec::new(alloc))?.desk.into_disk();
-    let mut room = opened(&rt, alloc, Vec::new(alloc))?;
-    let unknown = submit_pair(&rt, alloc, &mut room, "k9")?;
-    assert!(rt; unknown == (GroupAnswer::Verdicts, Told::Unknown, Told::Unknown));
-    let first = submit_pair(&rt, alloc, &mut room, "k1")?;
-    assert!(rt; first == (GroupAnswer::Verdicts, Told::Accepted(7), Told::Accepted(8)));
-    let again = submit_pair(&rt, alloc, &mut room, "k1")?;
-    assert!(rt; again == (GroupAnswer::Verdicts, Told::Repeated(7), Told::Repeated(8)));
-    assert_eq!(rt; room.desk.entries(), 7);
-    let after = room.desk.into_disk();
+fn grew_by_a_pair(rt: &impl Abort, before: &MemoryDisk, after: &MemoryDisk) {
     let size = before.contents().len();
     assert!(rt; size > 0 && after.contents().len() == size + 97);
     assert_eq!(rt;
@@ -105,43 +129,40 @@ fn two_bids_of_a_key_stand_under_one_gate(rt: HostRuntime) -> Result<(), Fail> {
         b"\x01\0\0\0\x5c".as_slice()
     );
     assert_eq!(rt; after.calls(), before.calls().saturating_add(4));
-    Ok(())
 }
 
 #[test]
-fn two_bids_meet_a_fault_together(rt: HostRuntime) -> Result<(), Fail> {
+fn two_bids_of_a_key_stand_under_one_gate(rt: HostRuntime) -> Result<(), Fail> {
     let alloc = rt.alloc();
-    let calls = opened(&rt, alloc, Vec::new(alloc))?
-        .desk
-        .into_disk()
-        .calls();
-    // The last of the four calls of the disk at new messages fails, so they stand at the next turn.
-    let mut room = opened(&rt, alloc, vec![in alloc; calls.saturating_add(3); 1]?)?;
-    let doubted = submit_pair(&rt, alloc, &mut room, "k1")?;
-    assert!(rt; doubted == (GroupAnswer::DiskFault, Told::Nothing, Told::Nothing));
-    let again = submit_pair(&rt, alloc, &mut room, "k1")?;
-    assert!(rt; again == (GroupAnswer::Verdicts, Told::Repeated(7), Told::Repeated(8)));
-    // Where the first of them fails nothing is there.
-    let mut room = opened(&rt, alloc, vec![in alloc; calls; 1]?)?;
-    let doubted = submit_pair(&rt, alloc, &mut room, "k1")?;
-    assert!(rt; doubted == (GroupAnswer::DiskFault, Told::Nothing, Told::Nothing));
-    let again = submit_pair(&rt, alloc, &mut room, "k1")?;
-    assert!(rt; again == (GroupAnswer::Verdicts, Told::Accepted(7), Told::Accepted(8)));
+    let before = opened(&rt, alloc, Vec::new(alloc))?.desk.into_disk();
+    let mut room = opened(&rt, alloc, Vec::new(alloc))?;
+    for (key, wanted) in [("k9", UNKNOWN), ("k1", ACCEPTED), ("k1", REPEATED)] {
+        pair_told(&rt, alloc, &mut room, key, wanted)?;
+    }
+    assert_eq!(rt; room.desk.entries(), 7);
+    grew_by_a_pair(&rt, &before, &room.desk.into_disk());
     Ok(())
 }
 
-/// The two bids as they are posted with a key, one behind the other.
-fn posted(alloc: Global, key: &str) -> Result<String, Fail> {
-    let mut text = post(alloc, key, BIDS[0])?;
-    text.push_str(&post(alloc, key, BIDS[1])?)?;
-    Ok(text)
+// Where the last of the four calls of the disk at new messages fails, they stand at the next turn; where the first
+// fails, nothing is there.
+#[test]
+fn two_bids_meet_a_fault_together(rt: HostRuntime) -> Result<(), Fail> {
+    let alloc = rt.alloc();
+    let calls = opening_calls(&rt, alloc)?;
+    for (fails, again) in [(calls.saturating_add(3), REPEATED), (calls, ACCEPTED)] {
+        let mut room = opened(&rt, alloc, vec![in alloc; fails; 1]?)?;
+        pair_told(&rt, alloc, &mut room, "k1", FAULT)?;
+        pair_told(&rt, alloc, &mut room, "k1", again)?;
+    }
+    Ok(())
 }
 
-/// The replies to two bids that were accepted.
-fn both_accepted(alloc: Global) -> Result<String, Fail> {
-    let mut text = reply(alloc, "200 OK", "accepted 7 1730700000\n")?;
-    text.push_str(&reply(alloc, "200 OK", "accepted 8 1730700000\n")?)?;
-    Ok(text)
+/// The two bids as they are posted, one behind the other.
+fn pair(alloc: Global) -> Result<String, Fail> {
+    let first = post(alloc, "k1", BIDS[0])?;
+    let second = post(alloc, "k1", BIDS[1])?;
+    Ok(format!(in alloc; "{first}{second}")?)
 }
 
 /// Serves a link that gives this text in pieces of so many bytes. It ends with its input and is replied this: how many
@@ -154,7 +175,7 @@ fn serve_pieces<R: Threads + Wait + Sync + Abort>(
     piece: usize,
     expected: &str,
 ) -> Result<u64, Fail> {
-    let before = opened(rt, alloc, Vec::new(alloc))?.desk.into_disk().calls();
+    let before = opening_calls(rt, alloc)?;
     let room = opened(rt, alloc, fails)?;
     let given = Given {
         piece,
@@ -167,31 +188,38 @@ fn serve_pieces<R: Threads + Wait + Sync + Abort>(
 #[test]
 fn bids_that_are_read_at_once_share_a_gate(rt: HostRuntime) -> Result<(), Fail> {
     let alloc = rt.alloc();
-    let text = posted(alloc, "k1")?;
-    let expected = both_accepted(alloc)?;
-    let calls = serve_pieces(&rt, alloc, Vec::new(alloc), &text, text.len(), &expected)?;
-    assert_eq!(rt; calls, 4);
+    let text = pair(alloc)?;
+    let expected = format!(in alloc; "{FIRST_REPLY}{SECOND_REPLY}")?;
     // Where they come one after the other each has a gate of its own.
-    let calls = serve_pieces(&rt, alloc, Vec::new(alloc), &text, 50, &expected)?;
-    assert_eq!(rt; calls, 8);
+    for (piece, made) in [(text.len(), 4), (50, 8)] {
+        let calls = serve_pieces(&rt, alloc, Vec::new(alloc), &text, piece, &expected)?;
+        assert_eq!(rt; calls, made, "pieces of {piece}");
+    }
     Ok(())
+}
+
+/// The two bids, a query, the first bid again, and another dealer's.
+fn row_with_a_query(alloc: Global) -> Result<String, Fail> {
+    let query = "GET /bids/bill13 HTTP/1.1\r\nAuction-Key: k1\r\n\r\n";
+    let mut text = pair(alloc)?;
+    text.push_str(query)?;
+    text.push_str(&post(alloc, "k1", BIDS[0])?)?;
+    text.push_str(&post(alloc, "k2", OTHER_BID)?)?;
+    Ok(text)
 }
 
 #[test]
 fn a_query_and_another_key_end_a_row(rt: HostRuntime) -> Result<(), Fail> {
     let alloc = rt.alloc();
-    let mut text = posted(alloc, "k1")?;
-    text.push_str("GET /bids/bill13 HTTP/1.1\r\nAuction-Key: k1\r\n\r\n")?;
-    text.push_str(&post(alloc, "k1", BIDS[0])?)?;
-    text.push_str(&post(alloc, "k2", OTHER_BID)?)?;
-    let mut expected = both_accepted(alloc)?;
-    for body in [
-        "7 fund1 4.300 100 live\n8 fund1 4.305 100 live\n",
-        "accepted 7 1730700000\n",
-        "accepted 7 1730700000\n",
-    ] {
-        expected.push_str(&reply(alloc, "200 OK", body)?)?;
-    }
+    let text = row_with_a_query(alloc)?;
+    let bids = replied!(
+        "200 OK",
+        46,
+        "7 fund1 4.300 100 live\n8 fund1 4.305 100 live\n"
+    );
+    let expected = format!(in alloc;
+        "{FIRST_REPLY}{SECOND_REPLY}{bids}{FIRST_REPLY}{FIRST_REPLY}"
+    )?;
     let calls = serve_pieces(&rt, alloc, Vec::new(alloc), &text, text.len(), &expected)?;
     assert_eq!(rt; calls, 8);
     Ok(())
@@ -200,15 +228,11 @@ fn a_query_and_another_key_end_a_row(rt: HostRuntime) -> Result<(), Fail> {
 #[test]
 fn bids_that_share_a_gate_are_told_a_fault_together(rt: HostRuntime) -> Result<(), Fail> {
     let alloc = rt.alloc();
-    let pair = posted(alloc, "k1")?;
+    let pair = pair(alloc)?;
     let text = format!(in alloc; "{pair}{pair}")?;
-    let fault = reply(alloc, "503 Service Unavailable", "unavailable DiskFault\n")?;
-    let accepted = both_accepted(alloc)?;
-    let expected = format!(in alloc; "{fault}{fault}{accepted}")?;
-    let calls = opened(&rt, alloc, Vec::new(alloc))?
-        .desk
-        .into_disk()
-        .calls();
+    let fault = replied!("503 Service Unavailable", 22, "unavailable DiskFault\n");
+    let expected = format!(in alloc; "{fault}{fault}{FIRST_REPLY}{SECOND_REPLY}")?;
+    let calls = opening_calls(&rt, alloc)?;
     let fails = vec![in alloc; calls.saturating_add(3); 1]?;
     let _ = serve_pieces(&rt, alloc, fails, &text, pair.len(), &expected)?;
     Ok(())
@@ -217,15 +241,14 @@ fn bids_that_share_a_gate_are_told_a_fault_together(rt: HostRuntime) -> Result<(
 #[test]
 fn bids_whose_reply_is_not_written_stand(rt: HostRuntime) -> Result<(), Fail> {
     let alloc = rt.alloc();
-    let text = posted(alloc, "k1")?;
-    let first = reply(alloc, "200 OK", "accepted 7 1730700000\n")?;
+    let text = pair(alloc)?;
     let room = opened(&rt, alloc, Vec::new(alloc))?;
     let given = Given {
         piece: text.len(),
         failing_writes: &[1],
         ..whole(&text)
     };
-    let room = ends(&rt, alloc, room, &given, End::WriteFault, &first)?;
+    let room = ends(&rt, alloc, room, &given, End::WriteFault, FIRST_REPLY)?;
     assert_eq!(rt; room.desk.entries(), 7);
     Ok(())
 }

@@ -1,9 +1,9 @@
-//! Two links of which each waits, in the middle of its request, until the other has come as far. They are answered only by
-//! workers that run side by side, and only where no turn is held while a link is read.
+//! Two links of which each waits, in the middle of its request, until the other has come as far. They are answered only
+//! by workers that run side by side, and only where no turn is held while a link is read.
 ghost use Rattle.std.specs.Prelude.{◌≤◌, ◌+◌, None, length, option_to_list};
 ghost use Rattle.tb_gates.specs.Gates.{most_links};
 
-use crate::tests::{Memory, opened, post, reply};
+use crate::tests::{Memory, opened, posted, replied};
 use std::alloc::Global;
 use std::process::Abort;
 use std::sync::Wait;
@@ -18,8 +18,8 @@ use tb_session::*;
 /// How often a link looks for the other one's flag, at most.
 const LOOKS: u64 = 20_000_000;
 
-/// A link that gives its bytes in two halves. Before the second it sets its flag and looks for the other link's flag; where
-/// that isn't found, this read and every later one fail. It tells no bytes.
+/// A link that gives its bytes in two halves. Before the second it sets its flag and looks for the other link's flag;
+/// where that isn't found, this read and every later one fail. It tells no bytes.
 #[derive(Drop)]
 struct HeldLink<'a> {
     pair: PairLink,
@@ -168,6 +168,23 @@ fn expect(rt: &impl Abort, gate: &HeldGate<'_>, reply: &str) {
     assert_eq!(rt; link.pair.sink.bytes(), reply.as_bytes());
 }
 
+/// A bid of each dealer, as it is posted, and the reply to it.
+const FIRST: &str = posted!(
+    "k1",
+    89,
+    "{\"number\":1,\"kind\":\"bid\",\"auction\":\"bill13\",\"bidder\":\"fund1\",\"rate\":\"4.300\",\"amount\":100}"
+);
+
+const FIRST_REPLY: &str = replied!("200 OK", 22, "accepted 1 1730700000\n");
+
+const SECOND: &str = posted!(
+    "k2",
+    89,
+    "{\"number\":2,\"kind\":\"bid\",\"auction\":\"bill13\",\"bidder\":\"fund2\",\"rate\":\"4.310\",\"amount\":100}"
+);
+
+const SECOND_REPLY: &str = replied!("200 OK", 22, "accepted 2 1730700000\n");
+
 /// Serves two links, each at a gate of its own, which wait for each other by these two flags.
 fn serve_both<R: Threads + Wait + Sync + Abort>(
     rt: &R,
@@ -175,21 +192,9 @@ fn serve_both<R: Threads + Wait + Sync + Abort>(
     here: &AtomicBool,
     there: &AtomicBool,
 ) -> Result<(), Fail> {
-    let first = post(
-        alloc,
-        "k1",
-        "{\"number\":1,\"kind\":\"bid\",\"auction\":\"bill13\",\"bidder\":\"fund1\",\"rate\":\"4.300\",\"amount\":100}",
-    )?;
-    let second = post(
-        alloc,
-        "k2",
-        "{\"number\":2,\"kind\":\"bid\",\"auction\":\"bill13\",\"bidder\":\"fund2\",\"rate\":\"4.310\",\"amount\":100}",
-    )?;
-    let first_reply = reply(alloc, "200 OK", "accepted 1 1730700000\n")?;
-    let second_reply = reply(alloc, "200 OK", "accepted 2 1730700000\n")?;
     let mut gates = Vec::new(alloc);
-    gates.push(gate_of(alloc, &first, here, there)?)?;
-    gates.push(gate_of(alloc, &second, there, here)?)?;
+    gates.push(gate_of(alloc, FIRST, here, there)?)?;
+    gates.push(gate_of(alloc, SECOND, there, here)?)?;
     let room: Memory = opened(rt, alloc, Vec::new(alloc))?;
     assert!(rt; !room.desk.unsure() && gates.len() <= 64);
     let served = match serve_gates(rt, alloc, room, &mut gates) {
@@ -198,8 +203,8 @@ fn serve_both<R: Threads + Wait + Sync + Abort>(
     };
     assert_eq!(rt; served, (2, 2));
     assert_eq!(rt; gates.len(), 2);
-    expect(rt, &gates[0], &first_reply);
-    expect(rt, &gates[1], &second_reply);
+    expect(rt, &gates[0], FIRST_REPLY);
+    expect(rt, &gates[1], SECOND_REPLY);
     Ok(())
 }
 

@@ -15,6 +15,49 @@ use tb_message::{Key, Query};
 use tb_session::*;
 use tb_units::{Ident, Moment};
 
+/// A message as it is posted with a key word: its body has so many bytes.
+macro_rules! posted {
+    ($key:literal, $size:literal, $body:literal) => {
+        concat!(
+            "POST /messages HTTP/1.1\r\nAuction-Key: ",
+            $key,
+            "\r\nContent-Length: ",
+            $size,
+            "\r\n\r\n",
+            $body
+        )
+    };
+}
+
+/// A reply whose body has so many bytes.
+macro_rules! replied {
+    ($line:literal, $size:literal, $body:literal) => {
+        $crate::tests::replied!($line, $size, "", $body)
+    };
+    ($line:literal, $size:literal, $header:literal, $body:literal) => {
+        concat!(
+            "HTTP/1.1 ",
+            $line,
+            "\r\nContent-Type: text/plain\r\nContent-Length: ",
+            $size,
+            "\r\n",
+            $header,
+            "\r\n",
+            $body
+        )
+    };
+}
+
+/// A reply after which the link closes.
+macro_rules! replied_last {
+    ($line:literal, $size:literal, $body:literal) => {
+        $crate::tests::replied!($line, $size, "Connection: close\r\n", $body)
+    };
+}
+
+pub(crate) use posted;
+pub(crate) use replied;
+
 /// What the operator sends first: two dealers, a fund under each, and an auction.
 const OPENING: [&str; 5] = [
     "{\"number\":1,\"kind\":\"register\",\"submitter\":\"dealer1\",\"key\":\"k1\"}",
@@ -26,11 +69,44 @@ const OPENING: [&str; 5] = [
     \"nc_close\":\"11:00\",\"c_close\":\"11:30\",\"issue\":\"2024-11-07\",\"maturity\":\"2025-02-06\"}",
 ];
 
-const FIRST_BID: &str =
-    "{\"number\":1,\"kind\":\"bid\",\"auction\":\"bill13\",\"bidder\":\"fund1\",\"rate\":\"4.300\",\"amount\":100}";
+/// A bid of the first dealer, as it is posted, and the reply where it is accepted, now or before.
+const FIRST: &str = posted!(
+    "k1",
+    89,
+    "{\"number\":1,\"kind\":\"bid\",\"auction\":\"bill13\",\"bidder\":\"fund1\",\"rate\":\"4.300\",\"amount\":100}"
+);
 
-const SECOND_BID: &str =
-    "{\"number\":7,\"kind\":\"bid\",\"auction\":\"bill13\",\"bidder\":\"fund2\",\"rate\":\"4.310\",\"amount\":100}";
+const FIRST_REPLY: &str = replied!("200 OK", 22, "accepted 1 1730700000\n");
+
+/// A bid of the second dealer.
+const SECOND: &str = posted!(
+    "k2",
+    89,
+    "{\"number\":7,\"kind\":\"bid\",\"auction\":\"bill13\",\"bidder\":\"fund2\",\"rate\":\"4.310\",\"amount\":100}"
+);
+
+const SECOND_REPLY: &str = replied!("200 OK", 22, "accepted 7 1730700000\n");
+
+/// Bids with the numbers 2 and 1 of the first dealer.
+const THIRD: &str = posted!(
+    "k1",
+    89,
+    "{\"number\":2,\"kind\":\"bid\",\"auction\":\"bill13\",\"bidder\":\"fund1\",\"rate\":\"4.300\",\"amount\":100}"
+);
+
+const CHANGED: &str = posted!(
+    "k1",
+    89,
+    "{\"number\":1,\"kind\":\"bid\",\"auction\":\"bill13\",\"bidder\":\"fund1\",\"rate\":\"4.300\",\"amount\":200}"
+);
+
+/// A message without its members, and the reply to it.
+const SHAPELESS: &str = posted!("k1", 2, "{}");
+
+const SHAPELESS_REPLY: &str = replied!("400 Bad Request", 26, "refused 6 BadShape number\n");
+
+/// The same of the second dealer.
+const OTHER_SHAPELESS: &str = posted!("k2", 2, "{}");
 
 /// A moment on the day of the auction, before its closings.
 const MORNING: u64 = 1_730_700_000;
@@ -69,22 +145,6 @@ fn empty_room(rt: &impl Abort, alloc: Global, fails: Vec<u64>) -> Result<Memory,
 pub fn post(alloc: Global, key: &str, body: &str) -> Result<String, Fail> {
     Ok(format!(in alloc;
         "POST /messages HTTP/1.1\r\nAuction-Key: {key}\r\nContent-Length: {}\r\n\r\n{body}",
-        body.len()
-    )?)
-}
-
-/// A reply with a body.
-pub fn reply(alloc: Global, line: &str, body: &str) -> Result<String, Fail> {
-    Ok(format!(in alloc;
-        "HTTP/1.1 {line}\r\nContent-Type: text/plain\r\nContent-Length: {}\r\n\r\n{body}",
-        body.len()
-    )?)
-}
-
-/// A reply after which the link closes.
-fn last_reply(alloc: Global, line: &str, body: &str) -> Result<String, Fail> {
-    Ok(format!(in alloc;
-        "HTTP/1.1 {line}\r\nContent-Type: text/plain\r\nContent-Length: {}\r\nConnection: close\r\n\r\n{body}",
         body.len()
     )?)
 }
@@ -203,10 +263,12 @@ fn serve_texts<R: Threads + Wait + Sync + Abort>(
 
 /// So many links were served and so many messages accepted, no gate failed, and these are the replies.
 fn expect(rt: &impl Abort, told: &Told, served: u64, accepted: u64, replies: &[&str]) {
-    assert_eq!(rt;
-        (told.served, told.accepted, told.failed),
-        (served, accepted, false)
-    );
+    told_so(rt, told, (served, accepted, false), replies);
+}
+
+/// So many links were served and messages accepted, a gate failed or none, and these are the replies.
+fn told_so(rt: &impl Abort, told: &Told, wanted: (u64, u64, bool), replies: &[&str]) {
+    assert_eq!(rt; (told.served, told.accepted, told.failed), wanted);
     assert_eq!(rt; told.replies.len(), replies.len());
     for (reply, expected) in told.replies.iter().zip(replies) {
         assert_eq!(rt; reply.as_str(), *expected);
@@ -228,79 +290,109 @@ pub fn opened<R: Threads + Wait + Sync + Abort>(
     Ok(room)
 }
 
+/// Serves each text on a link of its own. So many messages are accepted, no gate fails, and these are the replies.
+fn serves<R: Threads + Wait + Sync + Abort>(
+    rt: &R,
+    alloc: Global,
+    room: Memory,
+    texts: &[&str],
+    accepted: u64,
+    replies: &[&str],
+) -> Result<Memory, Fail> {
+    let (room, told) = serve_texts(rt, alloc, room, texts)?;
+    expect(rt, &told, texts.len() as u64, accepted, replies);
+    Ok(room)
+}
+
+/// How many calls of the disk open the auction.
+pub fn opening_calls<R: Threads + Wait + Sync + Abort>(rt: &R, alloc: Global) -> Result<u64, Fail> {
+    Ok(opened(rt, alloc, Vec::new(alloc))?.desk.into_disk().calls())
+}
+
 #[test]
 fn two_workers_take_a_bid_each(rt: HostRuntime) -> Result<(), Fail> {
-    let first = post(rt.alloc(), "k1", FIRST_BID)?;
-    let second = post(rt.alloc(), "k2", SECOND_BID)?;
-    let first_reply = reply(rt.alloc(), "200 OK", "accepted 1 1730700000\n")?;
-    let second_reply = reply(rt.alloc(), "200 OK", "accepted 7 1730700000\n")?;
     let room = opened(&rt, rt.alloc(), Vec::new(rt.alloc()))?;
-    let (room, told) = serve_texts(&rt, rt.alloc(), room, &[first.as_str(), second.as_str()])?;
-    expect(
-        &rt,
-        &told,
-        2,
-        2,
-        &[first_reply.as_str(), second_reply.as_str()],
-    );
+    let replies = [FIRST_REPLY, SECOND_REPLY];
+    let room = serves(&rt, rt.alloc(), room, &[FIRST, SECOND], 2, &replies)?;
     // The disk has both, each once, and so they stand after it is opened again. Past the closing a new bid is late.
     let room = room_on(&rt, rt.alloc(), room.desk.into_disk(), CLOSING)?;
     assert_eq!(rt; room.desk.entries(), 7);
-    let third = post(
-        rt.alloc(),
-        "k1",
-        "{\"number\":2,\"kind\":\"bid\",\"auction\":\"bill13\",\"bidder\":\"fund1\",\"rate\":\"4.300\",\"amount\":100}",
-    )?;
-    let (_, told) = serve_texts(&rt, rt.alloc(), room, &[third.as_str(), first.as_str()])?;
-    let late = reply(
-        rt.alloc(),
+    let late = replied!(
         "422 Unprocessable Entity",
-        "refused 17 Late 1730737800 1730737800\n",
+        38,
+        "refused 17 Late 1730737800 1730737800\n"
+    );
+    let _ = serves(
+        &rt,
+        rt.alloc(),
+        room,
+        &[THIRD, FIRST],
+        0,
+        &[late, FIRST_REPLY],
     )?;
-    expect(&rt, &told, 2, 0, &[late.as_str(), first_reply.as_str()]);
     Ok(())
 }
 
 #[test]
 fn one_message_on_two_links_stands_once(rt: HostRuntime) -> Result<(), Fail> {
-    let bid = post(rt.alloc(), "k1", FIRST_BID)?;
-    let accepted = reply(rt.alloc(), "200 OK", "accepted 1 1730700000\n")?;
     let room = opened(&rt, rt.alloc(), Vec::new(rt.alloc()))?;
-    let (_, told) = serve_texts(&rt, rt.alloc(), room, &[bid.as_str(), bid.as_str()])?;
-    expect(&rt, &told, 2, 1, &[accepted.as_str(), accepted.as_str()]);
+    let replies = [FIRST_REPLY, FIRST_REPLY];
+    let _ = serves(&rt, rt.alloc(), room, &[FIRST, FIRST], 1, &replies)?;
     Ok(())
 }
 
+/// Requests of one link, and the reply to each.
+const REQUESTS: [(&str, &str); 8] = [
+    (FIRST, FIRST_REPLY),
+    (
+        "GET /bids/bill13 HTTP/1.1\r\nAuction-Key: k1\r\n\r\n",
+        replied!("200 OK", 23, "1 fund1 4.300 100 live\n"),
+    ),
+    (SHAPELESS, SHAPELESS_REPLY),
+    (
+        posted!("k9", 2, "{}"),
+        replied!("401 Unauthorized", 21, "refused 1 UnknownKey\n"),
+    ),
+    (
+        "GET /elsewhere HTTP/1.1\r\n\r\n",
+        replied!("404 Not Found", 18, "refused 7 NoRoute\n"),
+    ),
+    (
+        "GET /messages HTTP/1.1\r\n\r\n",
+        replied!(
+            "405 Method Not Allowed",
+            20,
+            "Allow: POST\r\n",
+            "refused 8 BadMethod\n"
+        ),
+    ),
+    (
+        "GET /holdings HTTP/1.1\r\n\r\n",
+        replied!("401 Unauthorized", 21, "refused 1 UnknownKey\n"),
+    ),
+    (
+        "GET /results/bill13 HTTP/1.1\r\nAuction-Key: k1\r\nConnection: close\r\n\r\nGET",
+        replied_last!("404 Not Found", 24, "refused 62 NotPublished\n"),
+    ),
+];
+
 #[test]
 fn a_link_is_answered_request_by_request(rt: HostRuntime) -> Result<(), Fail> {
-    let mut text = post(rt.alloc(), "k1", FIRST_BID)?;
-    text.push_str("GET /bids/bill13 HTTP/1.1\r\nAuction-Key: k1\r\n\r\n")?;
-    text.push_str(&post(rt.alloc(), "k1", "{}")?)?;
-    text.push_str(&post(rt.alloc(), "k9", "{}")?)?;
-    text.push_str(
-        "GET /elsewhere HTTP/1.1\r\n\r\nGET /messages HTTP/1.1\r\n\r\nGET /holdings HTTP/1.1\r\n\r\n",
-    )?;
-    text.push_str(
-        "GET /results/bill13 HTTP/1.1\r\nAuction-Key: k1\r\nConnection: close\r\n\r\nGET",
-    )?;
-    let mut expected = reply(rt.alloc(), "200 OK", "accepted 1 1730700000\n")?;
-    for (line, body) in [
-        ("200 OK", "1 fund1 4.300 100 live\n"),
-        ("400 Bad Request", "refused 6 BadShape number\n"),
-        ("401 Unauthorized", "refused 1 UnknownKey\n"),
-        ("404 Not Found", "refused 7 NoRoute\n"),
-    ] {
-        expected.push_str(&reply(rt.alloc(), line, body)?)?;
+    let mut text = String::new(rt.alloc());
+    let mut expected = String::new(rt.alloc());
+    for (request, reply) in &REQUESTS {
+        text.push_str(request)?;
+        expected.push_str(reply)?;
     }
-    expected.push_str(
-        "HTTP/1.1 405 Method Not Allowed\r\nContent-Type: text/plain\r\nContent-Length: 20\r\nAllow: POST\r\n\r\n\
-        refused 8 BadMethod\n",
-    )?;
-    expected.push_str(&reply(rt.alloc(), "401 Unauthorized", "refused 1 UnknownKey\n")?)?;
-    expected.push_str(&last_reply(rt.alloc(), "404 Not Found", "refused 62 NotPublished\n")?)?;
     let room = opened(&rt, rt.alloc(), Vec::new(rt.alloc()))?;
-    let (_, told) = serve_texts(&rt, rt.alloc(), room, &[text.as_str()])?;
-    expect(&rt, &told, 1, 1, &[expected.as_str()]);
+    let _ = serves(
+        &rt,
+        rt.alloc(),
+        room,
+        &[text.as_str()],
+        1,
+        &[expected.as_str()],
+    )?;
     Ok(())
 }
 
@@ -329,69 +421,77 @@ pub fn ends<R: Wait + Abort>(
     Ok(room)
 }
 
+/// Texts of a link, how it ends, and what it is replied.
+const ENDS: [(&str, End, &str); 7] = [
+    ("", End::EndOfInput, ""),
+    (SHAPELESS, End::EndOfInput, SHAPELESS_REPLY),
+    ("POST /messages HTTP/1.1\r\n", End::CutShort, ""),
+    (
+        "POST /messages HTTP/1.1\r\nContent-Length: 4097\r\n\r\n",
+        End::BadRequest(413),
+        replied_last!("413 Payload Too Large", 12, "bad request\n"),
+    ),
+    (
+        "POST /messages HTTP/1.1\r\nTransfer-Encoding: chunked\r\n\r\n",
+        End::BadRequest(501),
+        replied_last!("501 Not Implemented", 12, "bad request\n"),
+    ),
+    (
+        "POST /messages HTTP/1.1\r\n\r\n{}",
+        End::BadRequest(411),
+        replied_last!("411 Length Required", 12, "bad request\n"),
+    ),
+    (
+        "POST /messages HTTP/1.1\r\nAuction-Key: k1\r\nConnection: close\r\nContent-Length: 2\r\n\r\n{}",
+        End::Asked,
+        replied_last!("400 Bad Request", 26, "refused 6 BadShape number\n"),
+    ),
+];
+
 #[test]
 fn a_link_ends_as_its_bytes_do(rt: HostRuntime) -> Result<(), Fail> {
-    let alloc = rt.alloc();
-    let asked = post(alloc, "k1", "{}")?;
-    let closing =
-        "POST /messages HTTP/1.1\r\nAuction-Key: k1\r\nConnection: close\r\nContent-Length: 2\r\n\r\n{}";
-    let misread = reply(alloc, "400 Bad Request", "refused 6 BadShape number\n")?;
-    let misread_last = last_reply(alloc, "400 Bad Request", "refused 6 BadShape number\n")?;
-    let too_long = last_reply(alloc, "413 Payload Too Large", "bad request\n")?;
-    let unknown = last_reply(alloc, "501 Not Implemented", "bad request\n")?;
-    let needed = last_reply(alloc, "411 Length Required", "bad request\n")?;
-    let room = opened(&rt, alloc, Vec::new(alloc))?;
-    let room = ends(&rt, alloc, room, &whole(""), End::EndOfInput, "")?;
-    let room = ends(&rt, alloc, room, &whole(&asked), End::EndOfInput, &misread)?;
-    let room = ends(
-        &rt,
-        alloc,
-        room,
-        &whole("POST /messages HTTP/1.1\r\n"),
-        End::CutShort,
-        "",
-    )?;
-    let long = whole("POST /messages HTTP/1.1\r\nContent-Length: 4097\r\n\r\n");
-    let room = ends(&rt, alloc, room, &long, End::BadRequest(413), &too_long)?;
-    let chunked = whole("POST /messages HTTP/1.1\r\nTransfer-Encoding: chunked\r\n\r\n");
-    let room = ends(&rt, alloc, room, &chunked, End::BadRequest(501), &unknown)?;
-    let endless = whole("POST /messages HTTP/1.1\r\n\r\n{}");
-    let room = ends(&rt, alloc, room, &endless, End::BadRequest(411), &needed)?;
-    let _ = ends(&rt, alloc, room, &whole(closing), End::Asked, &misread_last)?;
+    let mut room = opened(&rt, rt.alloc(), Vec::new(rt.alloc()))?;
+    for (text, ended, reply) in &ENDS {
+        room = ends(&rt, rt.alloc(), room, &whole(text), *ended, reply)?;
+    }
     Ok(())
 }
 
 #[test]
 fn a_link_ends_at_a_failing_call(rt: HostRuntime) -> Result<(), Fail> {
-    let alloc = rt.alloc();
-    let asked = post(alloc, "k1", "{}")?;
-    let room = opened(&rt, alloc, Vec::new(alloc))?;
-    let failing = Given {
-        failing_reads: &[0],
-        ..whole(&asked)
-    };
-    let room = ends(&rt, alloc, room, &failing, End::ReadFault, "")?;
-    let failing = Given {
-        failing_writes: &[0],
-        ..whole(&asked)
-    };
-    let _ = ends(&rt, alloc, room, &failing, End::WriteFault, "")?;
+    let mut room = opened(&rt, rt.alloc(), Vec::new(rt.alloc()))?;
+    let asked = whole(SHAPELESS);
+    for (failing_reads, failing_writes, ended) in [
+        ([0].as_slice(), [].as_slice(), End::ReadFault),
+        ([].as_slice(), [0].as_slice(), End::WriteFault),
+    ] {
+        let failing = Given {
+            failing_reads,
+            failing_writes,
+            ..asked
+        };
+        room = ends(&rt, rt.alloc(), room, &failing, ended, "")?;
+    }
     Ok(())
 }
 
 // However the bytes are cut, the reply is the same.
 #[test]
 fn a_request_comes_in_pieces(rt: HostRuntime) -> Result<(), Fail> {
-    let alloc = rt.alloc();
-    let asked = post(alloc, "k1", "{}")?;
-    let misread = reply(alloc, "400 Bad Request", "refused 6 BadShape number\n")?;
-    let mut room = opened(&rt, alloc, Vec::new(alloc))?;
-    for piece in 1..asked.len() {
+    let mut room = opened(&rt, rt.alloc(), Vec::new(rt.alloc()))?;
+    for piece in 1..SHAPELESS.len() {
         let given = Given {
             piece,
-            ..whole(&asked)
+            ..whole(SHAPELESS)
         };
-        room = ends(&rt, alloc, room, &given, End::EndOfInput, &misread)?;
+        room = ends(
+            &rt,
+            rt.alloc(),
+            room,
+            &given,
+            End::EndOfInput,
+            SHAPELESS_REPLY,
+        )?;
     }
     Ok(())
 }
@@ -407,10 +507,7 @@ fn fails_beside<R: Threads + Wait + Sync + Abort>(
     expected: &str,
     new: u64,
 ) -> Result<Memory, Fail> {
-    let bid = post(alloc, "k1", FIRST_BID)?;
-    let accepted = reply(alloc, "200 OK", "accepted 1 1730700000\n")?;
-    let request = post(alloc, "k2", "{}")?;
-    let text = format!(in alloc; "{request}{request}")?;
+    let text = format!(in alloc; "{OTHER_SHAPELESS}{OTHER_SHAPELESS}")?;
     let failing = Given {
         failing_reads,
         failing_writes,
@@ -418,74 +515,70 @@ fn fails_beside<R: Threads + Wait + Sync + Abort>(
     };
     let mut gates = Vec::new(alloc);
     gates.push(gate_of(rt, alloc, &[failing], &[])?)?;
-    gates.push(gate_of(rt, alloc, &[whole(&bid)], &[])?)?;
+    gates.push(gate_of(rt, alloc, &[whole(FIRST)], &[])?)?;
     let (room, told) = serve(rt, alloc, room, gates)?;
-    expect(rt, &told, 2, new, &[expected, accepted.as_str()]);
+    expect(rt, &told, 2, new, &[expected, FIRST_REPLY]);
     Ok(room)
 }
 
 #[test]
 fn a_failing_link_leaves_the_others_whole(rt: HostRuntime) -> Result<(), Fail> {
     let alloc = rt.alloc();
-    let misread = reply(alloc, "400 Bad Request", "refused 6 BadShape number\n")?;
-    let misread_twice = format!(in alloc; "{misread}{misread}")?;
-    let room = opened(&rt, alloc, Vec::new(alloc))?;
-    let room = fails_beside(&rt, alloc, room, &[0], &[], "", 1)?;
-    let room = fails_beside(&rt, alloc, room, &[1], &[], "", 0)?;
-    let room = fails_beside(&rt, alloc, room, &[2], &[], &misread, 0)?;
-    let room = fails_beside(&rt, alloc, room, &[3], &[], &misread_twice, 0)?;
-    let room = fails_beside(&rt, alloc, room, &[], &[0], "", 0)?;
-    let _ = fails_beside(&rt, alloc, room, &[], &[1], &misread, 0)?;
+    let both = format!(in alloc; "{SHAPELESS_REPLY}{SHAPELESS_REPLY}")?;
+    let mut room = opened(&rt, alloc, Vec::new(alloc))?;
+    for (reads, writes, expected, new) in [
+        ([0].as_slice(), [].as_slice(), "", 1),
+        ([1].as_slice(), [].as_slice(), "", 0),
+        ([2].as_slice(), [].as_slice(), SHAPELESS_REPLY, 0),
+        ([3].as_slice(), [].as_slice(), both.as_str(), 0),
+        ([].as_slice(), [0].as_slice(), "", 0),
+        ([].as_slice(), [1].as_slice(), SHAPELESS_REPLY, 0),
+    ] {
+        room = fails_beside(&rt, alloc, room, reads, writes, expected, new)?;
+    }
     Ok(())
+}
+
+/// Serves two links at one gate, of which these calls fail.
+fn serve_at_one<R: Threads + Wait + Sync + Abort>(
+    rt: &R,
+    alloc: Global,
+    room: Memory,
+    fails: &[u64],
+) -> Result<(Memory, Told), Fail> {
+    let mut gates = Vec::new(alloc);
+    gates.push(gate_of(rt, alloc, &[whole(FIRST), whole(SECOND)], fails)?)?;
+    serve(rt, alloc, room, gates)
 }
 
 #[test]
 fn a_gate_is_served_until_it_fails(rt: HostRuntime) -> Result<(), Fail> {
-    let first = post(rt.alloc(), "k1", FIRST_BID)?;
-    let second = post(rt.alloc(), "k2", SECOND_BID)?;
-    let first_reply = reply(rt.alloc(), "200 OK", "accepted 1 1730700000\n")?;
-    let second_reply = reply(rt.alloc(), "200 OK", "accepted 7 1730700000\n")?;
-    let links = [whole(&first), whole(&second)];
-    let mut gates = Vec::new(rt.alloc());
-    gates.push(gate_of(&rt, rt.alloc(), &links, &[1])?)?;
     let room = opened(&rt, rt.alloc(), Vec::new(rt.alloc()))?;
-    let (room, told) = serve(&rt, rt.alloc(), room, gates)?;
-    assert_eq!(rt; (told.served, told.accepted, told.failed), (1, 1, true));
-    assert_eq!(rt; told.replies.len(), 1);
-    assert_eq!(rt; told.replies[0].as_str(), first_reply.as_str());
+    let (room, told) = serve_at_one(&rt, rt.alloc(), room, &[1])?;
+    told_so(&rt, &told, (1, 1, true), &[FIRST_REPLY]);
     // A gate that doesn't fail gives all links.
-    let mut gates = Vec::new(rt.alloc());
-    gates.push(gate_of(&rt, rt.alloc(), &links, &[])?)?;
-    let (_, told) = serve(&rt, rt.alloc(), room, gates)?;
-    expect(
-        &rt,
-        &told,
-        2,
-        1,
-        &[first_reply.as_str(), second_reply.as_str()],
-    );
+    let (_, told) = serve_at_one(&rt, rt.alloc(), room, &[])?;
+    expect(&rt, &told, 2, 1, &[FIRST_REPLY, SECOND_REPLY]);
     Ok(())
 }
 
 #[test]
 fn a_disk_fault_is_told_and_the_link_goes_on(rt: HostRuntime) -> Result<(), Fail> {
-    let mut text = post(rt.alloc(), "k1", FIRST_BID)?;
-    text.push_str(&post(rt.alloc(), "k1", FIRST_BID)?)?;
-    let mut expected = reply(
-        rt.alloc(),
-        "503 Service Unavailable",
-        "unavailable DiskFault\n",
-    )?;
-    expected.push_str(&reply(rt.alloc(), "200 OK", "accepted 1 1730700000\n")?)?;
+    let text = format!(in rt.alloc(); "{FIRST}{FIRST}")?;
+    let fault = replied!("503 Service Unavailable", 22, "unavailable DiskFault\n");
+    let expected = format!(in rt.alloc(); "{fault}{FIRST_REPLY}")?;
     // The last of the four calls of the disk at a new message fails, so its entry stands at the next turn.
-    let calls = opened(&rt, rt.alloc(), Vec::new(rt.alloc()))?
-        .desk
-        .into_disk()
-        .calls();
+    let calls = opening_calls(&rt, rt.alloc())?;
     let fails = vec![in rt.alloc(); calls.saturating_add(3); 1]?;
     let room = opened(&rt, rt.alloc(), fails)?;
-    let (_, told) = serve_texts(&rt, rt.alloc(), room, &[text.as_str()])?;
-    expect(&rt, &told, 1, 1, &[expected.as_str()]);
+    let _ = serves(
+        &rt,
+        rt.alloc(),
+        room,
+        &[text.as_str()],
+        1,
+        &[expected.as_str()],
+    )?;
     Ok(())
 }
 
@@ -502,30 +595,42 @@ fn other_bids(alloc: Global, count: u64) -> Result<String, Fail> {
     Ok(text)
 }
 
-#[test]
-fn a_dealer_learns_nothing_of_the_others(rt: HostRuntime) -> Result<(), Fail> {
-    let mut text = post(rt.alloc(), "k1", FIRST_BID)?;
-    text.push_str(&post(rt.alloc(), "k1", FIRST_BID)?)?;
-    text.push_str(&post(
-        rt.alloc(),
-        "k1",
-        "{\"number\":1,\"kind\":\"bid\",\"auction\":\"bill13\",\"bidder\":\"fund1\",\"rate\":\"4.300\",\"amount\":200}",
-    )?)?;
+/// What a dealer sends, and asks.
+fn own_requests(alloc: Global) -> Result<String, Fail> {
+    let mut text = format!(in alloc; "{FIRST}{FIRST}{CHANGED}")?;
     for path in ["bids", "awards", "results", "terms"] {
-        text.push_str(&format!(in rt.alloc();
+        text.push_str(&format!(in alloc;
             "GET /{path}/bill13 HTTP/1.1\r\nAuction-Key: k1\r\n\r\n"
         )?)?;
     }
+    Ok(text)
+}
+
+/// The reply to the first of these texts, each on a link of its own in a room of their own. So many messages are
+/// accepted.
+fn first_reply<R: Threads + Wait + Sync + Abort>(
+    rt: &R,
+    alloc: Global,
+    texts: &[&str],
+    accepted: u64,
+) -> Result<String, Fail> {
+    let room = opened(rt, alloc, Vec::new(alloc))?;
+    let (_, told) = serve_texts(rt, alloc, room, texts)?;
+    assert_eq!(rt; told.accepted, accepted);
+    assert_eq!(rt; told.replies.len(), texts.len());
+    match told.replies.first() {
+        Some(reply) => Ok(reply.clone()?),
+        None => Err("no reply")?,
+    }
+}
+
+#[test]
+fn a_dealer_learns_nothing_of_the_others(rt: HostRuntime) -> Result<(), Fail> {
+    let own = own_requests(rt.alloc())?;
     let bids = other_bids(rt.alloc(), 1000)?;
-    let alone = opened(&rt, rt.alloc(), Vec::new(rt.alloc()))?;
-    let (_, told) = serve_texts(&rt, rt.alloc(), alone, &[text.as_str()])?;
-    assert_eq!(rt; told.accepted, 1);
-    let beside = opened(&rt, rt.alloc(), Vec::new(rt.alloc()))?;
-    let (_, both) = serve_texts(&rt, rt.alloc(), beside, &[text.as_str(), bids.as_str()])?;
-    assert_eq!(rt; both.accepted, 1001);
-    assert_eq!(rt; told.replies.len(), 1);
-    assert_eq!(rt; both.replies.len(), 2);
-    assert_eq!(rt; told.replies[0].as_str(), both.replies[0].as_str());
+    let alone = first_reply(&rt, rt.alloc(), &[own.as_str()], 1)?;
+    let beside = first_reply(&rt, rt.alloc(), &[own.as_str(), bids.as_str()], 1001)?;
+    assert_eq!(rt; alone.as_str(), beside.as_str());
     Ok(())
 }
 
