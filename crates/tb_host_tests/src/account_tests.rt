@@ -1,10 +1,10 @@
 //! Runs in which bills are settled, moved and redeemed. The replies are worked out by hand from the rules.
 use crate::run_tests::{WORDS, replies, script};
-use crate::tests::run;
+use crate::tests::{ended, run};
 use std::test::Fail;
 
-/// A bill of 1,000: 400 and 400 are transferred, 500 are pledged and 300 of them released. It matures on a Saturday before a
-/// holiday, and is paid on the Tuesday.
+/// A bill of 1,000: 400 and 400 are transferred, 500 are pledged and 300 of them released. It matures on a Saturday
+/// before a holiday, and is paid on the Tuesday.
 const WORKED: [(&str, &str); 27] = [
     (
         r#"1730700000 op:root {"number":1,"kind":"register","submitter":"dealer1","key":"k1"}"#,
@@ -224,8 +224,7 @@ fn bills_are_settled_moved_and_redeemed(rt: HostRuntime) -> Result<(), Fail> {
         let text = script(rt.alloc(), "", cases)?;
         let told = replies(rt.alloc(), "", cases)?;
         let run = run(&rt, rt.alloc(), &WORDS, text.as_str(), 4096, &[], &[])?;
-        assert_eq!(rt; run.out.bytes(), told.as_str().as_bytes());
-        assert_eq!(rt; run.status, 0);
+        ended(&rt, &run, 0, &told, "");
     }
     Ok(())
 }
@@ -237,8 +236,10 @@ fn a_roster_of_4096_submitters_is_full(rt: HostRuntime) -> Result<(), Fail> {
     let mut told = String::new(alloc);
     for number in 1..=4097 {
         text.push_str(format!(in alloc;
-            "1730700000 op:root {{\"number\":{number},\"kind\":\"register\",\"submitter\":\"s{number}\",\"key\":\"k{number}\"}}\n"
-        )?.as_str())?;
+            "1730700000 op:root {{\"number\":{number},\"kind\":\"register\",\"submitter\":\"s{number}\",\
+            \"key\":\"k{number}\"}}\n"
+        )?
+        .as_str())?;
         if number <= 4096 {
             told.push_str(format!(in alloc; "accepted {number} 1730700000\n")?.as_str())?;
         }
@@ -246,7 +247,6 @@ fn a_roster_of_4096_submitters_is_full(rt: HostRuntime) -> Result<(), Fail> {
     text.push_str("end\n")?;
     told.push_str("refused 51 RosterFull\n")?;
     let run = run(&rt, alloc, &WORDS, text.as_str(), 8192, &[], &[])?;
-    assert_eq!(rt; run.out.bytes(), told.as_str().as_bytes());
-    assert_eq!(rt; run.status, 0);
+    ended(&rt, &run, 0, &told, "");
     Ok(())
 }

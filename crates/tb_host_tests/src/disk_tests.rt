@@ -1,8 +1,8 @@
 //! `run` on a disk: what a journal holds, second runs, disks that fail, and files that are refused. The bytes and
 //! replies are worked out by hand from the formats and the rules.
-use crate::opening::{opened, registered};
+use crate::opening::{RESULTS, opened, registered};
 use crate::run_tests::{ORDINARY, WORDS};
-use crate::tests::{Outcome, disk_of, run, run_on};
+use crate::tests::{Outcome, disk_of, ended, leaves, run, run_on};
 use std::alloc::Global;
 use std::process::Abort;
 use std::str;
@@ -22,7 +22,8 @@ const EMPTY: &[u8] = b"TBHOSTJOURNAL001\0";
 /// The first message alone.
 const FIRST: &str = registered!("\nend\n");
 
-/// What the second run is told: everything was accepted before, and the results are published.
+/// What the second run is told before the results, and between them and the results once more: everything was accepted
+/// before, and the results are published.
 const SECOND_REPLIES: &str = "accepted 1 1730700000
 accepted 2 1730700000
 accepted 3 1730700000
@@ -31,42 +32,12 @@ refused 17 Late 1730737800 1730737800
 accepted 1 1730737799
 refused 3 NumberReused
 lines 16
-auction bill13
-cusip 912797AA5
-issue 2024-11-07
-maturity 2025-02-06
-days 91
-offering 76000000000
-noncompetitive 0
-competitive 20000000000
-total 20000000000
-high 4.270
-allotted 100.00
-median 4.270
-low 4.270
-price 98.920639
-investment 4.377
-bids at lower rates were accepted in full
-accepted 4 1730737800
+";
+
+const SECOND_AWARDS: &str = "accepted 4 1730737800
 lines 1
 fund1 20000000000 19784127800.00
 lines 16
-auction bill13
-cusip 912797AA5
-issue 2024-11-07
-maturity 2025-02-06
-days 91
-offering 76000000000
-noncompetitive 0
-competitive 20000000000
-total 20000000000
-high 4.270
-allotted 100.00
-median 4.270
-low 4.270
-price 98.920639
-investment 4.377
-bids at lower rates were accepted in full
 ";
 
 /// The messages of the ordinary auction that are accepted, and the replies to them.
@@ -99,14 +70,11 @@ fn run_script<R: Threads + Wait + Sync>(
 fn a_journal_has_the_bytes_of_its_format(rt: HostRuntime) -> Result<(), Fail> {
     let alloc = rt.alloc();
     let first = run(&rt, alloc, &WORDS, FIRST, 64, &[], &[])?;
-    assert_eq!(rt; first.out.bytes(), b"accepted 1 1730700000\n".as_slice());
-    assert_eq!(rt; first.disk.contents(), ONE_ENTRY);
+    leaves(&rt, &first, 0, "accepted 1 1730700000\n", "", ONE_ENTRY);
     for contents in [b"".as_slice(), b"seventeen bytes.."] {
         let disk = disk_of(&rt, alloc, contents, &[], 0)?;
         let empty = run_script(&rt, alloc, "end\n", disk)?;
-        assert_eq!(rt; empty.status, 0);
-        assert_eq!(rt; empty.out.bytes(), b"".as_slice());
-        assert_eq!(rt; empty.disk.contents(), EMPTY);
+        leaves(&rt, &empty, 0, "", "", EMPTY);
     }
     Ok(())
 }
@@ -117,9 +85,8 @@ fn a_second_run_goes_on_with_the_history_of_the_first(rt: HostRuntime) -> Result
     let first = run(&rt, alloc, &WORDS, ORDINARY, 4096, &[], &[])?;
     let disk = disk_of(&rt, alloc, first.disk.contents(), &[], 0)?;
     let second = run_script(&rt, alloc, ORDINARY, disk)?;
-    assert_eq!(rt; second.status, 0);
-    assert_eq!(rt; second.out.bytes(), SECOND_REPLIES.as_bytes());
-    assert_eq!(rt; second.disk.contents(), first.disk.contents());
+    let told = format!(in alloc; "{SECOND_REPLIES}{RESULTS}{SECOND_AWARDS}{RESULTS}")?;
+    leaves(&rt, &second, 0, &told, "", first.disk.contents());
     Ok(())
 }
 
@@ -143,10 +110,7 @@ fn a_file_that_is_no_journal_is_refused_and_stays(rt: HostRuntime) -> Result<(),
         // The first read would fail: nothing is read.
         let disk = disk_of(&rt, alloc, contents, &[], 0)?;
         let refused = run_on(&rt, alloc, &WORDS, FIRST, 64, &[0], &[], disk)?;
-        assert_eq!(rt; refused.status, status);
-        assert_eq!(rt; refused.out.bytes(), b"".as_slice());
-        assert_eq!(rt; refused.err.bytes(), told.as_bytes());
-        assert_eq!(rt; refused.disk.contents(), contents);
+        leaves(&rt, &refused, status, "", told, contents);
     }
     Ok(())
 }
@@ -159,12 +123,30 @@ fn a_message_that_meets_a_fault_is_told_so_and_the_run_goes_on(
     // The header and the gate fit, the first entry doesn't.
     let disk = MemoryDisk::new(alloc, b"", 40, 10_000, Vec::new(alloc), 0)?;
     let full = run_script(&rt, alloc, FIRST, disk)?;
-    assert_eq!(rt; full.status, 0);
-    assert_eq!(rt; full.out.bytes(), b"unavailable DiskFault\n".as_slice());
-    assert_eq!(rt; full.err.bytes(), b"".as_slice());
+    ended(&rt, &full, 0, "unavailable DiskFault\n", "");
     let disk = disk_of(&rt, alloc, full.disk.contents(), &[], 0)?;
     let again = run_script(&rt, alloc, "1730700000 k1 {}\nend\n", disk)?;
-    assert_eq!(rt; again.out.bytes(), b"refused 1 UnknownKey\n".as_slice());
+    ended(&rt, &again, 0, "refused 1 UnknownKey\n", "");
+    Ok(())
+}
+
+// What a run was told that was accepted a later one is told again, with its moment.
+fn told_again(
+    rt: &impl Abort,
+    alloc: Global,
+    first: &Outcome,
+    second: &Outcome,
+) -> Result<(), Fail> {
+    let told = text_of(rt, alloc, first.out.bytes())?;
+    let later = text_of(rt, alloc, second.out.bytes())?;
+    let mut again = later.lines();
+    for reply in told.lines() {
+        let later = again.next().unwrap_or("");
+        assert!(rt;
+            !reply.starts_with("accepted") || reply == later,
+            "{reply}, {later}"
+        );
+    }
     Ok(())
 }
 
@@ -178,25 +160,14 @@ fn keeps_what_it_accepted<R: Abort + Threads + Wait + Sync>(
     let disk = disk_of(rt, alloc, b"", fails, 7)?;
     let first = run_script(rt, alloc, MESSAGES, disk)?;
     if first.status == 6 {
-        assert_eq!(rt; first.out.bytes(), b"".as_slice());
-        assert_eq!(rt; first.err.bytes(), b"disk fault\n".as_slice());
+        ended(rt, &first, 6, "", "disk fault\n");
     } else {
         assert_eq!(rt; first.status, 0);
     }
     let disk = disk_of(rt, alloc, first.disk.contents(), &[], 0)?;
     let second = run_script(rt, alloc, MESSAGES, disk)?;
     assert_eq!(rt; second.status, 0);
-    let told = text_of(rt, alloc, first.out.bytes())?;
-    let told_again = text_of(rt, alloc, second.out.bytes())?;
-    let mut again = told_again.lines();
-    for reply in told.lines() {
-        let later = again.next().unwrap_or("");
-        assert!(rt;
-            !reply.starts_with("accepted") || reply == later,
-            "{reply}, {later}"
-        );
-    }
-    Ok(())
+    told_again(rt, alloc, &first, &second)
 }
 
 fn text_of(rt: &impl Abort, alloc: Global, bytes: &[u8]) -> Result<String, Fail> {
@@ -242,8 +213,7 @@ fn the_next_message_resolves_what_is_in_doubt(rt: HostRuntime) -> Result<(), Fai
         want.push_str(reply)?;
         want.push('\n')?;
     }
-    assert_eq!(rt; doubted.status, 0);
-    assert_eq!(rt; doubted.out.bytes(), want.as_str().as_bytes());
+    ended(&rt, &doubted, 0, &want, "");
     Ok(())
 }
 

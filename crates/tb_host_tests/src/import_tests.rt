@@ -1,6 +1,7 @@
 //! `import` over what a script left. The texts and bytes are worked out by hand from the formats and the rules.
+use crate::opening;
 use crate::run_tests::WORDS;
-use crate::tests::{Outcome, disk_of, run, run_on};
+use crate::tests::{Outcome, disk_of, ended, leaves, run, run_on};
 use std::alloc::Global;
 use std::process::Abort;
 use std::sync::Wait;
@@ -9,13 +10,8 @@ use std::thread::Threads;
 
 const IMPORT: [&str; 5] = ["import", "--key", "k1", "--op", "root"];
 
-/// An auction that is open.
-const OPEN: &str =
-    r#"1730690000 op:root {"number":1,"kind":"register","submitter":"dealer1","key":"k1"}
-1730690000 op:root {"number":2,"kind":"enrol","bidder":"fund1","submitter":"dealer1"}
-1730690000 op:root {"number":3,"kind":"announce","auction":"bill13","cusip":"912797AA5","offering":76000000000,"minimum":100,"ceiling":10000000,"floor":1000000000,"threshold":26600000000,"date":"2024-11-04","nc_close":"11:00","c_close":"11:30","issue":"2024-11-07","maturity":"2025-02-06"}
-end
-"#;
+/// An auction that is open, from before the moment of the clock.
+const OPEN: &str = opening::opened!(at "1730690000", "\nend\n");
 
 const TWO: &str =
     "number,auction,bidder,rate,amount\n7,bill13,fund1,4.300,100\n8,bill13,fund1,4.305,100\n";
@@ -56,31 +52,34 @@ fn rows_are_sent_once_each_at_the_moment_of_the_clock(rt: HostRuntime) -> Result
         7,bill13,fund1,4.300,100\n\
         8,bill13,fund1,,100\n";
     let sent = import(&rt, rt.alloc(), &IMPORT, table, &[], &[], &[])?;
-    assert_eq!(rt; sent.status, 0);
-    assert_eq!(rt;
-        sent.out.bytes(),
-        b"7 accepted 7 1730700000\n8 refused 19 MixedBids\n".as_slice()
+    ended(
+        &rt,
+        &sent,
+        0,
+        "7 accepted 7 1730700000\n8 refused 19 MixedBids\n",
+        "",
     );
     let nobody = ["import", "--key=k2", "--op=root"];
     let unknown = import(&rt, rt.alloc(), &nobody, TWO, &[], &[], &[])?;
-    assert_eq!(rt; unknown.status, 0);
-    assert_eq!(rt;
-        unknown.out.bytes(),
-        b"7 refused 1 UnknownKey\n8 refused 1 UnknownKey\n".as_slice()
+    ended(
+        &rt,
+        &unknown,
+        0,
+        "7 refused 1 UnknownKey\n8 refused 1 UnknownKey\n",
+        "",
     );
     Ok(())
 }
+
+/// The replies to the two rows, where both are accepted.
+const BOTH: &str = "7 accepted 7 1730700000\n8 accepted 8 1730700000\n";
 
 #[test]
 fn rows_of_one_turn_stand_under_one_gate(rt: HostRuntime) -> Result<(), Fail> {
     let opened = opened(&rt, rt.alloc())?;
     let before = opened.disk.contents();
     let sent = import(&rt, rt.alloc(), &IMPORT, TWO, &[], &[], &[])?;
-    assert_eq!(rt; sent.status, 0);
-    assert_eq!(rt;
-        sent.out.bytes(),
-        b"7 accepted 7 1730700000\n8 accepted 8 1730700000\n".as_slice()
-    );
+    ended(&rt, &sent, 0, BOTH, "");
     let journal = sent.disk.contents();
     assert_eq!(rt; journal.len(), before.len() + 97);
     // In place of the closed gate come an open one and the length of the two records.
@@ -88,20 +87,43 @@ fn rows_of_one_turn_stand_under_one_gate(rt: HostRuntime) -> Result<(), Fail> {
     let mut grown = front.to_vec(rt.alloc())?;
     grown.extend_from_slice(b"\x01\0\0\0\x5c")?;
     assert!(rt; journal.starts_with(grown.as_slice()));
-    // Of the four calls that add the two bids the third opens their gate, and the fourth syncs it. The two stand together or
-    // not at all, so they are told the same when they are sent again.
+    Ok(())
+}
+
+/// The two rows are told that this call of the disk failed, and are accepted when they are sent again: then the disk is
+/// as after this run.
+fn stand_together<R: Abort + Threads + Wait + Sync>(
+    rt: &R,
+    alloc: Global,
+    call: u64,
+    sent: &Outcome,
+) -> Result<(), Fail> {
+    let failed = import(rt, alloc, &IMPORT, TWO, &[], &[], &[call])?;
+    ended(
+        rt,
+        &failed,
+        0,
+        "7 unavailable DiskFault\n8 unavailable DiskFault\n",
+        "",
+    );
+    let disk = disk_of(rt, alloc, failed.disk.contents(), &[], 0)?;
+    let again = run_on(rt, alloc, &IMPORT, TWO, 64, &[], &[], disk)?;
+    leaves(rt, &again, 0, BOTH, "", sent.disk.contents());
+    Ok(())
+}
+
+// Of the four calls that add the two bids the third opens their gate, and the fourth syncs it. The two stand together
+// or not at all, so they are told the same when they are sent again.
+#[test]
+fn rows_of_one_turn_meet_a_fault_together(rt: HostRuntime) -> Result<(), Fail> {
+    let sent = import(&rt, rt.alloc(), &IMPORT, TWO, &[], &[], &[])?;
     for behind in [2, 1] {
-        let call = sent.disk.calls().saturating_sub(behind);
-        let failed = import(&rt, rt.alloc(), &IMPORT, TWO, &[], &[], &[call])?;
-        assert_eq!(rt; failed.status, 0);
-        assert_eq!(rt;
-            failed.out.bytes(),
-            b"7 unavailable DiskFault\n8 unavailable DiskFault\n".as_slice()
-        );
-        let disk = disk_of(&rt, rt.alloc(), failed.disk.contents(), &[], 0)?;
-        let again = run_on(&rt, rt.alloc(), &IMPORT, TWO, 64, &[], &[], disk)?;
-        assert_eq!(rt; again.out.bytes(), sent.out.bytes());
-        assert_eq!(rt; again.disk.contents(), journal);
+        stand_together(
+            &rt,
+            rt.alloc(),
+            sent.disk.calls().saturating_sub(behind),
+            &sent,
+        )?;
     }
     Ok(())
 }
@@ -111,14 +133,16 @@ fn nothing_is_sent_of_a_table_that_is_not_whole_and_good(rt: HostRuntime) -> Res
     let before = opened(&rt, rt.alloc())?;
     let bad = "number,auction,bidder,rate,amount\n7,bill13,fund1,4.300,100\n8,bill13,fund1,100\n";
     let refused = import(&rt, rt.alloc(), &IMPORT, bad, &[], &[], &[])?;
-    assert_eq!(rt; refused.status, 3);
-    assert_eq!(rt; refused.err.bytes(), b"bad input at line 3\n".as_slice());
-    assert_eq!(rt; refused.out.bytes(), b"".as_slice());
-    assert_eq!(rt; refused.disk.contents(), before.disk.contents());
+    leaves(
+        &rt,
+        &refused,
+        3,
+        "",
+        "bad input at line 3\n",
+        before.disk.contents(),
+    );
     let cut = import(&rt, rt.alloc(), &IMPORT, TWO, &[1], &[], &[])?;
-    assert_eq!(rt; cut.status, 4);
-    assert_eq!(rt; cut.out.bytes(), b"".as_slice());
-    assert_eq!(rt; cut.disk.contents(), before.disk.contents());
+    leaves(&rt, &cut, 4, "", "read fault\n", before.disk.contents());
     Ok(())
 }
 

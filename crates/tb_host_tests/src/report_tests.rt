@@ -1,30 +1,12 @@
 //! `report` on what a script left. The texts are worked out by hand from the rules.
-use crate::opening::registered;
+use crate::opening::{RESULTS, registered};
 use crate::run_tests::{ORDINARY, WORDS};
-use crate::tests::{Outcome, disk_of, run, run_on};
+use crate::tests::{Outcome, disk_of, ended, run, run_on};
 use std::alloc::Global;
 use std::process::Abort;
 use std::sync::Wait;
 use std::test::Fail;
 use std::thread::Threads;
-
-const RESULTS: &str = "auction bill13
-cusip 912797AA5
-issue 2024-11-07
-maturity 2025-02-06
-days 91
-offering 76000000000
-noncompetitive 0
-competitive 20000000000
-total 20000000000
-high 4.270
-allotted 100.00
-median 4.270
-low 4.270
-price 98.920639
-investment 4.377
-bids at lower rates were accepted in full
-";
 
 /// A bill of 1,000, of which 800 went to another, and of the rest all is pledged.
 const HELD: &str = registered!(
@@ -125,8 +107,6 @@ fn results_are_no_table(rt: HostRuntime) -> Result<(), Fail> {
 fn a_write_that_fails_ends_a_report(rt: HostRuntime) -> Result<(), Fail> {
     let words = ["report", "results", "bill13", "--op=root", "--key=k1"];
     let failed = ask(&rt, rt.alloc(), ORDINARY, &words, &[0])?;
-    assert_eq!(rt; failed.status, 5);
-    assert_eq!(rt; failed.out.bytes(), b"".as_slice());
-    assert_eq!(rt; failed.err.bytes(), b"write fault\n".as_slice());
+    ended(&rt, &failed, 5, "", "write fault\n");
     Ok(())
 }

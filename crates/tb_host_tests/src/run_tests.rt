@@ -1,6 +1,6 @@
 //! Runs of scripts. The ordinary auction and the rows of refusals are worked out by hand from the rules.
-use crate::opening::{opened, registered};
-use crate::tests::run;
+use crate::opening::{RESULTS, opened, registered};
+use crate::tests::{ended, run};
 use std::alloc::Global;
 use std::test::Fail;
 
@@ -22,6 +22,7 @@ end
 "#
 );
 
+/// The replies to it, before the results.
 const ORDINARY_REPLIES: &str = "accepted 1 1730700000
 accepted 2 1730700000
 accepted 3 1730700000
@@ -34,22 +35,6 @@ accepted 4 1730737800
 lines 1
 fund1 20000000000 19784127800.00
 lines 16
-auction bill13
-cusip 912797AA5
-issue 2024-11-07
-maturity 2025-02-06
-days 91
-offering 76000000000
-noncompetitive 0
-competitive 20000000000
-total 20000000000
-high 4.270
-allotted 100.00
-median 4.270
-low 4.270
-price 98.920639
-investment 4.377
-bids at lower rates were accepted in full
 ";
 
 /// The operator's messages in front of the bids below.
@@ -193,15 +178,11 @@ const ANNOUNCEMENTS: [(&str, &str); 6] = [
 fn an_ordinary_auction_goes_from_its_announcement_to_its_awards(
     rt: HostRuntime,
 ) -> Result<(), Fail> {
+    let told = format!(in rt.alloc(); "{ORDINARY_REPLIES}{RESULTS}")?;
     for piece in [1, 100, ORDINARY.len()] {
         let run = run(&rt, rt.alloc(), &WORDS, ORDINARY, piece, &[], &[])?;
-        assert_eq!(rt;
-            run.out.bytes(),
-            ORDINARY_REPLIES.as_bytes(),
-            "pieces of {piece}"
-        );
-        assert_eq!(rt; run.err.bytes(), b"".as_slice());
-        assert_eq!(rt; run.status, 0);
+        assert_eq!(rt; run.status, 0, "pieces of {piece}");
+        ended(&rt, &run, 0, &told, "");
     }
     Ok(())
 }
@@ -238,8 +219,7 @@ fn each_line_has_its_reply(rt: HostRuntime) -> Result<(), Fail> {
         let text = script(rt.alloc(), OPENED, cases)?;
         let told = replies(rt.alloc(), OPENED_REPLIES, cases)?;
         let run = run(&rt, rt.alloc(), &WORDS, text.as_str(), 4096, &[], &[])?;
-        assert_eq!(rt; run.out.bytes(), told.as_str().as_bytes());
-        assert_eq!(rt; run.status, 0);
+        ended(&rt, &run, 0, &told, "");
     }
     Ok(())
 }
@@ -248,24 +228,25 @@ const FIRST: &str = registered!();
 
 #[test]
 fn lines_before_a_bad_one_are_acted_on(rt: HostRuntime) -> Result<(), Fail> {
-    for (rest, told) in [
-        ("\nk1 {}\nend\n", "bad input at line 2\n"),
-        ("\n", "bad input at line 2\n"),
-        ("", "bad input at line 2\n"),
-        ("\n1730700000 k1 \nend\n", "bad input at line 2\n"),
-        ("\n1730700000  k1 {}\nend\n", "bad input at line 2\n"),
-        ("\n946702799 k1 {}\nend\n", "bad input at line 2\n"),
-        ("\nend \n", "bad input at line 2\n"),
-        ("\n1730700000 k1 {\n\n", "bad input at line 3\n"),
+    for (rest, out, told) in [
+        ("\nk1 {}\nend\n", "", "bad input at line 2\n"),
+        ("\n", "", "bad input at line 2\n"),
+        ("", "", "bad input at line 2\n"),
+        ("\n1730700000 k1 \nend\n", "", "bad input at line 2\n"),
+        ("\n1730700000  k1 {}\nend\n", "", "bad input at line 2\n"),
+        ("\n946702799 k1 {}\nend\n", "", "bad input at line 2\n"),
+        ("\nend \n", "", "bad input at line 2\n"),
+        (
+            "\n1730700000 k1 {\n\n",
+            "refused 5 BadJson\n",
+            "bad input at line 3\n",
+        ),
     ] {
         let text = format!(in rt.alloc(); "{FIRST}{rest}")?;
-        let run = run(&rt, rt.alloc(), &WORDS, text.as_str(), 7, &[], &[])?;
-        assert_eq!(rt; run.status, 3);
-        assert_eq!(rt; run.err.bytes(), told.as_bytes());
-        assert!(rt;
-            run.out.bytes().starts_with(b"accepted 1 1730700000\n"),
-            "{text}"
-        );
+        let out = format!(in rt.alloc(); "accepted 1 1730700000\n{out}")?;
+        let run = run(&rt, rt.alloc(), &WORDS, &text, 7, &[], &[])?;
+        assert_eq!(rt; run.status, 3, "{text}");
+        ended(&rt, &run, 3, &out, told);
     }
     Ok(())
 }
@@ -276,9 +257,7 @@ fn a_script_may_be_empty_and_its_last_line_may_lack_the_line_feed(
 ) -> Result<(), Fail> {
     for text in ["end\n", "end", "end\r\nwhat comes behind", "end\nend\n"] {
         let run = run(&rt, rt.alloc(), &["run", "--op=root"], text, 3, &[], &[])?;
-        assert_eq!(rt; run.status, 0);
-        assert_eq!(rt; run.out.bytes(), b"".as_slice());
-        assert_eq!(rt; run.err.bytes(), b"".as_slice());
+        ended(&rt, &run, 0, "", "");
     }
     Ok(())
 }
@@ -295,9 +274,7 @@ fn faulty_words_are_told(rt: HostRuntime) -> Result<(), Fail> {
         ["import", "--op", "root"].as_slice(),
     ] {
         let run = run(&rt, rt.alloc(), words, "end\n", 3, &[], &[])?;
-        assert_eq!(rt; run.status, 2);
-        assert_eq!(rt; run.out.bytes(), b"".as_slice());
-        assert_eq!(rt; run.err.bytes(), b"usage\n".as_slice());
+        ended(&rt, &run, 2, "", "usage\n");
     }
     Ok(())
 }
@@ -317,8 +294,7 @@ fn whole_lines_are_acted_on_where_a_read_fails(rt: HostRuntime) -> Result<(), Fa
     ] {
         let run = run(&rt, rt.alloc(), &WORDS, TWO, 1, &[read], &[])?;
         assert_eq!(rt; run.status, 4, "read {read}");
-        assert_eq!(rt; run.out.bytes(), out.as_bytes());
-        assert_eq!(rt; run.err.bytes(), b"read fault\n".as_slice());
+        ended(&rt, &run, 4, out, "read fault\n");
     }
     let done = run(&rt, rt.alloc(), &WORDS, TWO, 1, &[104], &[])?;
     assert_eq!(rt; done.status, 0);
@@ -329,9 +305,7 @@ fn whole_lines_are_acted_on_where_a_read_fails(rt: HostRuntime) -> Result<(), Fa
 fn a_write_that_fails_ends_the_run(rt: HostRuntime) -> Result<(), Fail> {
     for (write, out) in [(0, ""), (1, "accepted 1 1730700000\n")] {
         let failed = run(&rt, rt.alloc(), &WORDS, TWO, 64, &[], &[write])?;
-        assert_eq!(rt; failed.status, 5);
-        assert_eq!(rt; failed.out.bytes(), out.as_bytes());
-        assert_eq!(rt; failed.err.bytes(), b"write fault\n".as_slice());
+        ended(&rt, &failed, 5, out, "write fault\n");
     }
     let done = run(&rt, rt.alloc(), &WORDS, TWO, 64, &[], &[2])?;
     assert_eq!(rt; done.status, 0, "each line has one write");
@@ -370,23 +344,30 @@ lines 2
 2 b n 100 live
 ";
 
-#[test]
-fn replies_are_the_same_where_others_send_a_thousand_bids(rt: HostRuntime) -> Result<(), Fail> {
-    let alloc = rt.alloc();
+/// A thousand bids of another dealer, and the replies to them.
+fn other_bids(alloc: Global) -> Result<(String, String), Fail> {
     let mut bids = String::new(alloc);
     let mut accepted = String::new(alloc);
     for number in 1..=1000 {
         bids.push_str(format!(in alloc;
-            "1730700001 k2 {{\"number\":{number},\"kind\":\"bid\",\"auction\":\"x\",\"bidder\":\"c\",\"rate\":\"4.000\",\"amount\":100}}\n"
-        )?.as_str())?;
+            "1730700001 k2 {{\"number\":{number},\"kind\":\"bid\",\"auction\":\"x\",\"bidder\":\"c\",\
+            \"rate\":\"4.000\",\"amount\":100}}\n"
+        )?
+        .as_str())?;
         accepted.push_str(format!(in alloc; "accepted {number} 1730700001\n")?.as_str())?;
     }
+    Ok((bids, accepted))
+}
+
+#[test]
+fn replies_are_the_same_where_others_send_a_thousand_bids(rt: HostRuntime) -> Result<(), Fail> {
+    let alloc = rt.alloc();
+    let (bids, accepted) = other_bids(alloc)?;
     for (others, replies) in [("", ""), (bids.as_str(), accepted.as_str())] {
         let text = format!(in alloc; "{OPENED}{BEFORE}{others}{BEHIND}")?;
         let told = format!(in alloc; "{OPENED_REPLIES}{BEFORE_REPLIES}{replies}{BEHIND_REPLIES}")?;
         let run = run(&rt, alloc, &WORDS, text.as_str(), 8192, &[], &[])?;
-        assert_eq!(rt; run.out.bytes(), told.as_str().as_bytes());
-        assert_eq!(rt; run.status, 0);
+        ended(&rt, &run, 0, &told, "");
     }
     Ok(())
 }

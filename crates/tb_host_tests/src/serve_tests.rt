@@ -1,6 +1,6 @@
 //! `serve` on links in memory. The replies are worked out by hand from the formats.
 use crate::opening::opened;
-use crate::tests::{Outcome, disk_of, run, serve_on};
+use crate::tests::{Outcome, disk_of, ended, run, serve_on};
 use std::alloc::Global;
 use std::process::Abort;
 use std::sync::Wait;
@@ -86,8 +86,7 @@ fn one_worker_serves_two_links(rt: HostRuntime) -> Result<(), Fail> {
         let mut gates = Vec::new(alloc);
         gates.push(gate(alloc, &[FIRST, SECOND], piece, &[])?)?;
         let (served, gates) = serve(&rt, alloc, "1", gates)?;
-        assert_eq!(rt; served.status, 0);
-        assert_eq!(rt; served.out.bytes(), b"served 2\naccepted 2\n".as_slice());
+        ended(&rt, &served, 0, "served 2\naccepted 2\n", "");
         takes(&rt, &gates, 0, &[ACCEPTED_FIRST, ACCEPTED_SECOND]);
     }
     Ok(())
@@ -100,8 +99,7 @@ fn two_workers_serve_a_link_each(rt: HostRuntime) -> Result<(), Fail> {
     gates.push(gate(alloc, &[FIRST], 50, &[])?)?;
     gates.push(gate(alloc, &[SECOND], 50, &[])?)?;
     let (served, gates) = serve(&rt, alloc, "2", gates)?;
-    assert_eq!(rt; served.status, 0);
-    assert_eq!(rt; served.out.bytes(), b"served 2\naccepted 2\n".as_slice());
+    ended(&rt, &served, 0, "served 2\naccepted 2\n", "");
     takes(&rt, &gates, 0, &[ACCEPTED_FIRST]);
     takes(&rt, &gates, 1, &[ACCEPTED_SECOND]);
     Ok(())
@@ -114,8 +112,7 @@ fn one_message_on_two_links_stands_once(rt: HostRuntime) -> Result<(), Fail> {
     gates.push(gate(alloc, &[FIRST], 50, &[])?)?;
     gates.push(gate(alloc, &[FIRST], 50, &[])?)?;
     let (served, gates) = serve(&rt, alloc, "2", gates)?;
-    assert_eq!(rt; served.status, 0);
-    assert_eq!(rt; served.out.bytes(), b"served 2\naccepted 1\n".as_slice());
+    ended(&rt, &served, 0, "served 2\naccepted 1\n", "");
     takes(&rt, &gates, 0, &[ACCEPTED_FIRST]);
     takes(&rt, &gates, 1, &[ACCEPTED_FIRST]);
     Ok(())
@@ -127,9 +124,7 @@ fn a_gate_that_fails_is_told_once_its_links_were_served(rt: HostRuntime) -> Resu
     let mut gates = Vec::new(alloc);
     gates.push(gate(alloc, &[FIRST, SECOND], 50, &[1])?)?;
     let (served, gates) = serve(&rt, alloc, "1", gates)?;
-    assert_eq!(rt; served.status, 10);
-    assert_eq!(rt; served.out.bytes(), b"".as_slice());
-    assert_eq!(rt; served.err.bytes(), b"gate fault\n".as_slice());
+    ended(&rt, &served, 10, "", "gate fault\n");
     takes(&rt, &gates, 0, &[ACCEPTED_FIRST]);
     Ok(())
 }

@@ -136,6 +136,19 @@ pub struct Outcome {
     pub disk: MemoryDisk,
 }
 
+/// The run ended with this status, and has written this to its output and this to its errors.
+pub fn ended(rt: &impl Abort, run: &Outcome, status: u8, out: &str, err: &str) {
+    assert_eq!(rt; run.status, status);
+    assert_eq!(rt; run.out.bytes(), out.as_bytes());
+    assert_eq!(rt; run.err.bytes(), err.as_bytes());
+}
+
+/// The run ended so, and its disk has these contents.
+pub fn leaves(rt: &impl Abort, run: &Outcome, status: u8, out: &str, err: &str, contents: &[u8]) {
+    ended(rt, run, status, out, err);
+    assert_eq!(rt; run.disk.contents(), contents);
+}
+
 /// A disk with these contents and some room, of which the calls of these numbers fail: a failed write leaves the byte
 /// `torn` where something stood.
 pub fn disk_of(
@@ -248,8 +261,7 @@ fn the_text_is_printed_however_the_book_is_cut_into_pieces(rt: HostRuntime) -> R
         for piece in [1, 2, 7, BOOK.len()] {
             let run = run(&rt, rt.alloc(), words, BOOK, piece, &[], &[])?;
             assert_eq!(rt; run.status, 0, "pieces of {piece}");
-            assert_eq!(rt; run.out.bytes(), text.as_bytes());
-            assert_eq!(rt; run.err.bytes(), b"".as_slice());
+            ended(&rt, &run, 0, text, "");
         }
     }
     Ok(())
@@ -259,28 +271,20 @@ fn the_text_is_printed_however_the_book_is_cut_into_pieces(rt: HostRuntime) -> R
 fn worked_books_have_their_texts(rt: HostRuntime) -> Result<(), Fail> {
     for (book, text) in &WORKED {
         let run = run(&rt, rt.alloc(), &["award", "full"], book, 64, &[], &[])?;
-        assert_eq!(rt; run.status, 0);
-        assert_eq!(rt; run.out.bytes(), text.as_bytes());
+        ended(&rt, &run, 0, text, "");
     }
     Ok(())
 }
 
 #[test]
 fn nobody_gets_an_award_where_nothing_is_recognised(rt: HostRuntime) -> Result<(), Fail> {
-    let alone = run(&rt, rt.alloc(), &["award"], POSITION_ALONE, 7, &[], &[])?;
-    assert_eq!(rt; alone.status, 0);
-    assert_eq!(rt; alone.out.bytes(), b"no awards\n".as_slice());
-    let full = run(
-        &rt,
-        rt.alloc(),
-        &["award", "full"],
-        POSITION_ALONE,
-        7,
-        &[],
-        &[],
-    )?;
-    assert_eq!(rt; full.status, 0);
-    assert_eq!(rt; full.out.bytes(), b"no awards\naward z 0 0.00\n".as_slice());
+    for (words, text) in [
+        (["award"].as_slice(), "no awards\n"),
+        (["award", "full"].as_slice(), "no awards\naward z 0 0.00\n"),
+    ] {
+        let run = run(&rt, rt.alloc(), words, POSITION_ALONE, 7, &[], &[])?;
+        ended(&rt, &run, 0, text, "");
+    }
     Ok(())
 }
 
@@ -292,8 +296,7 @@ fn each_read_that_fails_ends_the_run(rt: HostRuntime) -> Result<(), Fail> {
         for call in 0..reads {
             let run = run(&rt, rt.alloc(), words, BOOK, 1, &[call], &[])?;
             assert_eq!(rt; run.status, 4, "read {call}");
-            assert_eq!(rt; run.out.bytes(), b"".as_slice());
-            assert_eq!(rt; run.err.bytes(), b"read fault\n".as_slice());
+            ended(&rt, &run, 4, "", "read fault\n");
         }
         let run = run(&rt, rt.alloc(), words, BOOK, 1, &[reads], &[])?;
         assert_eq!(rt; run.status, 0);
@@ -305,9 +308,7 @@ fn each_read_that_fails_ends_the_run(rt: HostRuntime) -> Result<(), Fail> {
 fn each_write_that_fails_ends_the_run(rt: HostRuntime) -> Result<(), Fail> {
     for words in [["award"].as_slice(), ["award", "full"].as_slice()] {
         let failed = run(&rt, rt.alloc(), words, BOOK, BOOK.len(), &[], &[0])?;
-        assert_eq!(rt; failed.status, 5);
-        assert_eq!(rt; failed.out.bytes(), b"".as_slice());
-        assert_eq!(rt; failed.err.bytes(), b"write fault\n".as_slice());
+        ended(&rt, &failed, 5, "", "write fault\n");
         let done = run(&rt, rt.alloc(), words, BOOK, BOOK.len(), &[], &[1])?;
         assert_eq!(rt; done.status, 0, "there is one write");
     }
@@ -336,9 +337,7 @@ fn faulty_words_and_books_are_told(rt: HostRuntime) -> Result<(), Fail> {
         ),
     ] {
         let run = run(&rt, rt.alloc(), words, text, 7, &[], &[])?;
-        assert_eq!(rt; run.status, status);
-        assert_eq!(rt; run.out.bytes(), b"".as_slice());
-        assert_eq!(rt; run.err.bytes(), told.as_bytes());
+        ended(&rt, &run, status, "", told);
     }
     Ok(())
 }
@@ -349,10 +348,8 @@ fn a_trial_prints_its_figures(rt: HostRuntime) -> Result<(), Fail> {
     let text = "bids 1\nhigh 5.050\nallotted 100.00\nprice 98.723472\nawarded 27200\n";
     // No read is made.
     let done = run(&rt, rt.alloc(), &words, BOOK, 7, &[0], &[1])?;
-    assert_eq!(rt; done.status, 0);
-    assert_eq!(rt; done.out.bytes(), text.as_bytes());
+    ended(&rt, &done, 0, text, "");
     let failed = run(&rt, rt.alloc(), &words, BOOK, 7, &[], &[0])?;
-    assert_eq!(rt; failed.status, 5);
-    assert_eq!(rt; failed.out.bytes(), b"".as_slice());
+    ended(&rt, &failed, 5, "", "write fault\n");
     Ok(())
 }
