@@ -50,15 +50,16 @@ fn registered() -> Option<Entry>
     })
 }
 
-fn enrolled() -> Option<Entry>
+fn enrolled(number: u64, bidder: &str) -> Option<Entry>
+    requires { (1 ≤ number) × (number ≤ 10 ^ 9) }
     ensures range { IfSome result IsInRange }
 {
     Some(Entry {
         submitter: Ident::read("operator")?,
-        number: 2,
+        number,
         moment: MOMENT,
         message: Message::Enrol {
-            bidder: Ident::read("fund1")?,
+            bidder: Ident::read(bidder)?,
             submitter: Ident::read("dealer1")?,
         },
     })
@@ -128,20 +129,6 @@ fn competitive(number: u64) -> Option<Entry>
             bidder: Ident::read("fund2")?,
             rate: Some(Rate { steps: 1066 }),
             amount: Dollars { value: 300_000_000 },
-        },
-    })
-}
-
-fn second_enrolled() -> Option<Entry>
-    ensures range { IfSome result IsInRange }
-{
-    Some(Entry {
-        submitter: Ident::read("operator")?,
-        number: 4,
-        moment: MOMENT,
-        message: Message::Enrol {
-            bidder: Ident::read("fund2")?,
-            submitter: Ident::read("dealer1")?,
         },
     })
 }
@@ -246,7 +233,7 @@ fn submit(host: &mut Host, entry: Option<Entry>) -> Option<bool>
 fn with_bidder(alloc: Global) -> Option<Host> {
     let mut host = Host::new(alloc).ok()?;
     submit(&mut host, registered())?;
-    submit(&mut host, enrolled())?;
+    submit(&mut host, enrolled(2, "fund1"))?;
     Some(host)
 }
 
@@ -340,7 +327,7 @@ fn a_bid_that_is_taken_back_leaves_its_number_and_its_par(rt: HostRuntime) {
 // A host with the settled auction of a noncompetitive bid and of a competitive one.
 fn with_settled(alloc: Global) -> Option<Host> {
     let mut host = with_bidder(alloc)?;
-    let bids = submit(&mut host, second_enrolled())?
+    let bids = submit(&mut host, enrolled(4, "fund2"))?
         && submit(&mut host, announced())?
         && submit(&mut host, bid(1, 100_000))?
         && submit(&mut host, competitive(2))?;
@@ -355,10 +342,20 @@ fn read(host: &Host, alloc: Global, caller: &str, query: &Query) -> Option<Readi
     host.read(alloc, &Ident::read(caller)?, query).ok()
 }
 
+// When the auction's bills mature.
+fn maturity(host: &Host, alloc: Global, auction: Ident) -> Option<u32> {
+    let reading = read(host, alloc, "dealer1", &Query::Terms(auction))?;
+    match &reading {
+        Reading::Terms(terms) => Some(terms.maturity.number),
+        _ => None,
+    }
+}
+
 // The noncompetitive and the competitive awards, and the stop-out rate with its percentage, in steps of 0.005 and
 // hundredths.
-fn figures(reading: &Reading) -> Option<(u128, u128, u32, u32)> {
-    match reading {
+fn figures(host: &Host, alloc: Global, auction: Ident) -> Option<(u128, u128, u32, u32)> {
+    let reading = read(host, alloc, "dealer1", &Query::Results(auction))?;
+    match &reading {
         Reading::Results(results) => {
             let figures = results.figures?;
             Some((
@@ -373,8 +370,9 @@ fn figures(reading: &Reading) -> Option<(u128, u128, u32, u32)> {
 }
 
 // The two awards with their payments, in dollars and in cents.
-fn awards(reading: &Reading) -> Option<[(u128, u128); 2]> {
-    match reading {
+fn awards(host: &Host, alloc: Global, auction: Ident) -> Option<[(u128, u128); 2]> {
+    let reading = read(host, alloc, "dealer1", &Query::Awards(auction))?;
+    match &reading {
         Reading::Awards(lines) => {
             if lines.count() != 2 {
                 return None;
@@ -388,9 +386,19 @@ fn awards(reading: &Reading) -> Option<[(u128, u128); 2]> {
     }
 }
 
+// How many bids are read.
+fn bid_count(host: &Host, alloc: Global, auction: Ident) -> Option<u64> {
+    let reading = read(host, alloc, "dealer1", &Query::Bids(auction))?;
+    match &reading {
+        Reading::Bids(lines) => Some(lines.count()),
+        _ => None,
+    }
+}
+
 // What is held of the only bill.
-fn held(reading: &Reading) -> Option<u128> {
-    match reading {
+fn held(host: &Host, alloc: Global) -> Option<u128> {
+    let reading = read(host, alloc, "dealer1", &Query::Holdings)?;
+    match &reading {
         Reading::Holdings(lines) => {
             if lines.count() != 1 {
                 return None;
@@ -402,30 +410,15 @@ fn held(reading: &Reading) -> Option<u128> {
 }
 
 // What the only holder was paid.
-fn paid(reading: &Reading) -> Option<u128> {
-    match reading {
+fn paid(host: &Host, alloc: Global) -> Option<u128> {
+    let reading = read(host, alloc, "operator", &Query::Redemption(BILL))?;
+    match &reading {
         Reading::Redemption(lines) => {
             if lines.count() != 1 {
                 return None;
             }
             Some(lines.line(0).paid.value)
         }
-        _ => None,
-    }
-}
-
-// When the auction's bills mature.
-fn maturity(reading: &Reading) -> Option<u32> {
-    match reading {
-        Reading::Terms(terms) => Some(terms.maturity.number),
-        _ => None,
-    }
-}
-
-// How many bids are read.
-fn bid_count(reading: &Reading) -> Option<u64> {
-    match reading {
-        Reading::Bids(lines) => Some(lines.count()),
         _ => None,
     }
 }
@@ -437,26 +430,15 @@ fn an_auction_is_read_from_its_terms_to_its_redemption(rt: HostRuntime) {
     let alloc = rt.alloc();
     let auction = Ident::read("bill13").expect(&rt, "a name");
     let mut host = with_settled(alloc).expect(&rt, "memory");
-    let read_terms = read(&host, alloc, "dealer1", &Query::Terms(auction)).expect(&rt, "terms");
-    assert_eq!(rt; maturity(&read_terms), Some(20_125));
-    let read_results = read(&host, alloc, "dealer1", &Query::Results(auction)).expect(
-        &rt, "results",
-    );
+    assert_eq!(rt; maturity(&host, alloc, auction), Some(20_125));
     assert_eq!(rt;
-        figures(&read_results),
+        figures(&host, alloc, auction),
         Some((10_000_000, 300_000_000, 1066, 10_000))
     );
-    let read_awards = read(&host, alloc, "dealer1", &Query::Awards(auction)).expect(&rt, "awards");
     let awarded = [(10_000_000, 986_526_940), (300_000_000, 29_595_808_200)];
-    assert_eq!(rt; awards(&read_awards), Some(awarded));
-    let read_bids = read(&host, alloc, "dealer1", &Query::Bids(auction)).expect(&rt, "bids");
-    assert_eq!(rt; bid_count(&read_bids), Some(2));
-    let read_holdings = read(&host, alloc, "dealer1", &Query::Holdings).expect(&rt, "holdings");
-    assert_eq!(rt; held(&read_holdings), Some(310_000_000));
+    assert_eq!(rt; awards(&host, alloc, auction), Some(awarded));
+    assert_eq!(rt; bid_count(&host, alloc, auction), Some(2));
+    assert_eq!(rt; held(&host, alloc), Some(310_000_000));
     assert_eq!(rt; submit(&mut host, redeemed()), Some(true));
-    let read_paid = read(&host, alloc, "operator", &Query::Redemption(BILL)).expect(
-        &rt,
-        "redemption",
-    );
-    assert_eq!(rt; paid(&read_paid), Some(310_000_000));
+    assert_eq!(rt; paid(&host, alloc), Some(310_000_000));
 }
