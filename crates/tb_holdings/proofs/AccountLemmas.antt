@@ -1,16 +1,28 @@
 -- Accounts in order: where an account stands, and the list after it was written, taken out or put in.
-use Rattle.std.proofs.Common.{◌≡◌, ℕ, ◌<◌, ◌≤◌, Bool, true, false, not, cond, ◌==◌, List, [], ◌∷◌, ◌++◌, get_or, drop, set, filter, insert, remove, All, AllPairs, ap, ap₂, sym, ◌∙◌, inl, inr, eqb-true, arith}
+use Rattle.std.proofs.Common.{◌≡◌, ℕ, ◌<◌, ◌≤◌, Bool, true, false, not, cond, ◌==◌, List, [], ◌∷◌, ◌++◌, length, get_or, drop, set, filter, insert, remove, All, AllPairs, refl, ap, ap₂, sym, ◌∙◌, inl, inr, eqb-true, true≢false, arith}
 use Rattle.std.specs.List.Sorted.{IsPartitionedBy}
-use Rattle.std.proofs.lemmas.Bool.{and_parts, cases_eq}
+use Rattle.std.proofs.lemmas.Bool.{and_parts, cases_Bool, cases_eq}
 use Rattle.std.proofs.lemmas.Bool.Decides.{nat_tests}
 use Rattle.std.proofs.lemmas.List.{set-get_or, set_split, take-append-drop}
-use Rattle.std.proofs.lemmas.List.Elements.{All-nil, All-cons, All-append, All-filter}
+use Rattle.std.proofs.lemmas.List.Elements.{All-nil, All-cons, All-head, All-tail, All-append, All-filter}
 use Rattle.std.proofs.lemmas.List.Kept.{AllPairs-filter}
-use Rattle.tb_units.proofs.ListLemmas.{AllPairs-put, AllPairs-nil, AllPairs-one}
-use Rattle.tb_units.proofs.PlaceLemmas.{IsRanked, take-place, drop-place_present, drop-place_missing}
+use Rattle.tb_units.specs.Places.{IsPlace}
+use Rattle.tb_units.proofs.ListLemmas.{AllPairs-head, AllPairs-tail, AllPairs-put, AllPairs-nil, AllPairs-one}
+use Rattle.tb_units.proofs.PlaceLemmas.{IsRanked, filter_all, filter_none, take-place, drop-place_present, drop-place_missing}
 use Rattle.tb_units.proofs.SumLemmas.{StandsOnce}
 use Rattle.tb_holdings.specs.declared.account.Account.{Account}
-use Rattle.tb_holdings.specs.Holdings.{is_account, is_of, comes_before, comes_behind, IsEarlier, AreInOrder, HoldSomething, StandsAt, IsMissingAt, account_with, account_of, with_held, without}
+use Rattle.tb_holdings.specs.Holdings.{is_account, is_of, comes_before, comes_behind, IsEarlier, AreInOrder, HoldSomething, account_with, account_of, with_held, without}
+
+-- the holder's account of the security stands at this place
+pub record StandsAt (holder security : ℕ) (accounts : List Account) (place : ℕ) : Type 0 where
+  pub first : IsPlace (comes_before holder security) accounts place
+  pub within : place < length accounts
+  pub same : (d : Account) → is_account holder security (get_or accounts place d) ≡ true
+
+-- the holder has no account of the security, and one would stand at this place
+pub record IsMissingAt (holder security : ℕ) (accounts : List Account) (place : ℕ) : Type 0 where
+  pub first : IsPlace (comes_before holder security) accounts place
+  pub other : (d : Account) → place < length accounts → is_account holder security (get_or accounts place d) ≡ false
 
 -- the order of holder and then security goes on over a third
 comes_before_on : (holder security : ℕ) (one later : Account)
@@ -190,6 +202,44 @@ with_held-keep holder security held accounts place in_order missing none =
     (take-place _ _ accounts place ranked missing.first)
     (account_of-none holder security held none)
     (missing_behind holder security accounts place in_order missing))
+
+-- where each element stands before or behind, those make up the list
+parts_whole : {X : Type 0} (before behind : X → Bool) (xs : List X)
+    → IsRanked before behind xs
+    → All (λ x. before x ≡ false → behind x ≡ true) xs
+    → filter before xs ++ filter behind xs ≡ xs
+parts_whole before behind [] ranked either = refl
+parts_whole {X} before behind (x ∷ xs) ranked either =
+    let P : X → Type 0 = λ y. before y ≡ false → behind y ≡ true in
+    let R : X → X → Type 0 = λ y z. before y ≡ false → behind z ≡ true in
+    elim (cases_Bool (before x)) [
+      | inl is ↦
+          let apart : behind x ≡ false = elim (cases_Bool (behind x)) [
+            | inl at ↦ absurd (true≢false (sym is ∙ ranked.apart x at))
+            | inr isnt ↦ isnt
+          ] in
+          let rest : IsRanked before behind xs =
+          record { apart = ranked.apart; pairs = AllPairs-tail R x xs ranked.pairs } in
+          rw (is, apart) (ap (λ ys. x ∷ ys) (parts_whole before behind xs rest (All-tail P x xs either)))
+      | inr isnt ↦
+          let at : behind x ≡ true = All-head P x xs either isnt in
+          let all : All (λ y. behind y ≡ true) xs = λ k d short. AllPairs-head R x xs ranked.pairs k d short isnt in
+          let none : All (λ y. before y ≡ false) xs = λ k d short. ranked.apart (get_or xs k d) (all k d short) in
+          rw (isnt, at)
+          (ap₂ (λ (ys zs : List X). ys ++ x ∷ zs) (filter_none before xs none) (filter_all behind xs all))
+    ]
+
+-- nor where there is none among the accounts
+pub with_held-none : (holder security held : ℕ) (accounts : List Account)
+    → AreInOrder accounts
+    → All (λ account. is_account holder security account ≡ false) accounts
+    → held ≤ 0
+    → accounts ≡ with_held holder security held accounts
+with_held-none holder security held accounts in_order others none =
+    sym (with_held-parts holder security held accounts _ _ _ refl (account_of-none holder security held none) refl
+    ∙ parts_whole (comes_before holder security) (comes_behind holder security) accounts
+    (IsRanked-accounts holder security accounts in_order)
+    (λ k d short from. other_is_behind holder security (get_or accounts k d) from (others k d short)))
 
 -- what holds of the holder's account of the security holds of what stands at its place
 pub All-account_of : (P : Account → Type 0) (holder security held : ℕ)

@@ -1,13 +1,14 @@
 -- What each holder holds and what all together hold, after each change of the accounts.
-use Rattle.std.proofs.Common.{◌≡◌, ◌≢◌, ℕ, ◌+◌, ◌-◌, ◌≤◌, Bool, true, false, not, cond, ◌&&◌, ◌==◌, if◌then◌else◌, List, ◌++◌, get_or, filter, sum_by, refl, ap, ap₂, sym, ◌∙◌, inl, inr, eqb-true, eq-eqb, ne_eqb, arith}
+use Rattle.std.proofs.Common.{◌≡◌, ◌≢◌, ℕ, ◌+◌, ◌-◌, ◌≤◌, Bool, true, false, not, cond, ◌&&◌, ◌==◌, if◌then◌else◌, List, All, ◌++◌, get_or, filter, sum_by, refl, ap, ap₂, sym, ◌∙◌, inl, inr, eqb-true, eq-eqb, ne_eqb, arith}
 use Rattle.std.proofs.lemmas.Bool.{cases_Bool, cond-true, cond-false, and_parts, and_left, and_from}
 use Rattle.std.proofs.lemmas.Bool.Decides.{nat_tests}
 use Rattle.std.proofs.lemmas.List.Filters.{sum_by-filter_both}
 use Rattle.std.proofs.lemmas.List.Sums.{sum_by-le-sum_by, sum_by-append}
+use Rattle.tb_units.proofs.PlaceLemmas.{filter_none}
 use Rattle.tb_units.proofs.SumLemmas.{sum_by-put, sum_by-filter, sum_by_agree, sum_by_none}
 use Rattle.tb_holdings.specs.declared.account.Account.{Account}
-use Rattle.tb_holdings.specs.Holdings.{is_account, is_of, comes_before, comes_behind, AreInOrder, HoldSomething, IsMissingAt, StandsAt, held_in, total_in, account_of, with_held, credited, moved, without}
-use Rattle.tb_holdings.proofs.AccountLemmas.{StandsOnce-account, with_held-keep, with_held-own}
+use Rattle.tb_holdings.specs.Holdings.{is_account, is_of, comes_before, comes_behind, AreInOrder, HoldSomething, held_in, total_in, account_of, with_held, credited, moved, without}
+use Rattle.tb_holdings.proofs.AccountLemmas.{IsMissingAt, StandsAt, StandsOnce-account, with_held-keep, with_held-own}
 
 -- what the account adds to what this holder holds of the security
 abbrev pub held_share : ℕ → ℕ → Account → ℕ
@@ -158,6 +159,14 @@ held_in-missing holder security accounts place in_order missing =
     ap (held_in holder security) (with_held-keep holder security 0 accounts place in_order missing (omega arith))
     ∙ held_in-with_held holder security 0 holder security accounts
     ∙ grind (arith, nat_tests)
+
+-- nor does one of whom there is none among the accounts
+pub held_in-nothing : (holder security : ℕ) (accounts : List Account)
+    → All (λ account. is_account holder security account ≡ false) accounts
+    → held_in holder security accounts ≡ 0
+held_in-nothing holder security accounts others =
+    ap (λ (xs : List Account). sum_by (λ (account : Account). account.held) xs)
+    (filter_none (is_account holder security) accounts others)
 
 -- what a holder holds among the accounts of one security
 pub held_in-of : (holder security other : ℕ) (accounts : List Account)

@@ -1,9 +1,12 @@
 pub mod PlaceLemmas
 pub mod AccountLemmas
+pub mod AccountKeyLemmas
 pub mod HoldingLemmas
 pub mod HolderLemmas
 pub mod MarkLemmas
+pub mod MarkKeyLemmas
 pub mod LeftLemmas
 pub mod KeptLemmas
 pub mod NextLemmas
+pub mod WalkLemmas
 pub mod RunLemmas

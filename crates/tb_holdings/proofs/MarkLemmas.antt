@@ -1,17 +1,18 @@
 -- Marks in order: which mark is found, what is pledged and how many are open after each change.
-use Rattle.std.proofs.Common.{◌≡◌, ◌≢◌, ℕ, ◌+◌, ◌-◌, ◌<◌, ◌≤◌, true, false, not, cond, ◌&&◌, ◌==◌, nat_lt, if◌then◌else◌, List, [], ◌∷◌, ◌++◌, map, length, suc, get_or, set, take, drop, filter, find, insert, All, sum_by, Option, Some, None, Bool, refl, ap, ap₂, sym, subst, ◌∙◌, inl, inr, append-nil, drop-cons, eqb-true, eq-eqb, ne_eqb, arith}
+use Rattle.std.proofs.Common.{◌≡◌, ◌≢◌, ◌⊎◌, ℕ, ◌+◌, ◌-◌, ◌<◌, ◌≤◌, true, false, not, cond, ◌&&◌, ◌==◌, nat_lt, if◌then◌else◌, List, [], ◌∷◌, ◌++◌, map, length, suc, get_or, set, take, drop, filter, find, insert, All, remove, sum_by, Option, Some, None, Bool, refl, ap, ap₂, sym, subst, ◌∙◌, inl, inr, append-nil, drop-cons, eqb-true, eq-eqb, ne_eqb, arith}
 use Rattle.std.specs.Option.{option_map}
-use Rattle.std.specs.List.Sorted.{IsPartitionPoint, IsPartitionedBy}
 use Rattle.std.proofs.lemmas.Bool.{cases_Bool, cases_eq, cases_lt, and_parts, and_from, cond-false, cond-true}
 use Rattle.std.proofs.lemmas.Bool.Decides.{nat_tests}
 use Rattle.std.proofs.lemmas.Grind.{get_or-set_at}
-use Rattle.std.proofs.lemmas.List.{take_all, drop_all, ext_get_or, get_or-drop, get_or-map, get_or-set_other, get_or-take, get_or_default, length-drop, length-map, length-set, length-take, take-append-drop}
+use Rattle.std.proofs.lemmas.List.{take_all, drop_all, ext_get_or, get_or-drop, get_or-map, get_or-set_other, get_or-take, get_or_default, length-drop, length-map, length-set, length-take, take-append-drop, append_assoc, set-get_or, take_more}
 use Rattle.std.proofs.lemmas.List.Edits.{map_over_more}
 use Rattle.std.proofs.lemmas.List.Elements.{All-nil, All-cons, All-head, All-tail, All-weaker, filter-append}
-use Rattle.std.proofs.lemmas.List.Sums.{sum_by-le-sum_by, sum_by-cons}
+use Rattle.std.proofs.Math.Seq.{get_or-append_seam, take-add}
+use Rattle.std.proofs.lemmas.List.Sums.{sum_by-append, sum_by-le-sum_by, sum_by-cons, sum_by-take-drop}
+use Rattle.tb_blocks.specs.Lists.{IsRun}
 use Rattle.tb_units.specs.Places.{IsPlace}
 use Rattle.tb_units.proofs.ListLemmas.{AllPairs-put, AllPairs-one, AllPairs-head, AllPairs-tail, AllPairs-map}
-use Rattle.tb_units.proofs.PlaceLemmas.{IsRanked, take-place, drop-place_missing, filter_all, filter_none, find_none, find_passes, find-le-sum_by, find-append_none, find-append_some, find-filter_all, find-filter_none}
+use Rattle.tb_units.proofs.PlaceLemmas.{IsRanked, take-place, drop-place_missing, filter_none, find_none, find_passes, find-le-sum_by, find-append_none, find-append_some, find-filter_all, find-filter_none}
 use Rattle.tb_units.proofs.SumLemmas.{StandsOnce, sum_by-put, sum_by-filter, sum_by-map, sum_by_agree, sum_by_none}
 use Rattle.tb_holdings.specs.declared.mark.KeptMark.{KeptMark}
 use Rattle.tb_holdings.specs.Marks.{MarkIsMissingAt, MarkStandsAt, is_mark, is_own, precedes, follows, IsEarlierMark, MarksAreInOrder, has_left, mark_in, pledges_par, pledged_in, is_open_of, open_marks_in, open_marks_beside, with_mark, left_at, with_left, after_release, released, after_redemption, cleared}
@@ -22,13 +23,6 @@ precedes_on : (holder number : ℕ) (one later : KeptMark)
     → follows holder number later ≡ true
     → precedes later.holder later.number one ≡ true
 precedes_on holder number one later before behind = grind (arith, nat_tests)
-
--- a mark before one that stands before a place stands before the place
-precedes_back : (holder number : ℕ) (one later : KeptMark)
-    → IsEarlierMark one later
-    → precedes holder number later ≡ true
-    → precedes holder number one ≡ true
-precedes_back holder number one later earlier before = grind (arith, nat_tests)
 
 -- a mark behind one that doesn't stand before a place stands behind the place
 follows_next : (holder number : ℕ) (one later : KeptMark)
@@ -54,17 +48,6 @@ other_follows holder number mark from other = grind (arith, nat_tests)
 StandsOnce-mark : (holder number : ℕ)
     → StandsOnce (precedes holder number) (is_mark holder number) (follows holder number)
 StandsOnce-mark holder number = λ mark. grind (arith, nat_tests)
-
--- of marks in order, those before a place stand first
-pub IsPartitionedBy-marks : (holder number : ℕ) (marks : List KeptMark)
-    → MarksAreInOrder marks
-    → IsPartitionedBy (precedes holder number) marks
-IsPartitionedBy-marks holder number marks in_order = λ i j d within short before.
-    elim (cases_eq i j) [
-      | inl at ↦ rw at before
-      | inr apart ↦ precedes_back holder number (get_or marks i d) (get_or marks j d)
-          (in_order i j d (omega arith) short) before
-    ]
 
 -- marks in order are ranked by each holder and number
 IsRanked-marks : (holder number : ℕ) (marks : List KeptMark)
@@ -107,6 +90,10 @@ behind_other holder number marks place k d in_order first later short =
     follows_other holder number (get_or marks k d)
     (follows_next holder number (get_or marks place d) (get_or marks k d) (in_order place k d later short)
     (first.stops d (omega (arith, later, short))))
+
+-- a mark is the one of its own name
+pub is_mark-own : (mark : KeptMark) → is_mark mark.holder mark.number mark ≡ true
+is_mark-own mark = and_from _ _ (eq-eqb mark.holder mark.holder refl) (eq-eqb mark.number mark.number refl)
 
 -- none but that at the place is the one of that name
 others_apart : (holder number : ℕ) (marks : List KeptMark) (place k : ℕ) (d : KeptMark)
@@ -227,13 +214,13 @@ released-missing holder number par marks place in_order missing =
 precedes_own : (holder : ℕ) (mark : KeptMark) → precedes holder 0 mark ≡ true → is_own holder mark ≡ false
 precedes_own holder mark before = grind (arith, nat_tests)
 
--- a mark between the first of a holder and another one of it is the holder's
-own_between : (holder : ℕ) (one later : KeptMark)
+-- a mark behind another holder's, from a holder's first on, isn't the holder's
+own_apart : (holder : ℕ) (one later : KeptMark)
     → precedes holder 0 one ≡ false
+    → is_own holder one ≡ false
     → IsEarlierMark one later
-    → is_own holder later ≡ true
-    → is_own holder one ≡ true
-own_between holder one later from earlier own = grind (arith, nat_tests)
+    → is_own holder later ≡ false
+own_apart holder one later from other earlier = grind (arith, nat_tests)
 
 -- from its place on no mark stands before the first of a holder
 own_from : (holder : ℕ) (marks : List KeptMark) (first k : ℕ) (d : KeptMark)
@@ -254,54 +241,38 @@ own_from holder marks first k d in_order place from short =
           (place.stops d (omega (arith, later, short))))
     ]
 
--- so from there on the holder's marks stand first
-pub IsPartitionedBy-own : (holder : ℕ) (marks : List KeptMark) (first : ℕ)
+-- before it none is the holder's
+own-before : (holder : ℕ) (marks : List KeptMark) (first : ℕ)
+    → IsPlace (precedes holder 0) marks first
+    → All (λ mark. is_own holder mark ≡ false) (take first marks)
+own-before holder marks first place =
+    All-weaker _ (λ mark. is_own holder mark ≡ false) (precedes_own holder) (take first marks) place.passed
+
+-- and none from the first of another holder on
+own-behind : (holder : ℕ) (marks : List KeptMark) (first place : ℕ)
     → MarksAreInOrder marks
     → IsPlace (precedes holder 0) marks first
-    → IsPartitionedBy (is_own holder) (drop first marks)
-IsPartitionedBy-own holder marks first in_order place i j d within short own =
-    let long = length-drop first marks in
-    let read_one : get_or (drop first marks) i d ≡ get_or marks (first + i) d = get_or-drop first marks i d in
-    let read_later : get_or (drop first marks) j d ≡ get_or marks (first + j) d = get_or-drop first marks j d in
-    let inside : first + i < length marks = omega (arith, long, within, short) in
-    let later : is_own holder (get_or marks (first + j) d) ≡ true = rw read_later at own in
-    rw read_one (elim (cases_eq i j) [
-      | inl same ↦ rw same later
+    → first ≤ place
+    → ((d : KeptMark) → place < length marks → is_own holder (get_or marks place d) ≡ false)
+    → All (λ mark. is_own holder mark ≡ false) (drop place marks)
+own-behind holder marks first place in_order from later other = λ k d short.
+    let long = length-drop place marks in
+    let read : get_or (drop place marks) k d ≡ get_or marks (place + k) d = get_or-drop place marks k d in
+    let here : place < length marks = omega (arith, long, short) in
+    rw read (elim (cases_eq (place + k) place) [
+      | inl at ↦ rw at (other d here)
       | inr apart ↦
-          own_between holder (get_or marks (first + i) d) (get_or marks (first + j) d)
-          (own_from holder marks first (first + i) d in_order place (omega arith) inside)
-          (in_order (first + i) (first + j) d (omega (arith, within, apart)) (omega (arith, long, short))) later
+          own_apart holder (get_or marks place d) (get_or marks (place + k) d)
+          (own_from holder marks first place d in_order from later here) (other d here)
+          (in_order place (place + k) d (omega (arith, apart)) (omega (arith, long, short)))
     ])
 
--- and are all of its marks
-pub own-together : (holder : ℕ) (marks rest : List KeptMark) (first count : ℕ)
-    → IsPlace (precedes holder 0) marks first
-    → rest ≡ drop first marks
-    → IsPartitionPoint (λ mark. is_own holder mark ≡ true) (λ mark. is_own holder mark ≡ false) rest count
-    → take count rest ≡ filter (is_own holder) marks
-own-together holder marks rest first count place whole point =
-    let own : KeptMark → Bool = is_own holder in
-    let before : filter own (take first marks) ≡ [] =
-    filter_none own (take first marks)
-    (All-weaker _ (λ mark. own mark ≡ false) (precedes_own holder) (take first marks) place.passed) in
-    let inside : filter own (take count rest) ≡ take count rest =
-    filter_all own (take count rest) (λ k d short.
-    let within : k < count = omega (arith, length-take count rest, short) in
-    let read = get_or-take count rest k d within in
-    rw read (point.0 k d (omega arith) within)) in
-    let behind : filter own (drop count rest) ≡ [] =
-    filter_none own (drop count rest) (λ k d short.
-    let read = get_or-drop count rest k d in
-    rw read (point.1 (count + k) d (omega arith) (omega (arith, length-drop count rest, short)))) in
-    let split : marks ≡ take first marks ++ rest =
-    sym (take-append-drop first marks) ∙ ap (λ (ms : List KeptMark). take first marks ++ ms) (sym whole) in
-    sym (ap (filter own) split
-    ∙ (filter-append own (take first marks) rest
-    ∙ (ap (λ (ms : List KeptMark). ms ++ filter own rest) before
-    ∙ (ap (filter own) (sym (take-append-drop count rest))
-    ∙ (filter-append own (take count rest) (drop count rest)
-    ∙ (ap₂ (λ (one other : List KeptMark). one ++ other) inside behind
-    ∙ append-nil (take count rest)))))))
+-- the marks up to the end of a run that begins at the place
+run_on : (marks run : List KeptMark) (place : ℕ)
+    → IsRun place marks run
+    → take (place + length run) marks ≡ take place marks ++ run
+run_on marks run place is =
+    take-add place (length run) marks ∙ ap (λ (ms : List KeptMark). take place marks ++ ms) (sym is.is)
 
 -- a sum over the marks that pass is that over all, where the others count for nothing
 sum_by-part : (test : KeptMark → Bool) (f : KeptMark → ℕ) (marks : List KeptMark)
@@ -366,7 +337,7 @@ abbrev pub open_share : ℕ → KeptMark → ℕ
 open_share holder mark = cond (is_open_of holder mark) 1 0
 
 -- what is pledged stands among the holder's marks
-pub pledged_in-own : (holder security : ℕ) (marks : List KeptMark)
+pledged_in-own : (holder security : ℕ) (marks : List KeptMark)
     → pledged_in holder security (filter (is_own holder) marks) ≡ pledged_in holder security marks
 pledged_in-own holder security marks =
     pledged_in-shares holder security (filter (is_own holder) marks)
@@ -375,11 +346,98 @@ pledged_in-own holder security marks =
     ∙ sym (pledged_in-shares holder security marks))
 
 -- and so does what is open
-pub open_marks_in-own : (holder : ℕ) (marks : List KeptMark)
+open_marks_in-own : (holder : ℕ) (marks : List KeptMark)
     → open_marks_in holder (filter (is_own holder) marks) ≡ open_marks_in holder marks
 open_marks_in-own holder marks =
     sum_by-part (is_own holder) (open_share holder) marks
     (λ mark other. ap (λ b. cond (b && nat_lt 0 mark.left) 1 0) other)
+
+-- what is pledged in a list and a second one behind it
+pledged_in-append : (holder security : ℕ) (front back : List KeptMark)
+    → pledged_in holder security (front ++ back) ≡ pledged_in holder security front + pledged_in holder security back
+pledged_in-append holder security front back =
+    ap (sum_by (λ (mark : KeptMark). mark.left)) (filter-append (pledges_par holder security) front back)
+    ∙ sum_by-append (λ mark. mark.left) (filter (pledges_par holder security) front)
+    (filter (pledges_par holder security) back)
+
+-- nothing of the holder's is pledged by others' marks
+pledged_in-others : (holder security : ℕ) (marks : List KeptMark)
+    → All (λ mark. is_own holder mark ≡ false) marks
+    → pledged_in holder security marks ≡ 0
+pledged_in-others holder security marks others =
+    sym (pledged_in-own holder security marks)
+    ∙ ap (pledged_in holder security) (filter_none (is_own holder) marks others)
+
+-- nor is one of them open for it
+open_marks_in-others : (holder : ℕ) (marks : List KeptMark)
+    → All (λ mark. is_own holder mark ≡ false) marks
+    → open_marks_in holder marks ≡ 0
+open_marks_in-others holder marks others =
+    sym (open_marks_in-own holder marks) ∙ ap (open_marks_in holder) (filter_none (is_own holder) marks others)
+
+-- before the holder's first mark it has pledged nothing
+pub pledged_in-first : (holder security : ℕ) (marks : List KeptMark) (first : ℕ)
+    → IsPlace (precedes holder 0) marks first
+    → pledged_in holder security (take first marks) ≡ 0
+pledged_in-first holder security marks first place =
+    pledged_in-others holder security (take first marks) (own-before holder marks first place)
+
+-- and has no open mark
+pub open_marks_in-first : (holder : ℕ) (marks : List KeptMark) (first : ℕ)
+    → IsPlace (precedes holder 0) marks first
+    → open_marks_in holder (take first marks) ≡ 0
+open_marks_in-first holder marks first place =
+    open_marks_in-others holder (take first marks) (own-before holder marks first place)
+
+-- what is pledged up to the end of a run that begins at the place
+pub pledged_in-run : (holder security : ℕ) (marks run : List KeptMark) (place : ℕ)
+    → IsRun place marks run
+    → pledged_in holder security (take (place + length run) marks)
+    ≡ pledged_in holder security (take place marks) + pledged_in holder security run
+pledged_in-run holder security marks run place is =
+    ap (pledged_in holder security) (run_on marks run place is)
+    ∙ pledged_in-append holder security (take place marks) run
+
+-- how many are open up to there
+pub open_marks_in-run : (holder : ℕ) (marks run : List KeptMark) (place : ℕ)
+    → IsRun place marks run
+    → open_marks_in holder (take (place + length run) marks)
+    ≡ open_marks_in holder (take place marks) + open_marks_in holder run
+open_marks_in-run holder marks run place is =
+    ap (open_marks_in holder) (run_on marks run place is)
+    ∙ sum_by-append (open_share holder) (take place marks) run
+
+-- what is pledged before a place and from it on
+pub pledged_in-part : (holder security : ℕ) (marks : List KeptMark) (place : ℕ)
+    → pledged_in holder security (take place marks) + pledged_in holder security (drop place marks)
+    ≡ pledged_in holder security marks
+pledged_in-part holder security marks place =
+    sym (pledged_in-append holder security (take place marks) (drop place marks))
+    ∙ ap (pledged_in holder security) (take-append-drop place marks)
+
+-- before the first mark of another holder stands all that the holder pledged
+pub pledged_in-all : (holder security : ℕ) (marks : List KeptMark) (first place : ℕ)
+    → MarksAreInOrder marks
+    → IsPlace (precedes holder 0) marks first
+    → first ≤ place
+    → ((d : KeptMark) → place < length marks → is_own holder (get_or marks place d) ≡ false)
+    → pledged_in holder security (take place marks) ≡ pledged_in holder security marks
+pledged_in-all holder security marks first place in_order from later other =
+    let none = pledged_in-others holder security (drop place marks)
+    (own-behind holder marks first place in_order from later other) in
+    omega (arith, none, pledged_in-part holder security marks place)
+
+-- and all its open marks
+pub open_marks_in-all : (holder : ℕ) (marks : List KeptMark) (first place : ℕ)
+    → MarksAreInOrder marks
+    → IsPlace (precedes holder 0) marks first
+    → first ≤ place
+    → ((d : KeptMark) → place < length marks → is_own holder (get_or marks place d) ≡ false)
+    → open_marks_in holder (take place marks) ≡ open_marks_in holder marks
+open_marks_in-all holder marks first place in_order from later other =
+    let none = open_marks_in-others holder (drop place marks)
+    (own-behind holder marks first place in_order from later other) in
+    omega (arith, none, sum_by-take-drop (open_share holder) marks place)
 
 -- what is pledged stands among the marks of which something is left
 pub pledged_in-left : (holder security : ℕ) (marks live : List KeptMark)
@@ -483,6 +541,17 @@ with_left-more left_of marks written i left d short long so_far is =
     ap (λ n. set written i (record mark { left = n })) (sym is)
     ∙ map_over_more (left_at left_of) marks written i mark short so_far (get_or_default written i d mark (omega arith))
 
+-- or leaves a mark of which so much is left already
+pub with_left-kept : (left_of : KeptMark → ℕ) (marks written : List KeptMark) (i : ℕ) (d : KeptMark)
+    → i < length marks
+    → length written ≡ length marks
+    → written ≡ map (left_at left_of) (take i marks) ++ drop i marks
+    → left_of (get_or written i d) ≡ (get_or written i d).left
+    → written ≡ map (left_at left_of) (take (i + 1) marks) ++ drop (i + 1) marks
+with_left-kept left_of marks written i d short long so_far is =
+    sym (set-get_or written i d)
+    ∙ with_left-more left_of marks written i (get_or written i d).left d short long so_far is
+
 -- and at its end
 pub with_left-all : (left_of : KeptMark → ℕ) (marks : List KeptMark) (i : ℕ)
     → length marks ≤ i
@@ -504,6 +573,48 @@ cleared_less security mark =
       | true ↦ omega arith
       | false ↦ omega arith
     ]
+
+-- of a mark of which nothing was left, or of another security, so much is left as was
+pub cleared_same : (security : ℕ) (mark : KeptMark)
+    → ((mark.security ≡ security) × (mark.left ≤ 0)) ⊎ (mark.security ≢ security)
+    → after_redemption security mark ≡ mark.left
+cleared_same security mark (inl none) =
+    cond-true (mark.security == security) 0 mark.left (eq-eqb mark.security security none.0) ∙ omega (arith, none.1)
+cleared_same security mark (inr other) =
+    cond-false (mark.security == security) 0 mark.left (ne_eqb mark.security security other)
+
+-- the element behind a list's first part is taken out
+remove-behind : (front back : List KeptMark) (mark : KeptMark)
+    → remove (front ++ mark ∷ back) (length front) ≡ front ++ back
+remove-behind [] back mark = refl
+remove-behind (first ∷ front) back mark =
+    ap (λ (ms : List KeptMark). first ∷ ms) (remove-behind front back mark)
+
+-- a walk from the end takes out the marks that fail the test, and the next one fails
+pub taken-out : (test : KeptMark → Bool) (marks walked : List KeptMark) (place : ℕ) (d : KeptMark)
+    → place < length marks
+    → walked ≡ take (place + 1) marks ++ filter test (drop (place + 1) marks)
+    → test (get_or walked place d) ≡ false
+    → remove walked place ≡ take place marks ++ filter test (drop place marks)
+taken-out test marks walked place d short so_far fails =
+    let mark : KeptMark = get_or marks place d in
+    let front : List KeptMark = take place marks in
+    let back : List KeptMark = filter test (drop (place + 1) marks) in
+    let long : length front ≡ place = omega (arith, length-take place marks, short) in
+    let next : suc place ≡ place + 1 = omega arith in
+    let split : walked ≡ front ++ mark ∷ back =
+    so_far
+    ∙ (ap (λ (ms : List KeptMark). ms ++ back) (take_more marks place d short)
+    ∙ append_assoc front (mark ∷ []) back) in
+    let read : get_or walked place d ≡ mark =
+    ap (λ (ms : List KeptMark). get_or ms place d) split
+    ∙ (ap (λ (n : ℕ). get_or (front ++ mark ∷ back) n d) (sym long) ∙ get_or-append_seam front mark back d) in
+    ap (λ (ms : List KeptMark). remove ms place) split
+    ∙ (ap (remove (front ++ mark ∷ back)) (sym long)
+    ∙ (remove-behind front back mark
+    ∙ ap (λ (ms : List KeptMark). front ++ ms)
+    (sym (ap (filter test) (drop-cons marks place d short ∙ ap (λ (n : ℕ). mark ∷ drop n marks) next)
+    ∙ cond-false (test mark) (mark ∷ back) back (ap test (sym read) ∙ fails)))))
 
 -- nothing is left of the marks of a redeemed security
 pub pledged_in-cleared : (holder security : ℕ) (marks : List KeptMark)
@@ -653,11 +764,9 @@ unfolding with_mark
 mark_in-with_mark_same mark marks =
     let named : KeptMark → Bool = is_mark mark.holder mark.number in
     let back : List KeptMark = filter (follows mark.holder mark.number) marks in
-    let own : named mark ≡ true =
-    and_from _ _ (eq-eqb mark.holder mark.holder refl) (eq-eqb mark.number mark.number refl) in
     find-append_none named (filter (precedes mark.holder mark.number) marks) (mark ∷ back)
     (find-filter_none named (precedes mark.holder mark.number) (λ one is. grind (arith, nat_tests, is)) marks)
-    ∙ cond-true (named mark) (Some mark) (find named back) own
+    ∙ cond-true (named mark) (Some mark) (find named back) (is_mark-own mark)
 
 -- and each other mark as before
 pub mark_in-with_mark_other : (mark : KeptMark) (marks : List KeptMark) (holder number : ℕ)

@@ -1,12 +1,13 @@
 -- The next account of a holder: what it holds nothing of before it.
-use Rattle.std.proofs.Common.{◌≡◌, ℕ, ◌<◌, ◌≤◌, true, false, List, length, get_or, take, sum_by, All, ap, subst, inl, inr, arith}
+use Rattle.std.proofs.Common.{◌≡◌, ℕ, ◌<◌, ◌≤◌, true, false, List, length, get_or, All, subst, inl, inr, arith}
 use Rattle.std.proofs.lemmas.Bool.{cases_eq, cases_lt}
 use Rattle.std.proofs.lemmas.Bool.Decides.{nat_tests}
-use Rattle.std.proofs.lemmas.List.{get_or-take, length-take}
+use Rattle.std.proofs.lemmas.List.{get_or-take, get_or_default, length-take}
 use Rattle.tb_units.specs.Places.{IsPlace}
-use Rattle.tb_units.proofs.PlaceLemmas.{filter_none}
 use Rattle.tb_holdings.specs.declared.account.Account.{Account}
-use Rattle.tb_holdings.specs.Holdings.{is_account, comes_before, comes_behind, IsEarlier, AreInOrder, StandsAt, held_in}
+use Rattle.tb_holdings.specs.Holdings.{is_account, comes_before, comes_behind, IsEarlier, AreInOrder, HoldSomething, held_in}
+use Rattle.tb_holdings.proofs.AccountKeyLemmas.{StandsAt-account}
+use Rattle.tb_holdings.proofs.HoldingLemmas.{held_in-nothing, held_in-stands}
 
 -- what stands before a security is of none from that on
 before_apart : (holder first security : ℕ) (account : Account)
@@ -28,13 +29,6 @@ behind_apart_on : (holder security : ℕ) (one later : Account)
     → is_account holder security later ≡ false
 behind_apart_on holder security one later earlier behind = grind (arith, nat_tests)
 
--- what stands before a security stands before those from that on
-before_later : (holder first security : ℕ) (account : Account)
-    → first ≤ security
-    → comes_before holder first account ≡ true
-    → comes_before holder security account ≡ true
-before_later holder first security account from before = grind (arith, nat_tests)
-
 -- an account of the holder isn't before the securities up to its own
 from_own : (holder first : ℕ) (account : Account)
     → account.holder ≡ holder
@@ -50,7 +44,7 @@ own_behind : (holder security : ℕ) (account : Account)
 own_behind holder security account own less = grind (arith, nat_tests)
 
 -- an account of another that isn't before a security of the holder is behind all of them
-pub others_behind : (holder first security : ℕ) (account : Account)
+others_behind : (holder first security : ℕ) (account : Account)
     → comes_before holder first account ≡ false
     → (account.holder ≡ holder → ⊥)
     → comes_behind holder security account ≡ true
@@ -61,12 +55,6 @@ own_is : (holder : ℕ) (account : Account)
     → account.holder ≡ holder
     → is_account holder account.security account ≡ true
 own_is holder account own = grind (arith, nat_tests)
-
--- and isn't before itself
-own_not_before : (holder : ℕ) (account : Account)
-    → account.holder ≡ holder
-    → comes_before holder account.security account ≡ false
-own_not_before holder account own = grind (arith, nat_tests)
 
 -- where what stands at the place is behind a security the holder has no account of it
 none_before : (holder first security : ℕ) (accounts : List Account) (place : ℕ)
@@ -101,49 +89,58 @@ pub held_in-none : (holder first security : ℕ) (accounts : List Account) (plac
     → ((d : Account) → place < length accounts → comes_behind holder security (get_or accounts place d) ≡ true)
     → held_in holder security accounts ≡ 0
 held_in-none holder first security accounts place in_order at from behind =
-    ap (λ (xs : List Account). sum_by (λ (account : Account). account.held) xs)
-    (filter_none (is_account holder security) accounts
-    (none_before holder first security accounts place in_order at from behind))
+    held_in-nothing holder security accounts
+    (none_before holder first security accounts place in_order at from behind)
 
 -- nor of the securities before that of its account at the place
-pub held_in-between : (holder first security : ℕ) (accounts : List Account) (place : ℕ) (none : Account)
+pub held_in-between : (holder first security : ℕ) (accounts : List Account) (place : ℕ) (account : Account)
     → AreInOrder accounts
     → IsPlace (comes_before holder first) accounts place
-    → ((d : Account) → place < length accounts → get_or accounts place d ≡ get_or accounts place none)
-    → (get_or accounts place none).holder ≡ holder
+    → account ≡ get_or accounts place account
+    → account.holder ≡ holder
     → first ≤ security
-    → security < (get_or accounts place none).security
+    → security < account.security
     → held_in holder security accounts ≡ 0
-held_in-between holder first security accounts place none in_order at same own from less =
+held_in-between holder first security accounts place account in_order at is own from less =
     held_in-none holder first security accounts place in_order at from
-    (λ d within. rw (same d within) (own_behind holder security (get_or accounts place none) own less))
+    (λ d within. rw (get_or_default accounts place d account within, ← is) (own_behind holder security account own less))
+
+-- nor of any from that on where another's account is at the place
+pub held_in-past : (holder first security : ℕ) (accounts : List Account) (place : ℕ) (account : Account)
+    → AreInOrder accounts
+    → IsPlace (comes_before holder first) accounts place
+    → account ≡ get_or accounts place account
+    → (account.holder ≡ holder → ⊥)
+    → first ≤ security
+    → held_in holder security accounts ≡ 0
+held_in-past holder first security accounts place account in_order at is other from =
+    held_in-none holder first security accounts place in_order at from
+    (λ d within. rw (get_or_default accounts place d account within, ← is)
+    (others_behind holder first security account (rw (← is) at (at.stops account within)) other))
 
 -- an account of the holder at the place is of no lesser security
-pub own_from : (holder first : ℕ) (accounts : List Account) (place : ℕ) (none : Account)
+pub own_from : (holder first : ℕ) (accounts : List Account) (place : ℕ) (account : Account)
     → IsPlace (comes_before holder first) accounts place
     → place < length accounts
-    → (get_or accounts place none).holder ≡ holder
-    → first ≤ (get_or accounts place none).security
-own_from holder first accounts place none at within own =
-    from_own holder first (get_or accounts place none) own (at.stops none within)
+    → account ≡ get_or accounts place account
+    → account.holder ≡ holder
+    → first ≤ account.security
+own_from holder first accounts place account at within is own =
+    from_own holder first account own (rw (← is) at (at.stops account within))
 
--- its account stands at the place
-pub StandsAt-own : (holder first : ℕ) (accounts : List Account) (place : ℕ) (none : Account)
-    → IsPlace (comes_before holder first) accounts place
+-- and the holder holds something of it
+pub held_in-own_some : (holder : ℕ) (accounts : List Account) (place : ℕ) (account : Account)
+    → AreInOrder accounts
+    → HoldSomething accounts
     → place < length accounts
-    → ((d : Account) → place < length accounts → get_or accounts place d ≡ get_or accounts place none)
-    → (get_or accounts place none).holder ≡ holder
-    → StandsAt holder (get_or accounts place none).security accounts place
-StandsAt-own holder first accounts place none at within same own =
-    let account : Account = get_or accounts place none in
-    let from = own_from holder first accounts place none at within own in
-    record {
-      first = record {
-        within = at.within;
-        passed = λ k d short. before_later holder first account.security (get_or (take place accounts) k d) from
-            (at.passed k d short);
-        stops = λ d short. rw (same d short) (own_not_before holder account own);
-      };
-      within = within;
-      same = λ d. rw (same d within) (own_is holder account own);
-    }
+    → account ≡ get_or accounts place account
+    → account.holder ≡ holder
+    → 0 < held_in holder account.security accounts
+held_in-own_some holder accounts place account in_order used within is own =
+    let stands = StandsAt-account holder account.security accounts place in_order within
+    (λ d. rw (get_or_default accounts place d account within, ← is) (own_is holder account own)) in
+    omega (
+      arith,
+      held_in-stands holder account.security accounts place account in_order used stands,
+      used place account within,
+    )

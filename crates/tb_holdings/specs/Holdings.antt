@@ -1,7 +1,6 @@
 -- Accounts: what each holder holds of each security, in order of holder and then security.
-use Rattle.std.specs.Prelude.{◌≡◌, ◌≢◌, ℕ, ◌+◌, ◌-◌, ◌<◌, Bool, true, false, not, ◌&&◌, ◌||◌, ◌==◌, nat_lt, List, [], ◌∷◌, ◌++◌, filter, length, slice_index_or, sum_by, All, AllPairs, Contains, if◌then◌else◌}
+use Rattle.std.specs.Prelude.{◌≡◌, ◌≢◌, ℕ, ◌+◌, ◌-◌, ◌<◌, Bool, true, not, ◌&&◌, ◌||◌, ◌==◌, nat_lt, List, [], ◌∷◌, ◌++◌, filter, sum_by, All, AllPairs, Contains, if◌then◌else◌}
 use Rattle.tb_holdings.specs.declared.account.Account.{Account}
-use Rattle.tb_units.specs.Places.{IsPlace}
 
 -- the account is this holder's, of this security
 abbrev pub is_account : ℕ → ℕ → Account → Bool
@@ -73,14 +72,3 @@ moved from to security par accounts =
 -- the accounts of the other securities
 abbrev pub without : ℕ → List Account → List Account
 without security accounts = filter (λ account. not (is_of security account)) accounts
-
--- the holder's account of the security stands at this place
-pub record StandsAt (holder security : ℕ) (accounts : List Account) (place : ℕ) : Type 0 where
-  pub first : IsPlace (comes_before holder security) accounts place
-  pub within : place < length accounts
-  pub same : (d : Account) → is_account holder security (slice_index_or accounts place d) ≡ true
-
--- the holder has no account of the security, and one would stand at this place
-pub record IsMissingAt (holder security : ℕ) (accounts : List Account) (place : ℕ) : Type 0 where
-  pub first : IsPlace (comes_before holder security) accounts place
-  pub other : (d : Account) → place < length accounts → is_account holder security (slice_index_or accounts place d) ≡ false

@@ -1,5 +1,5 @@
 //! The book of accounts.
-ghost use Rattle.std.specs.Prelude.{ℕ, List, sum_by, ◌≡◌, ◌≢◌, ◌+◌, ◌-◌, ◌<◌, ◌≤◌, ◌++◌, ◌∷◌, [], ◌↔◌, None, Some, filter, Contains, OnOk, OnErr, IfOk, IfErr, IfSome, IsOk, IsErr, IsNone, vec_len, vec_capacity};
+ghost use Rattle.std.specs.Prelude.{ℕ, List, sum_by, ◌≡◌, ◌≢◌, ◌+◌, ◌-◌, ◌<◌, ◌≤◌, ◌++◌, ◌∷◌, [], ◌↔◌, None, Some, filter, length, Contains, OnOk, OnErr, IfOk, IfErr, IfSome, IsOk, IsErr, IsNone, vec_len, vec_capacity};
 ghost use Rattle.std.specs.Option.{option_map};
 ghost use Rattle.tb_holdings.specs.Holdings.{AreHolders, is_of, credited, moved, without};
 ghost use Rattle.tb_holdings.specs.Marks.{new_mark, left_at, with_mark, released, cleared, open_marks_beside};
@@ -15,6 +15,7 @@ use crate::refusals::{InsufficientFree, PledgeRefused, ReleaseRefused};
 use crate::runs::{Run, paid_to, pay_off};
 use std::alloc::Global;
 use std::marker::Model;
+use tb_blocks::Ordered;
 use tb_units::{Dollars, OutOfMemory};
 
 /// The accounts, the marks on them, and what was paid. Contracts see these lists and the room for more.
@@ -22,7 +23,7 @@ use tb_units::{Dollars, OutOfMemory};
 /// Pledged par stays in the holder's total and can't be transferred, and only the pledgee releases it (our choice).
 #[derive(Drop)]
 pub struct Accounts {
-    accounts: Vec<Account>,
+    accounts: Ordered<Account>,
     marks: Marks,
     redeemed: Vec<u32>,
     paid: Vec<Account>,
@@ -31,7 +32,7 @@ pub struct Accounts {
 }
 
 impl Model for Accounts {
-    ghost use Rattle.std.specs.Prelude.{◌+◌, ◌-◌, ◌≤◌, min, vec_len, vec_capacity};
+    ghost use Rattle.std.specs.Prelude.{◌+◌, ◌-◌, ◌≤◌, length, min, vec_len, vec_capacity};
     ghost use Rattle.tb_holdings.specs.Book.{Book, AreKept};
     ghost use Rattle.tb_holdings.specs.Runs.{AreRuns, AreRunsOf};
 
@@ -39,18 +40,18 @@ impl Model for Accounts {
 
     // An account has room if it also has room among those that are paid.
     ghost view = { λ a. record {
-      accounts = a.accounts.items;
+      accounts = a.accounts.elements;
       marks = a.marks.list;
       redeemed = a.redeemed.items;
       paid = a.paid.items;
-      spare_accounts = min (vec_capacity a.accounts - vec_len a.accounts)
-          (vec_capacity a.paid - (vec_len a.accounts + vec_len a.paid));
+      spare_accounts = min a.accounts.spare
+          (vec_capacity a.paid - (length a.accounts.elements + vec_len a.paid));
       spare_marks = a.marks.spare;
       spare_redeems = min (vec_capacity a.redeemed - vec_len a.redeemed) (vec_capacity a.runs - vec_len a.runs);
     } };
 
-    ghost invariant = { λ a. AreKept a.accounts.items a.marks.list a.redeemed.items a.paid.items
-        × (vec_len a.accounts + vec_len a.paid ≤ vec_capacity a.paid)
+    ghost invariant = { λ a. AreKept a.accounts.elements a.marks.list a.redeemed.items a.paid.items
+        × (length a.accounts.elements + vec_len a.paid ≤ vec_capacity a.paid)
         × AreRuns a.paid.items a.runs.items
         × AreRunsOf a.redeemed.items a.runs.items };
 }
@@ -66,7 +67,7 @@ impl Accounts {
         ensures redeemed { (result.redeemed ≡ []) × (result.paid ≡ []) }
     {
         Accounts {
-            accounts: Vec::new(alloc),
+            accounts: Ordered::new(alloc),
             marks: Marks::new(alloc),
             redeemed: Vec::new(alloc),
             paid: Vec::new(alloc),
@@ -334,15 +335,15 @@ impl Accounts {
 
 // Room for more accounts, each of which may be paid one day.
 fn reserve_accounts(
-    accounts: &mut Vec<Account>,
+    accounts: &mut Ordered<Account>,
     paid: &mut Vec<Account>,
     more: usize,
 ) -> Result<(), OutOfMemory>
-    ensures accounts { (accounts.new.items ≡ accounts.old.items) × (vec_len accounts.new ≡ vec_len accounts.old) }
+    ensures accounts { accounts.new.elements ≡ accounts.old.elements }
     ensures paid { (paid.new.items ≡ paid.old.items) × (vec_len paid.new ≡ vec_len paid.old) }
-    ensures room { OnOk result (vec_len accounts.new + more ≤ vec_capacity accounts.new) }
-    ensures paid_room { OnOk result (vec_len accounts.new + vec_len paid.new + more ≤ vec_capacity paid.new) }
-    ensures capacity { (vec_capacity accounts.old ≤ vec_capacity accounts.new) × (vec_capacity paid.old ≤ vec_capacity paid.new) }
+    ensures room { OnOk result (more ≤ accounts.new.spare) }
+    ensures paid_room { OnOk result (length accounts.new.elements + vec_len paid.new + more ≤ vec_capacity paid.new) }
+    ensures capacity { (accounts.old.spare ≤ accounts.new.spare) × (vec_capacity paid.old ≤ vec_capacity paid.new) }
 {
     let open = accounts.len();
     accounts.reserve(more)?;

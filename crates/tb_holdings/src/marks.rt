@@ -8,6 +8,7 @@ use crate::mark::{
 };
 use std::alloc::Global;
 use std::marker::Model;
+use tb_blocks::Ordered;
 use tb_units::OutOfMemory;
 
 /// The marks, in order of holder and number. Contracts see their list, and how many adds are sure.
@@ -15,24 +16,24 @@ use tb_units::OutOfMemory;
 /// What a holder pledged is added up over its open marks alone, which its quota keeps few.
 #[derive(Drop)]
 pub struct Marks {
-    all: Vec<KeptMark>,
+    all: Ordered<KeptMark>,
     // Those of which something is left.
-    live: Vec<KeptMark>,
+    live: Ordered<KeptMark>,
 }
 
 impl Model for Marks {
-    ghost use Rattle.std.specs.Prelude.{◌≡◌, ◌-◌, min, filter, vec_len, vec_capacity};
+    ghost use Rattle.std.specs.Prelude.{◌≡◌, min, filter};
     ghost use Rattle.tb_holdings.specs.Marks.{MarkList, MarksAreInOrder, has_left};
 
     ghost Value = { MarkList };
 
     ghost view = { λ marks. record {
-      list = marks.all.items;
-      spare = min (vec_capacity marks.all - vec_len marks.all) (vec_capacity marks.live - vec_len marks.live);
+      list = marks.all.elements;
+      spare = min marks.all.spare marks.live.spare;
     } };
 
-    ghost invariant = { λ marks. MarksAreInOrder marks.all.items
-        × (marks.live.items ≡ filter has_left marks.all.items) };
+    ghost invariant = { λ marks. MarksAreInOrder marks.all.elements
+        × (marks.live.elements ≡ filter has_left marks.all.elements) };
 }
 
 impl Marks {
@@ -42,8 +43,8 @@ impl Marks {
         ensures spare { result.spare ≡ 0 }
     {
         Marks {
-            all: Vec::new(alloc),
-            live: Vec::new(alloc),
+            all: Ordered::new(alloc),
+            live: Ordered::new(alloc),
         }
     }
 

@@ -4,7 +4,8 @@ ghost use Rattle.tb_holdings.specs.Holdings.{AreInOrder, HoldSomething, held_in,
 ghost use Rattle.tb_holdings.specs.Runs.{AreRuns, AreRunsOf, HaveNoRun, RunsAreInOrder, stands_before};
 ghost use Rattle.tb_units.specs.Places.{HasOneMore, IsPlace};
 
-use crate::account::{Account, held_by, pay_accounts};
+use crate::account::{Account, held_among, pay_accounts};
+use tb_blocks::Ordered;
 
 /// Where the payments of one security stand among all payments: so many, from this place on.
 #[derive(Clone, Copy, Debug, PartialEq, Eq)]
@@ -69,21 +70,26 @@ pub fn paid_to(paid: &[Account], runs: &[Run], holder: u32, security: u32) -> u1
     match find_run(runs, security) {
         Some(run) => {
             let rest = &paid[run.first..];
-            held_by(&rest[..run.count], holder, security)
+            held_among(&rest[..run.count], holder, security)
         }
         None => 0,
     }
 }
 
 /// Puts the accounts of the security behind those that were paid, and notes where they stand.
-pub fn pay_off(accounts: &[Account], security: u32, paid: &mut Vec<Account>, runs: &mut Vec<Run>)
-    requires in_order { AreInOrder accounts.now }
-    requires none_empty { HoldSomething accounts.now }
+pub fn pay_off(
+    accounts: &Ordered<Account>,
+    security: u32,
+    paid: &mut Vec<Account>,
+    runs: &mut Vec<Run>,
+)
+    requires in_order { AreInOrder accounts.now.elements }
+    requires none_empty { HoldSomething accounts.now.elements }
     requires runs { AreRuns paid.old.items runs.old.items }
     requires new { HaveNoRun security runs.old.items }
-    requires room { length accounts.now + vec_len paid.old ≤ vec_capacity paid.old }
+    requires room { length accounts.now.elements + vec_len paid.old ≤ vec_capacity paid.old }
     requires run_room { vec_len runs.old < vec_capacity runs.old }
-    ensures paid { paid.new.items ≡ paid.old.items ++ filter (is_of security) accounts.now }
+    ensures paid { paid.new.items ≡ paid.old.items ++ filter (is_of security) accounts.now.elements }
     ensures runs { AreRuns paid.new.items runs.new.items }
     ensures runs_of { (redeemed : List ℕ) → AreRunsOf redeemed runs.old.items
         → AreRunsOf (redeemed ++ security ∷ []) runs.new.items }

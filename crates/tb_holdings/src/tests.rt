@@ -1,8 +1,10 @@
 //! Stories of accounts, with figures worked out by hand, and the order of the causes of a refusal.
-ghost use Rattle.std.specs.Prelude.{◌≡◌, ◌≤◌, ◌^◌};
+ghost use Rattle.std.specs.Prelude.{◌≡◌, ◌≢◌, ◌≤◌, ◌^◌, [], IfOk};
 ghost use Rattle.tb_holdings.specs.Book.{IsRedeemed, most_held, most_open};
 
 use super::*;
+use std::alloc::Global;
+use std::process::Abort;
 use std::test::Fail;
 use tb_units::{Dollars, OutOfMemory};
 
@@ -127,6 +129,83 @@ fn a_holder_has_at_most_a_thousand_open_marks(rt: HostRuntime) -> Result<(), Fai
     Ok(())
 }
 
+// Three holders, each of 20,000 dollars of security 7 and of security 8.
+fn three_holders(alloc: Global) -> Result<Accounts, OutOfMemory>
+    ensures { IfOk result (λ book. book.redeemed ≡ []) }
+{
+    let mut book = Accounts::new(alloc);
+    book.reserve(6, 0, 0)?;
+    book.credit(1, 7, dollars(20_000));
+    book.credit(2, 7, dollars(20_000));
+    book.credit(3, 7, dollars(20_000));
+    book.credit(1, 8, dollars(20_000));
+    book.credit(2, 8, dollars(20_000));
+    book.credit(3, 8, dollars(20_000));
+    Ok(book)
+}
+
+// Pledges 100 dollars of the holder's par of the security to holder 9 under this number, if it is new.
+fn pledge_to_nine(
+    book: &mut Accounts,
+    holder: u32,
+    number: u64,
+    security: u32,
+) -> Result<Option<Result<(), PledgeRefused>>, OutOfMemory>
+    requires apart { holder ≢ 9 }
+    requires live { ¬ (IsRedeemed security book.old) }
+    ensures { book.new.redeemed ≡ book.old.redeemed }
+{
+    book.reserve(0, 1, 0)?;
+    if book.mark(holder, number).is_some() {
+        return Ok(None);
+    }
+    Ok(Some(book.pledge(holder, number, 9, security, dollars(100))))
+}
+
+// Pledges under 300 numbers for each of the three holders, under even ones par of security 7 and under odd ones of 8.
+fn pledge_across_blocks(rt: &impl Abort, book: &mut Accounts) -> Result<(), Fail>
+    requires { book.old.redeemed ≡ [] }
+    ensures { book.new.redeemed ≡ [] }
+{
+    for step in 0..900u32 {
+        let number = step / 3;
+        assert_eq!(rt;
+            pledge_to_nine(book, step % 3 + 1, u64::from(number), number % 2 + 7)?,
+            Some(Ok(())),
+            "step {step}"
+        );
+    }
+    Ok(())
+}
+
+// How many marks of the holder are open, what is pledged of security 8, and what is left of its last two marks.
+fn marks_of(book: &Accounts, holder: u32) -> (u64, u128, Option<u128>, Option<u128>) {
+    (
+        book.open_marks(holder),
+        book.pledged(holder, 8).value,
+        book.mark(holder, 298).map(|mark| mark.left.value),
+        book.mark(holder, 299).map(|mark| mark.left.value),
+    )
+}
+
+#[test]
+fn marks_are_found_and_summed_across_blocks(rt: HostRuntime) -> Result<(), Fail> {
+    let mut book = three_holders(rt.alloc())?;
+    pledge_across_blocks(&rt, &mut book)?;
+    assert_eq!(rt; standing(&book, 2), (20_000, 15_000, 5_000));
+    assert_eq!(rt; marks_of(&book, 2), (300, 15_000, Some(100), Some(100)));
+    assert_eq!(rt; book.release(2, 136, 9, dollars(100)), Ok(()));
+    assert_eq!(rt; book.release(2, 299, 9, dollars(60)), Ok(()));
+    assert_eq!(rt; standing(&book, 2), (20_000, 14_900, 5_100));
+    assert_eq!(rt; marks_of(&book, 2), (299, 14_940, Some(100), Some(40)));
+    book.reserve(0, 0, 1)?;
+    assert_eq!(rt; book.redeem(7).value, 60_000);
+    assert_eq!(rt; marks_of(&book, 1), (150, 15_000, Some(0), Some(100)));
+    assert_eq!(rt; marks_of(&book, 2), (150, 14_940, Some(0), Some(40)));
+    assert_eq!(rt; marks_of(&book, 3), (150, 15_000, Some(0), Some(100)));
+    Ok(())
+}
+
 #[test]
 fn a_stranger_is_refused_before_too_much_is(rt: HostRuntime) -> Result<(), Fail> {
     let mut book = Accounts::new(rt.alloc());
@@ -159,6 +238,45 @@ fn what_a_holder_holds_comes_in_the_order_of_securities(rt: HostRuntime) -> Resu
     assert_eq!(rt; book.transfer(1, 2, 3, dollars(500)), Ok(()));
     assert_eq!(rt; book.next_held(1, 0), Some(7));
     assert_eq!(rt; book.next_held(2, 0), Some(3));
+    Ok(())
+}
+
+// What a holder is credited with, which tells the holders of the next test apart.
+fn par_of(holder: u32) -> Dollars
+    requires { holder ≤ 600 }
+    ensures { result.value ≤ 1_000 }
+{
+    dollars(100 + u128::from(holder))
+}
+
+#[test]
+fn accounts_of_many_blocks_are_found_and_paid(rt: HostRuntime) -> Result<(), Fail> {
+    let mut book = Accounts::new(rt.alloc());
+    book.reserve(1200, 0, 1)?;
+    // 7 times the steps leave each remainder of 601 once, and 594 not at all.
+    for step in 0..600u32 {
+        let holder = step * 7 % 601;
+        book.credit(holder, 7, par_of(holder));
+        book.credit(holder, 8, par_of(holder));
+    }
+    // The remainders sum to 600 * 601 / 2 - 594, and each credit has 100 besides.
+    assert_eq!(rt; book.total(7).value, 239_706);
+    assert_eq!(rt; book.redeem(7).value, 239_706);
+    assert_eq!(rt; book.total(8).value, 239_706);
+    for holder in 0..601u32 {
+        let held = if holder == 594 {
+            0
+        } else {
+            par_of(holder).value
+        };
+        assert_eq!(rt; book.held(holder, 7).value, 0);
+        assert_eq!(rt; book.paid(holder, 7).value, held, "holder {holder}");
+        assert_eq!(rt; book.held(holder, 8).value, held, "holder {holder}");
+        assert_eq!(rt;
+            book.next_held(holder, 0),
+            if held > 0 { Some(8) } else { None }
+        );
+    }
     Ok(())
 }
 

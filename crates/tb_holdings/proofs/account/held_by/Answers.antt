@@ -1,19 +1,21 @@
 -- What is held stands in the holder's account of the security.
-use Rattle.std.proofs.Common.{sym}
+use Rattle.std.proofs.Common.{ap, sym, refl, ◌∙◌}
 use Rattle.tb_holdings.specs.declared.account.Account.{Account}
-use Rattle.tb_holdings.proofs.HoldingLemmas.{held_in-missing, held_in-stands}
+use Rattle.tb_holdings.proofs.HoldingLemmas.{held_in-nothing, held_in-stands}
+use Rattle.tb_holdings.proofs.AccountKeyLemmas.{StandsAt-key, none-key}
 use Rattle.tb_holdings.proofs.account.held_by.Goals as goal
 
--- no account
-abbrev none : Account
-none = record { holder = 0; security = 0; held = 0 }
+pub returns-in-Some : goal.returns-in-Some
+returns-in-Some c =
+    let accounts = c.args.accounts.now.elements in
+    let account = c.at.result.now in
+    let found = c.in-Some.ensures.found in
+    ap (λ (one : Account). one.held) c.at.ensures
+    ∙ sym (held_in-stands c.args.holder c.args.security accounts c.in-Some.place account c.requires.in_order
+    c.requires.none_empty
+    (StandsAt-key c.args.holder c.args.security accounts c.in-Some.place c.requires.in_order found.within found.same))
 
-pub returns-in-Ok : goal.returns-in-Ok
-returns-in-Ok c =
-    sym (held_in-stands c.args.holder c.args.security c.args.accounts.now c.in-Ok.place none c.requires.in_order
-    c.requires.none_empty c.in-Ok.ensures.stands)
-
-pub returns-in-Err : goal.returns-in-Err
-returns-in-Err c =
-    sym (held_in-missing c.args.holder c.args.security c.args.accounts.now c.in-Err.field-0 c.requires.in_order
-    c.in-Err.ensures.missing)
+pub returns-in-None : goal.returns-in-None
+returns-in-None c =
+    sym (held_in-nothing c.args.holder c.args.security c.args.accounts.now.elements
+    (none-key c.args.holder c.args.security c.args.accounts.now.elements (c.in-None.ensures.none.0 refl)))

@@ -1,32 +1,50 @@
--- Each mark of the security is written over, and the others are left.
-use Rattle.std.proofs.Common.{◌==◌, get_or, ◌∙◌, eq-eqb, ne_eqb}
-use Rattle.std.proofs.lemmas.Bool.{cond-true, cond-false}
+-- Each mark of the security of which something is left is written over, and the others stay.
+use Rattle.std.proofs.Common.{◌≡◌, ◌<◌, ◌==◌, List, get_or, set, length, ap, sym, subst, ◌∙◌, eq-eqb, arith}
+use Rattle.std.proofs.lemmas.Bool.{cond-true}
+use Rattle.std.proofs.lemmas.List.{length-set}
 use Rattle.tb_holdings.specs.declared.mark.KeptMark.{KeptMark}
 use Rattle.tb_holdings.specs.Marks.{after_redemption, cleared}
-use Rattle.tb_holdings.proofs.MarkLemmas.{with_left-more, with_left-all}
+use Rattle.tb_holdings.proofs.MarkLemmas.{cleared_same, with_left-all, with_left-kept, with_left-more}
 use Rattle.tb_holdings.proofs.mark.clear_marks.Goals as goal
-use Rattle.tb_holdings.proofs.mark.clear_marks.Goals.{then-mark-security, else-mark-security}
+use Rattle.tb_holdings.proofs.mark.clear_marks.Goals.{then-mark-security+then-mark-gt0, else-mark-security}
 
-pub loop-mark-preserved : goal.loop-mark-preserved
-loop-mark-preserved c =
-    let none : KeptMark = record { holder = 0; number = 0; pledgee = 0; security = 0; left = 0 } in
-    let mark : KeptMark = get_or c.loop-mark.marks c.loop-mark.mark-index none in
-    let more = with_left-more (after_redemption c.args.security)
-    c.args.marks.now c.loop-mark.marks c.loop-mark.mark-index in
+pub loop-place-preserved : goal.loop-place-preserved
+loop-place-preserved c =
+    let old : List KeptMark = c.args.marks.now.elements in
+    let written : List KeptMark = c.loop-place.marks.elements in
+    let place = c.loop-place.place in
+    let mark : KeptMark = c.at-mark.result.now in
+    let own : KeptMark = get_or written place mark in
+    let after = after_redemption c.args.security in
+    let short : place < length old = omega (arith, c.loop-place-test.true, c.len-place-end.ensures.len) in
+    let so_far = c.loop-place.invariant in
     elim c.if-mark-security.branch [
-      | then-mark-security w ↦ w.marks-is
-          ∙ more 0 none c.loop-mark-test.true c.loop-mark.auto.marks c.loop-mark.invariant
-          (cond-true (mark.security == c.args.security) 0 mark.left
-          (eq-eqb mark.security c.args.security w.if-mark-security.true))
-      | else-mark-security w ↦ w.marks-is
-          ∙ more mark.left none c.loop-mark-test.true c.loop-mark.auto.marks c.loop-mark.invariant
-          (cond-false (mark.security == c.args.security) 0 mark.left
-          (ne_eqb mark.security c.args.security w.if-mark-security.false))
+      | then-mark-security+then-mark-gt0 w ↦
+          let zeroed : KeptMark = record mark { left = 0 } in
+          let same : own.security ≡ c.args.security =
+          ap (λ (one : KeptMark). one.security) (sym c.at-mark.ensures) ∙ w.if-mark-security.true in
+          rw w.marks-is (
+            w.replace.ensures.elements
+                ∙ (ap (λ (one : KeptMark). set written place (record one { left = 0 })) c.at-mark.ensures
+                ∙ with_left-more after old written place 0 mark short so_far.1 so_far.0
+                (cond-true (own.security == c.args.security) 0 own.left
+                (eq-eqb own.security c.args.security same))),
+            ap length w.replace.ensures.elements ∙ (length-set written place zeroed ∙ so_far.1),
+            w.replace.ensures.spare ∙ so_far.2,
+          )
+      | else-mark-security w ↦
+          rw w.marks-is (
+            with_left-kept after old written place mark short so_far.1 so_far.0
+                (subst (λ (one : KeptMark). after one ≡ one.left) c.at-mark.ensures
+                (cleared_same c.args.security mark w.else-mark-security.either)),
+            so_far.1,
+            so_far.2,
+          )
     ]
 
-pub returns : goal.returns
+pub returns-clause-marks : goal.returns-clause-marks
 unfolding cleared
-returns c =
-    c.loop-mark.invariant
-    ∙ with_left-all (after_redemption c.args.security)
-    c.args.marks.now c.loop-mark.mark-index c.loop-mark-test.false
+returns-clause-marks c =
+    c.loop-place.invariant.0
+    ∙ with_left-all (after_redemption c.args.security) c.args.marks.now.elements c.loop-place.place
+    (omega (arith, c.loop-place-test.false, c.len-place-end.ensures.len))

@@ -1,33 +1,40 @@
 -- The mark at its place is written over, or taken out.
-use Rattle.std.proofs.Common.{◌-◌, List, set, ap, ◌∙◌}
-use Rattle.std.proofs.lemmas.List.{get_or_default}
+use Rattle.std.proofs.Common.{◌≡◌, ◌-◌, List, get_or, set, ap, ◌∙◌}
+use Rattle.std.specs.declared.cmp.Ordering.TheVariants.{Equal}
 use Rattle.tb_holdings.specs.declared.mark.KeptMark.{KeptMark}
 use Rattle.tb_holdings.proofs.LeftLemmas.{lowered-goes, lowered-missing, lowered-stays}
+use Rattle.tb_holdings.proofs.MarkKeyLemmas.{is_mark-equal, key_order, removed-at}
 use Rattle.tb_holdings.proofs.mark.lower_mark.Goals as goal
 
 pub returns-then-left-gt0-clause-marks : goal.returns-then-left-gt0-clause-marks
 returns-then-left-gt0-clause-marks c =
-    let marks : List KeptMark = c.args.marks.now.items in
-    let place = c.in-Ok.place in
+    let marks : List KeptMark = c.args.marks.now.elements in
+    let mark : KeptMark = c.at-mark.result.now in
     let left = c.saturating_sub-left.result in
-    let own : KeptMark = c.index_mut.result.now in
-    let stands = rw c.deref.ensures.value at c.in-Ok.ensures.stands in
-    let read = c.index.ensures ∙ get_or_default marks place c.index.result.now own stands.within in
-    ap (λ (mark : KeptMark). set marks place (record mark { left = left })) c.index_mut.ensures.value
-    ∙ lowered-stays c.args.holder c.args.number c.args.par marks place left own c.requires.in_order c.requires.left
-    stands (c.saturating_sub-left.ensures ∙ ap (λ (mark : KeptMark). mark.left - c.args.par) read)
-    c.if-left-gt0.true
+    c.replace.ensures.elements
+    ∙ (ap (λ (own : KeptMark). set marks c.in-Ok.place (record own { left = left })) c.at-mark.ensures
+    ∙ lowered-stays c.args.holder c.args.number c.args.par marks c.in-Ok.place left mark c.requires.in_order
+    c.requires.left c.in-Ok.ensures.stands
+    (c.saturating_sub-left.ensures ∙ ap (λ (own : KeptMark). own.left - c.args.par) c.at-mark.ensures)
+    c.if-left-gt0.true)
 
 pub returns-else-left-gt0-clause-marks : goal.returns-else-left-gt0-clause-marks
 returns-else-left-gt0-clause-marks c =
-    c.remove.ensures.items
-    ∙ lowered-goes c.args.holder c.args.number c.args.par c.args.marks.now.items c.in-Ok.place
-    c.saturating_sub-left.result c.index.result.now c.requires.in_order c.requires.left
-    (rw c.deref.ensures.value at c.in-Ok.ensures.stands)
-    (c.saturating_sub-left.ensures ∙ ap (λ (mark : KeptMark). mark.left - c.args.par) c.index.ensures)
+    let marks : List KeptMark = c.args.marks.now.elements in
+    let place = c.in-Ok.place in
+    let stands = c.in-Ok.ensures.stands in
+    let equal : (d : KeptMark) → key_order c.args.holder c.args.number (get_or marks place d) ≡ Equal =
+    λ d. is_mark-equal c.args.holder c.args.number (get_or marks place d) (stands.same d) in
+    removed-at c.args.holder c.args.number marks c.remove.new.self.elements place c.remove.result c.requires.in_order
+    stands.within stands.same c.remove.ensures.none.0
+    (place, record { within = stands.within; same = equal })
+    c.remove.ensures.removed c.remove.ensures.key
+    ∙ lowered-goes c.args.holder c.args.number c.args.par marks place c.saturating_sub-left.result c.at-mark.result.now
+    c.requires.in_order c.requires.left stands
+    (c.saturating_sub-left.ensures ∙ ap (λ (own : KeptMark). own.left - c.args.par) c.at-mark.ensures)
     c.if-left-gt0.false
 
 pub returns-in_default-clause-marks : goal.returns-in_default-clause-marks
 returns-in_default-clause-marks c =
-    lowered-missing c.args.holder c.args.number c.args.par c.args.marks.now.items c.in_default.field-0
-    c.requires.in_order c.requires.left (rw c.deref.ensures.value at c.in_default.ensures.missing)
+    lowered-missing c.args.holder c.args.number c.args.par c.args.marks.now.elements c.in_default.field-0
+    c.requires.in_order c.requires.left c.in_default.ensures.missing

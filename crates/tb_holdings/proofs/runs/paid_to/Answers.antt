@@ -6,7 +6,7 @@ use Rattle.tb_holdings.proofs.runs.paid_to.Goals as goal
 
 pub returns-in-Some : goal.returns-in-Some
 returns-in-Some c =
-    c.held_by.ensures
+    c.held_among.ensures
     ∙ held_in-run c.args.holder c.args.security c.args.paid.now c.in-Some.run'
     (IsRun-found c.args.paid.now c.args.runs.now c.in-Some.run' c.requires c.in-Some.ensures.found)
     c.in-Some.ensures.own

@@ -15,26 +15,26 @@ run_at security first count = record { security = security; first = first; count
 -- the run that is noted is that of the payments
 noted : (c : goal.After-add_run)
     → run_at c.args.security c.len-first.result (c.len.result - c.len-first.result)
-    ≡ run_now c.args.security c.args.paid.now.items c.args.accounts.now
+    ≡ run_now c.args.security c.args.paid.now.items c.args.accounts.now.elements
 noted c =
     let before = c.args.paid.now in
     let first : c.len-first.result ≡ length before.items = omega (arith, c.len-first.ensures, before.ok.0) in
     let count : c.len.result - c.len-first.result
-    ≡ length (filter (is_of c.args.security) c.args.accounts.now) = omega (
+    ≡ length (filter (is_of c.args.security) c.args.accounts.now.elements) = omega (
       arith,
       c.len-first.ensures,
       c.len.ensures,
       before.ok.0,
       c.pay_accounts.new.paid.ok.0,
       ap length c.pay_accounts.ensures.paid,
-      length-append before.items (filter (is_of c.args.security) c.args.accounts.now),
+      length-append before.items (filter (is_of c.args.security) c.args.accounts.now.elements),
     ) in
     ap₂ (run_at c.args.security) first count
 
 pub returns-clause-runs : goal.returns-clause-runs
 returns-clause-runs c =
     subst (λ (paid : List Account). AreRuns paid c.add_run.new.runs.items) (sym c.pay_accounts.ensures.paid)
-    (AreRuns-paid c.args.security c.args.paid.now.items c.args.accounts.now c.args.runs.now.items
+    (AreRuns-paid c.args.security c.args.paid.now.items c.args.accounts.now.elements c.args.runs.now.items
     c.add_run.new.runs.items c.requires.runs c.requires.new c.requires.in_order c.requires.none_empty
     (subst (λ (run : Run). HasOneMore run c.args.runs.now.items c.add_run.new.runs.items) (noted c)
     c.add_run.ensures.runs) c.add_run.ensures.in_order)

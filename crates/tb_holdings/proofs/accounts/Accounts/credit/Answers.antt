@@ -15,7 +15,7 @@ invariant_of-self c =
     let covered = c.self.invariant.0.covered c.args.holder c.args.security in (
       rw c.set_held.ensures.accounts
           (AreKept-with_held c.args.holder c.args.security (c.held-held.result.value + c.args.par.value)
-          inside.accounts.items inside.marks.list inside.redeemed.items inside.paid.items c.self.invariant.0
+          inside.accounts.elements inside.marks.list inside.redeemed.items inside.paid.items c.self.invariant.0
           (record { live = live; fits = omega (arith, limit, held); enough = omega (arith, held, covered) })),
       omega (arith, room, c.set_held.ensures.one_more),
       c.self.invariant.2,
@@ -27,7 +27,7 @@ returns-clause-total c =
     let inside = c.self.inside in
     let held = rw (← c.self.view_is) at c.held-held.ensures.held in
     let sum = total_in-with_held_same c.args.holder c.args.security
-    (c.held-held.result.value + c.args.par.value) inside.accounts.items in
+    (c.held-held.result.value + c.args.par.value) inside.accounts.elements in
     rw (← c.self.view_is) (omega (arith, ap (total_in c.args.security) c.set_held.ensures.accounts, sum, held))
 
 pub returns-clause-total_others : goal.returns-clause-total_others
@@ -35,7 +35,7 @@ returns-clause-total_others c = λ other differs.
     rw (← c.self.view_is)
     (ap (total_in other) c.set_held.ensures.accounts
     ∙ total_in-with_held_other c.args.holder c.args.security
-    (c.held-held.result.value + c.args.par.value) other c.self.inside.accounts.items differs)
+    (c.held-held.result.value + c.args.par.value) other c.self.inside.accounts.elements differs)
 
 pub returns-clause-laws : goal.returns-clause-laws
 returns-clause-laws c = (invariant_of-self c).0

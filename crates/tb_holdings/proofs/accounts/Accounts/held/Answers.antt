@@ -1,26 +1,18 @@
 -- A holder holds no more than all together, and they no more than the limit.
-use Rattle.std.proofs.Common.{ap, sym, subst, arith}
-use Rattle.tb_holdings.specs.Holdings.{AreInOrder, HoldSomething, held_in}
+use Rattle.std.proofs.Common.{arith}
 use Rattle.tb_holdings.proofs.HoldingLemmas.{held_in-le-total_in}
 use Rattle.tb_holdings.proofs.KeptLemmas.{held_in-limit}
 use Rattle.tb_holdings.proofs.accounts.Accounts.held.Goals as goal
-
-pub held_by-requires : goal.held_by-requires
-held_by-requires c = record {
-  in_order = subst AreInOrder (sym c.deref.ensures.value) c.self.invariant.0.in_order;
-  none_empty = subst HoldSomething (sym c.deref.ensures.value) c.self.invariant.0.none_empty;
-}
 
 pub invariant_of-result : goal.invariant_of-result
 invariant_of-result c = record {
   in_range = omega (
     arith,
     c.held_by.ensures,
-    ap (held_in c.args.holder c.args.security) c.deref.ensures.value,
     held_in-limit c.self.invariant.0 c.args.holder c.args.security,
   );
 }
 
 pub returns-clause-part : goal.returns-clause-part
 returns-clause-part c =
-    rw (← c.self.view_is) (held_in-le-total_in c.args.holder c.args.security c.self.inside.accounts.items)
+    rw (← c.self.view_is) (held_in-le-total_in c.args.holder c.args.security c.self.inside.accounts.elements)

@@ -11,7 +11,7 @@ invariant_of-self c =
     let few = rw (← c.self.view_is) at c.open_marks.ensures.open_marks in (
       rw c.add.ensures.list
           (AreKept-with_mark _
-          inside.accounts.items inside.marks.list inside.redeemed.items inside.paid.items c.self.invariant.0
+          inside.accounts.elements inside.marks.list inside.redeemed.items inside.paid.items c.self.invariant.0
           (record {
             new = new;
             free = omega (arith, whole, c.if-par-free.false);

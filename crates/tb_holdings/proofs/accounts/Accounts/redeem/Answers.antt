@@ -12,45 +12,39 @@ use Rattle.tb_holdings.proofs.accounts.Accounts.redeem.Goals as goal
 -- the accounts that were paid
 paid_items : (c : goal.After-push_reserved)
     → c.pay_off.new.paid.items
-    ≡ c.self.inside.paid.items ++ filter (is_of c.args.security) c.self.inside.accounts.items
-paid_items c =
-    c.pay_off.ensures.paid
-    ∙ ap (λ xs. c.self.inside.paid.items ++ filter (is_of c.args.security) xs) c.deref.ensures.value
+    ≡ c.self.inside.paid.items ++ filter (is_of c.args.security) c.self.inside.accounts.elements
+paid_items c = c.pay_off.ensures.paid
 
 -- an account leaves or stays
 leave_or_stay : (c : goal.After-push_reserved)
-    → length (filter (is_of c.args.security) c.self.inside.accounts.items)
-    + length (without c.args.security c.self.inside.accounts.items)
-    ≡ length c.self.inside.accounts.items
+    → length (filter (is_of c.args.security) c.self.inside.accounts.elements)
+    + length (without c.args.security c.self.inside.accounts.elements)
+    ≡ length c.self.inside.accounts.elements
 leave_or_stay c =
     length-filter_both (is_of c.args.security) (λ account. not (is_of c.args.security account)) (λ _. refl)
-    c.self.inside.accounts.items
+    c.self.inside.accounts.elements
 
 -- each account that leaves is paid
 same_count : (c : goal.After-push_reserved)
-    → vec_len c.close_accounts.new.accounts + vec_len c.pay_off.new.paid
-    ≡ vec_len c.self.inside.accounts + vec_len c.self.inside.paid
+    → length c.close_accounts.new.accounts.elements + vec_len c.pay_off.new.paid
+    ≡ length c.self.inside.accounts.elements + vec_len c.self.inside.paid
 same_count c =
     let inside = c.self.inside in
     omega (
       arith,
-      c.close_accounts.new.accounts.ok.0,
       c.pay_off.new.paid.ok.0,
-      inside.accounts.ok.0,
       inside.paid.ok.0,
       ap length c.close_accounts.ensures.accounts,
       ap length (paid_items c),
-      length-append inside.paid.items (filter (is_of c.args.security) inside.accounts.items),
+      length-append inside.paid.items (filter (is_of c.args.security) inside.accounts.elements),
       leave_or_stay c,
     )
 
 -- no account is added
-fewer : (c : goal.After-push_reserved) → vec_len c.close_accounts.new.accounts ≤ vec_len c.self.inside.accounts
+fewer : (c : goal.After-push_reserved) → length c.close_accounts.new.accounts.elements ≤ length c.self.inside.accounts.elements
 fewer c =
     omega (
       arith,
-      c.close_accounts.new.accounts.ok.0,
-      c.self.inside.accounts.ok.0,
       ap length c.close_accounts.ensures.accounts,
       leave_or_stay c,
     )
@@ -61,7 +55,7 @@ invariant_of-self c =
     let live = rw (← c.self.view_is) at c.requires.live in (
       rw (c.close_accounts.ensures.accounts, c.clear.ensures.list, c.push_reserved.ensures.items, paid_items c)
           (AreKept-redeemed c.args.security
-          inside.accounts.items inside.marks.list inside.redeemed.items inside.paid.items c.self.invariant.0 live),
+          inside.accounts.elements inside.marks.list inside.redeemed.items inside.paid.items c.self.invariant.0 live),
       omega (arith, same_count c, c.pay_off.ensures.capacity, c.self.invariant.1),
       c.pay_off.ensures.runs,
       rw c.push_reserved.ensures.items
@@ -82,7 +76,7 @@ returns-clause-room c =
         fewer c,
         same_count c,
         c.pay_off.ensures.capacity,
-        c.close_accounts.ensures.capacity,
+        c.close_accounts.ensures.room,
       );
       spare_marks = omega (arith, c.clear.ensures.room);
       spare_redeems = omega (
@@ -104,7 +98,7 @@ returns-clause-paid_all c = λ holder.
 pub returns-clause-none_held : goal.returns-clause-none_held
 returns-clause-none_held c =
     ap (total_in c.args.security) c.close_accounts.ensures.accounts
-    ∙ total_in-without_same c.args.security c.self.inside.accounts.items
+    ∙ total_in-without_same c.args.security c.self.inside.accounts.elements
 
 pub returns-clause-none_pledged : goal.returns-clause-none_pledged
 returns-clause-none_pledged c = λ holder.
@@ -117,16 +111,16 @@ returns-clause-others c =
     rw (← c.self.view_is) (record {
       holdings = λ holder other differs.
           ap (held_in holder other) c.close_accounts.ensures.accounts
-          ∙ held_in-without_other holder other c.args.security inside.accounts.items differs;
+          ∙ held_in-without_other holder other c.args.security inside.accounts.elements differs;
       pledges = λ holder other differs.
           ap (pledged_in holder other) c.clear.ensures.list
           ∙ pledged_in-cleared_other holder c.args.security other inside.marks.list differs;
       payments = λ holder other differs.
           ap (held_in holder other) (paid_items c)
-          ∙ held_in-append_of_other holder other c.args.security inside.paid.items inside.accounts.items differs;
+          ∙ held_in-append_of_other holder other c.args.security inside.paid.items inside.accounts.elements differs;
       totals = λ other differs.
           ap (total_in other) c.close_accounts.ensures.accounts
-          ∙ total_in-without_other other c.args.security inside.accounts.items differs;
+          ∙ total_in-without_other other c.args.security inside.accounts.elements differs;
     })
 
 pub returns-clause-open_marks : goal.returns-clause-open_marks

@@ -10,7 +10,7 @@ invariant_of-self c =
     let inside = c.self.inside in (
       rw c.release.ensures.list
           (AreKept-released c.args.holder c.args.number c.args.par.value
-          inside.accounts.items inside.marks.list inside.redeemed.items inside.paid.items c.self.invariant.0),
+          inside.accounts.elements inside.marks.list inside.redeemed.items inside.paid.items c.self.invariant.0),
       c.self.invariant.1,
       c.self.invariant.2,
       c.self.invariant.3,

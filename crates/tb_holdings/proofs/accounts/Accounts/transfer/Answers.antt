@@ -27,7 +27,7 @@ invariant_of-self c =
     let whole = rw (← c.self.view_is) at c.free-free.ensures.whole in (
       rw c.move_held.ensures.accounts
           (AreKept-moved c.args.from c.args.to c.args.security c.args.par.value
-          inside.accounts.items inside.marks.list inside.redeemed.items inside.paid.items c.self.invariant.0
+          inside.accounts.elements inside.marks.list inside.redeemed.items inside.paid.items c.self.invariant.0
           (record { live = live; apart = c.requires.apart; free = omega (arith, whole, c.if-par-free.false) })),
       omega (arith, room, c.move_held.ensures.one_more),
       c.self.invariant.2,
@@ -40,7 +40,7 @@ returns-clause-total c =
     let whole = rw (← c.self.view_is) at c.free-free.ensures.whole in
     rw (← c.self.view_is)
     (ap (total_in c.args.security) c.move_held.ensures.accounts
-    ∙ total_in-moved c.args.from c.args.to c.args.security c.args.par.value inside.accounts.items c.requires.apart
+    ∙ total_in-moved c.args.from c.args.to c.args.security c.args.par.value inside.accounts.elements c.requires.apart
     (omega (arith, whole, c.if-par-free.false)))
 
 pub returns-clause-total_others : goal.returns-clause-total_others
@@ -48,7 +48,7 @@ returns-clause-total_others c = λ other differs.
     rw (← c.self.view_is)
     (ap (total_in other) c.move_held.ensures.accounts
     ∙ total_in-moved_other c.args.from c.args.to c.args.security c.args.par.value other
-    c.self.inside.accounts.items differs)
+    c.self.inside.accounts.elements differs)
 
 pub returns-clause-laws : goal.returns-clause-laws
 returns-clause-laws c = (invariant_of-self c).0

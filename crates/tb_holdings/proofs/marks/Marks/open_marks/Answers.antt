@@ -7,12 +7,12 @@ use Rattle.tb_holdings.proofs.marks.Marks.open_marks.Goals as goal
 
 pub open_marks_by-requires : goal.open_marks_by-requires
 open_marks_by-requires c =
-    order-left c.self.inside.all.items c.deref.result.now c.self.invariant.0
-    (c.deref.ensures.value ∙ c.self.invariant.1)
+    order-left c.self.inside.all.elements c.self.inside.live.elements c.self.invariant.0
+    c.self.invariant.1
 
 pub returns : goal.returns
 returns c =
     c.open_marks_by.ensures
-    ∙ (open_marks_in-left c.args.holder c.self.inside.all.items c.deref.result.now
-    (c.deref.ensures.value ∙ c.self.invariant.1)
+    ∙ (open_marks_in-left c.args.holder c.self.inside.all.elements c.self.inside.live.elements
+    c.self.invariant.1
     ∙ ap (λ (marks : MarkList). open_marks_in c.args.holder marks.list) c.self.view_is)

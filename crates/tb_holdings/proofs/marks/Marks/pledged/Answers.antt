@@ -7,15 +7,15 @@ use Rattle.tb_holdings.proofs.marks.Marks.pledged.Goals as goal
 
 pub pledged_by-requires-clause-in_order : goal.pledged_by-requires-clause-in_order
 pledged_by-requires-clause-in_order c =
-    order-left c.self.inside.all.items c.deref.result.now c.self.invariant.0
-    (c.deref.ensures.value ∙ c.self.invariant.1)
+    order-left c.self.inside.all.elements c.self.inside.live.elements c.self.invariant.0
+    c.self.invariant.1
 
 pub pledged_by-requires-clause-fits : goal.pledged_by-requires-clause-fits
 pledged_by-requires-clause-fits c =
     omega (
       arith,
-      pledged_in-left c.args.holder c.args.security c.self.inside.all.items c.deref.result.now
-          (c.deref.ensures.value ∙ c.self.invariant.1),
+      pledged_in-left c.args.holder c.args.security c.self.inside.all.elements c.self.inside.live.elements
+          c.self.invariant.1,
       ap (λ (marks : MarkList). pledged_in c.args.holder c.args.security marks.list) c.self.view_is,
       c.requires,
     )
@@ -23,6 +23,6 @@ pledged_by-requires-clause-fits c =
 pub returns : goal.returns
 returns c =
     c.pledged_by.ensures
-    ∙ (pledged_in-left c.args.holder c.args.security c.self.inside.all.items c.deref.result.now
-    (c.deref.ensures.value ∙ c.self.invariant.1)
+    ∙ (pledged_in-left c.args.holder c.args.security c.self.inside.all.elements c.self.inside.live.elements
+    c.self.invariant.1
     ∙ ap (λ (marks : MarkList). pledged_in c.args.holder c.args.security marks.list) c.self.view_is)

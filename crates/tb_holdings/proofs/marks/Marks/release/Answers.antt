@@ -1,6 +1,5 @@
 -- A release leaves less of one mark in both lists, or takes it out of those of which something is left.
-use Rattle.std.proofs.Common.{◌≡◌, ◌++◌, List, ap, sym, subst, ◌∙◌, take, drop, length, filter, arith}
-use Rattle.std.proofs.lemmas.List.{take_at}
+use Rattle.std.proofs.Common.{List, filter, ap, sym, subst, ◌∙◌}
 use Rattle.tb_holdings.specs.declared.mark.KeptMark.{KeptMark}
 use Rattle.tb_holdings.specs.Marks.{MarksAreInOrder, has_left, released}
 use Rattle.tb_holdings.proofs.LeftLemmas.{all-left, left-released, order-left, order-released}
@@ -8,23 +7,19 @@ use Rattle.tb_holdings.proofs.marks.Marks.release.Goals as goal
 
 pub lower_mark-requires-clause-in_order : goal.lower_mark-requires-clause-in_order
 lower_mark-requires-clause-in_order c =
-    order-left c.self.inside.all.items c.self.inside.live.items c.self.invariant.0 c.self.invariant.1
+    order-left c.self.inside.all.elements c.self.inside.live.elements c.self.invariant.0 c.self.invariant.1
 
 pub lower_mark-requires-clause-left : goal.lower_mark-requires-clause-left
-lower_mark-requires-clause-left c = all-left c.self.inside.all.items c.self.inside.live.items c.self.invariant.1
+lower_mark-requires-clause-left c = all-left c.self.inside.all.elements c.self.inside.live.elements c.self.invariant.1
 
 pub invariant_of-self : goal.invariant_of-self
 invariant_of-self c =
-    let all : List KeptMark = c.self.inside.all.items in
-    let written : List KeptMark = c.release_mark.new.marks in
-    let items : take c.self.inside.all.len (written ++ drop (length written) all)
-    ≡ released c.args.holder c.args.number c.args.par all =
-    take_at written _ c.self.inside.all.len (omega (arith, c.release_mark.auto.marks, c.deref_mut.ensures.len))
-    ∙ (c.release_mark.ensures ∙ ap (released c.args.holder c.args.number c.args.par) c.deref_mut.ensures.value) in (
-      subst MarksAreInOrder (sym items)
+    let all : List KeptMark = c.self.inside.all.elements in (
+      subst MarksAreInOrder (sym c.release_mark.ensures.marks)
           (order-released c.args.holder c.args.number c.args.par all c.self.invariant.0),
       c.lower_mark.ensures.marks
           ∙ (ap (λ (ms : List KeptMark). filter has_left (released c.args.holder c.args.number c.args.par ms))
           c.self.invariant.1
-          ∙ (left-released c.args.holder c.args.number c.args.par all ∙ ap (filter has_left) (sym items))),
+          ∙ (left-released c.args.holder c.args.number c.args.par all
+          ∙ ap (filter has_left) (sym c.release_mark.ensures.marks))),
     )

@@ -4,7 +4,7 @@ use Rattle.std.proofs.lemmas.List.Sorted.{IsPartitionPoint-from_clause}
 use Rattle.tb_holdings.specs.Holdings.{comes_before}
 use Rattle.tb_holdings.proofs.PlaceLemmas.{IsPlace-found}
 use Rattle.tb_holdings.proofs.AccountLemmas.{IsPartitionedBy-accounts}
-use Rattle.tb_holdings.proofs.account.place_of.Goals as goal
+use Rattle.tb_holdings.proofs.account.place_among.Goals as goal
 
 pub returns : goal.returns
 returns c =
