@@ -157,33 +157,34 @@ Fits-rest room m ms fits =
       };
     }
 
--- a book that goes so has a place fewer at most
-goes-places : (Change : Bids → Bids → Type 0) (before after : Option Bids) (n : ℕ)
-    → ((one other : Bids) → Change one other → one.spare ≤ other.spare + 1)
+-- a book that goes so has so many places where it had so many more
+goes-places : (Change : Bids → Bids → Type 0) (before after : Option Bids) (more n : ℕ)
+    → ((one other : Bids) → Change one other → more ≤ one.spare → n ≤ other.spare)
     → Goes Change before after
-    → option_map_or (λ (book : Bids). nat_le (n + 1) book.spare) before true ≡ true
+    → option_map_or (λ (book : Bids). nat_le more book.spare) before true ≡ true
     → option_map_or (λ (book : Bids). nat_le n book.spare) after true ≡ true
-goes-places Change None None n takes goes has = refl
-goes-places Change None (Some after) n takes goes has = absurd goes
-goes-places Change (Some before) None n takes goes has = absurd goes
-goes-places Change (Some before) (Some after) n takes goes has =
-    le-leb n after.spare (omega (arith, leb-true (n + 1) before.spare has, takes before after goes))
+goes-places Change None None more n takes goes has = refl
+goes-places Change None (Some after) more n takes goes has = absurd goes
+goes-places Change (Some before) None more n takes goes has = absurd goes
+goes-places Change (Some before) (Some after) more n takes goes has =
+    le-leb n after.spare (takes before after goes (leb-true more before.spare has))
 
 -- so it is with all books where one goes so
-places-changed : (name : List ℕ) (Change : Bids → Bids → Type 0) (old new : List NamedBook) (n : ℕ)
-    → ((one other : Bids) → Change one other → one.spare ≤ other.spare + 1)
+pub places-changed : (name : List ℕ) (Change : Bids → Bids → Type 0) (old new : List NamedBook) (more n : ℕ)
+    → n ≤ more
+    → ((one other : Bids) → Change one other → more ≤ one.spare → n ≤ other.spare)
     → IsChanged name Change old new
-    → (auction : List ℕ) → has_places old (n + 1) auction ≡ true → has_places new n auction ≡ true
-places-changed name Change old new n takes changed auction has =
+    → (auction : List ℕ) → has_places old more auction ≡ true → has_places new n auction ≡ true
+places-changed name Change old new more n fewer takes changed auction has =
     elim (cases_Bool (is_same name auction)) [
       | inl is ↦
           let same = is_same-equal name auction is in
           subst (λ (x : List ℕ). has_places new n x ≡ true) same
-          (goes-places Change (book_in old name) (book_in new name) n takes changed.changed
-          (subst (λ (x : List ℕ). has_places old (n + 1) x ≡ true) (sym same) has))
+          (goes-places Change (book_in old name) (book_in new name) more n takes changed.changed
+          (subst (λ (x : List ℕ). has_places old more x ≡ true) (sym same) has))
       | inr isnt ↦
           subst (λ (found : Option Bids). option_map_or (λ (book : Bids). nat_le n book.spare) found true ≡ true)
-          (sym (changed.others auction isnt)) (places-less (book_in old auction) (n + 1) n (omega arith) has)
+          (sym (changed.others auction isnt)) (places-less (book_in old auction) more n fewer has)
     ]
 
 -- with a book more that has the places
@@ -210,8 +211,8 @@ places-out : (enrolled : List Enrolment) (found : Option Bid) (name : List ℕ) 
 places-out enrolled None name number old new n out auction has =
     rw out (places-less (book_in old auction) (n + 1) n (omega arith) has)
 places-out enrolled (Some bid) name number old new n out auction has =
-    places-changed name (IsLowered (place_of enrolled bid.bidder) number) old new n
-    (λ one other lowered. omega (arith, lowered.room)) out auction has
+    places-changed name (IsLowered (place_of enrolled bid.bidder) number) old new (n + 1) n (omega arith)
+    (λ one other lowered enough. omega (arith, lowered.room, enough)) out auction has
 
 -- a message takes one place of a book at most
 places-message : (enrolled : List Enrolment) (all : List Bid) (s : List ℕ) (number : ℕ) (m : Message)
@@ -226,19 +227,20 @@ places-message enrolled all s number (message.Announce a) old new n enough goes 
 places-message enrolled all s number (message.Bid name bidder rate amount) old new n enough goes auction has =
     places-changed name
     (IsAdded (record { bidder = place_of enrolled bidder; number = number; rate = rate; amount = amount }))
-    old.books new.books n (λ one other added. added.room) goes auction has
+    old.books new.books (n + 1) n (omega arith) (λ one other added enough. omega (arith, added.room, enough)) goes
+    auction has
 places-message enrolled all s number (message.Cancel name bid) old new n enough goes auction has =
     places-out enrolled (bid_of all s name bid) name bid old.books new.books n goes auction has
 places-message enrolled all s number other old new n enough goes auction has =
     rw goes (places-less (book_in old.books auction) (n + 1) n (omega arith) has)
 
 -- so another message keeps its place
-place-message : (old new : List NamedBook) (n : ℕ) (m : Message)
-    → ((auction : List ℕ) → has_places old (n + 1) auction ≡ true → has_places new n auction ≡ true)
-    → has_place old (n + 1) m ≡ true
+pub place-message : (old new : List NamedBook) (more n : ℕ) (m : Message)
+    → ((auction : List ℕ) → has_places old more auction ≡ true → has_places new n auction ≡ true)
+    → has_place old more m ≡ true
     → has_place new n m ≡ true
-place-message old new n (message.Bid auction bidder rate amount) takes has = takes auction has
-place-message old new n other takes has = refl
+place-message old new more n (message.Bid auction bidder rate amount) takes has = takes auction has
+place-message old new more n other takes has = refl
 
 -- what a message takes of the room
 pub record IsTakenBy (enrolled : List Enrolment) (all : List Bid) (s : List ℕ) (number : ℕ) (m : Message)
@@ -264,7 +266,7 @@ TakesRoom-by enrolled all s number m old new taken ms fits =
       ahead = record {
         ready = omega (arith, fits.ahead.ready, announces-cons m ms, taken.shelf.ready);
         places = list_all-weaker (has_place old.shelf.books (n + 1)) (has_place new.shelf.books n) ms
-            (λ x has. place-message old.shelf.books new.shelf.books n x
+            (λ x has. place-message old.shelf.books new.shelf.books (n + 1) n x
             (places-message enrolled all s number m old.shelf new.shelf n (omega (arith, fits.rows, taken.enough))
             taken.shelf.books) has) parts.1;
         settling = λ is. omega (

@@ -14,7 +14,7 @@ use Rattle.tb_index.specs.Listed.{Listed}
 use Rattle.tb_movements.specs.Movements.{Movement}
 use Rattle.tb_movements.specs.Told.{IsTold}
 use Rattle.tb_shelf.specs.declared.named.NamedBook.{NamedBook}
-use Rattle.tb_shelf.specs.Shelves.{IsChanged, IsLowered}
+use Rattle.tb_shelf.specs.Shelves.{IsChanged, IsLowered, has_places}
 use Rattle.tb_history.specs.declared.bids.Bid.{Bid}
 use Rattle.tb_history.specs.Entries.{bid_by}
 use Rattle.tb_history.specs.Roster.{announcement_of, announcements, enrolments, is_enrolled}
@@ -31,10 +31,13 @@ use Rattle.tb_core.specs.Accounting.{moved_in}
 use Rattle.tb_core.specs.Calendar.{IsCalendar}
 use Rattle.tb_core.specs.Shelving.{AreShelved}
 use Rattle.tb_core.specs.Settling.{HasScratch}
-use Rattle.tb_core.specs.House.{AreTied, EndsWithBid, HasRoom, IsBid, IsHouse, IsTakenBack}
+use Rattle.tb_core.specs.House.{AreTied, EndsWithBid, HasRoom, IsBid, IsHouse, IsTakenBack, room_of}
+use Rattle.tb_core.specs.Rooms.{KeepsRoom, has_place}
 use Rattle.tb_core.proofs.BookLemmas.{Follows-next, IsNext, apart-lines, bid_rows-known, lines_in, uncancelled}
 use Rattle.tb_core.proofs.HouseLemmas.{HasScratch-less}
+use Rattle.tb_core.proofs.KeptLemmas.{list_all-weaker}
 use Rattle.tb_core.proofs.LiveLemmas.{live-more, live-other}
+use Rattle.tb_core.proofs.RoomLemmas.{place-message, places-changed}
 use Rattle.tb_core.proofs.ShelfLemmas.{lines-changed, lines-taken}
 
 -- a bid that was the next message
@@ -179,6 +182,28 @@ HasRoom-back before room old new taken has =
       };
       accounts = has.accounts;
     })
+
+-- and what fitted still fits
+pub KeepsRoom-back : (before : Moment) (room : ℕ) (old new : Tables)
+    → IsTakenBack before old new
+    → KeepsRoom (room_of room old) (room_of room new)
+KeepsRoom-back before room old new taken messages fits =
+    let n = length messages in
+    let lowered = IsLowered (place_of old.bidders.list taken.bid.bidder) taken.bid.number in
+    let places : (auction : List ℕ) → has_places old.shelf.books n auction ≡ true
+    → has_places new.shelf.books n auction ≡ true =
+    places-changed taken.bid.auction lowered old.shelf.books new.shelf.books n n (omega arith)
+    (λ one other less enough. omega (arith, less.room, enough)) taken.books in
+    record {
+      rows = fits.rows;
+      ahead = record {
+        ready = omega (arith, fits.ahead.ready, taken.ready);
+        places = list_all-weaker (has_place old.shelf.books n) (has_place new.shelf.books n) messages
+            (λ m has. place-message old.shelf.books new.shelf.books n n m places has) fits.ahead.places;
+        settling = λ is. subst (λ (tables : Tables). n ≤ tables.scratch.lasts) (sym taken.same)
+            (fits.ahead.settling is);
+      };
+    }
 
 -- what is popped off a list with a last element is that one
 pub popped : {X : Type 0} (row : Option X) (old new earlier : List X) (last : X)

@@ -136,6 +136,7 @@ fn take_back(entries: &mut Entries, tables: &mut Tables, before: Moment)
     ensures house { (room : ℕ) → IsHouse entries.old tables.old room → IsHouse entries.new tables.new room }
     ensures history { (earlier : List Entry) (last : Entry) → entries.old.list ≡ earlier ++ last ∷ []
         → entries.new.list ≡ earlier }
+    ensures room { (room : ℕ) → KeepsRoom (room_of room tables.old) (room_of room tables.new) }
 {
     let _ = entries.pop();
     tables.take_back(before);
@@ -276,11 +277,12 @@ impl Host {
     }
 
     /// Takes back the last entry, which is a bid, where `before` is the moment of the entry before it, and the first
-    /// moment there is where there is none. It takes no memory. What fits afterwards isn't said.
+    /// moment there is where there is none. It takes no memory, and what fitted still fits.
     pub fn take_back(&mut self, before: Moment)
         requires { EndsWithBid self.old.history before }
-        ensures { (earlier : List Entry) (last : Entry) → self.old.history ≡ earlier ++ last ∷ []
+        ensures history { (earlier : List Entry) (last : Entry) → self.old.history ≡ earlier ++ last ∷ []
             → self.new.history ≡ earlier }
+        ensures room { KeepsRoom self.old.room self.new.room }
     {
         take_back(&mut self.entries, &mut self.tables, before);
     }

@@ -1,6 +1,6 @@
 -- Entries and tables lose what the last bid added.
 use Rattle.tb_core.proofs.HouseLemmas.{few-bidders}
-use Rattle.tb_core.proofs.TakenBackLemmas.{has_bids-tied, house_back, popped}
+use Rattle.tb_core.proofs.TakenBackLemmas.{KeepsRoom-back, has_bids-tied, house_back, popped}
 use Rattle.tb_core.proofs.host.take_back.Goals as goal
 
 pub take_back-requires-clause-some : goal.take_back-requires-clause-some
@@ -22,3 +22,7 @@ returns-clause-house c =
     (popped c.pop.result c.args.entries.now.list c.pop.new.self.list ends.earlier ends.last ends.is c.pop.ensures.none
     c.pop.ensures.some)
     c.pop.ensures.spare c.take_back.ensures
+
+pub returns-clause-room : goal.returns-clause-room
+returns-clause-room c room =
+    KeepsRoom-back c.args.before room c.args.tables.now c.take_back.new.self c.take_back.ensures

@@ -32,7 +32,7 @@ loop-left-preserved c =
     ∙ (ap (λ (entries : List Entry). grown.0 ++ entries) last.1
     ∙ sym (append_assoc grown.0 (take (left - 1) group) (last.0 ∷ [])))) in
     let taken : c.take_back.new.self.history ≡ grown.0 ++ take (left - 1) group =
-    c.take_back.ensures (grown.0 ++ take (left - 1) group) last.0 is in
+    c.take_back.ensures.history (grown.0 ++ take (left - 1) group) last.0 is in
     record {
       within = omega (arith, c.loop-left.invariant.within);
       history = λ earlier whole. taken
