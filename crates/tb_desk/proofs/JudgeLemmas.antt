@@ -1,5 +1,5 @@
 -- Verdicts on messages one after another, and the entries that they add.
-use Rattle.std.proofs.Common.{◌≡◌, inl, inr, ℕ, ◌+◌, ◌<◌, ◌≤◌, Bool, true, false, not, cond, nat_le, ◌&&◌, ◌-◌, Option, Some, None, List, [], ◌∷◌, ◌++◌, length, map, length-take, take, get_or, set, suc, replicate, refl, sym, ◌∙◌, ap, subst, arith, append_assoc}
+use Rattle.std.proofs.Common.{◌≡◌, inl, inr, ℕ, ◌+◌, ◌<◌, ◌≤◌, Bool, true, false, not, cond, nat_le, ◌&&◌, ◌-◌, Option, Some, None, List, [], ◌∷◌, ◌++◌, length, length-append, map, length-take, take, get_or, set, suc, replicate, refl, sym, ◌∙◌, ap, subst, arith, append_assoc}
 use Rattle.std.specs.List.{All, filter}
 use Rattle.std.proofs.lemmas.Bool.{cases_Bool, cases_lt}
 use Rattle.std.proofs.lemmas.List.{append-nil, take_more, set_at, map_push, length-map}
@@ -323,6 +323,20 @@ added-length history submitter moment asked = go (verdict_on history submitter a
     go (verdict.Accepted number at) = omega arith
     go (verdict.Repeat number at) = omega arith
     go (verdict.Refused refusal) = omega arith
+
+-- and so a group has no more entries than there are messages
+pub group_on-length : (history : List Entry) (submitter : List ℕ) (moment : Moment) (messages : List (ℕ × Message))
+    → length (group_on history submitter moment messages) ≤ length messages
+group_on-length history submitter moment [] = omega arith
+group_on-length history submitter moment (asked ∷ others) =
+    let here : List Entry = added history submitter moment asked in
+    let rest : List Entry = group_on (history ++ here) submitter moment others in
+    omega (
+      arith,
+      length-append here rest,
+      added-length history submitter moment asked,
+      group_on-length (history ++ here) submitter moment others,
+    )
 
 -- there is a verdict on each message
 pub verdicts_on-length : (history : List Entry) (submitter : List ℕ) (moment : Moment) (messages : List (ℕ × Message))

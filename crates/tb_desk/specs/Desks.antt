@@ -1,6 +1,8 @@
 -- What contracts see of a desk, and what holds of every desk.
 use Rattle.std.specs.Prelude.{◌≡◌, ◌⊎◌, ℕ, ◌+◌, ◌≤◌, min, List, [], ◌∷◌, ◌++◌, ◌-◌, length, map, replicate, take, Option, Some, None, refl}
+use Rattle.std.specs.List.{All}
 use Rattle.std.specs.Coded.{Coded, code_by, coded×, coded_ℕ, coded_list}
+use Rattle.tb_units.specs.declared.moment.Moment.{Moment}
 use Rattle.tb_link.specs.Counts.{last_count}
 use Rattle.tb_disk.specs.Disks.{DiskState}
 use Rattle.tb_message.specs.declared.message.Entry.{Entry}
@@ -58,6 +60,13 @@ pub record IsSame {D : Type 0} (old new : DeskView D) : Type 0 where
   pub recovered : new.recovered ≡ old.recovered
   pub faults : new.faults ≡ old.faults
 
+-- the entries are one group: of one submitter at one moment, and no more than share a gate
+pub record IsOneGroup (entries : List Entry) : Type 0 where
+  pub submitter : List ℕ
+  pub moment : Moment
+  pub few : length entries ≤ 64
+  pub each : All (λ (entry : Entry). (entry.submitter ≡ submitter) × (entry.moment ≡ moment)) entries
+
 -- A file stands for a beginning of the history that has the recovered one, or for it followed by one group that was
 -- accepted on it.
 pub record IsBeginning (history : List Entry) (recovered : ℕ) (file : List ℕ) : Type 0 where
@@ -65,6 +74,7 @@ pub record IsBeginning (history : List Entry) (recovered : ℕ) (file : List ℕ
   pub enough : recovered ≤ kept
   pub within : kept ≤ length history
   pub group : List Entry
+  pub one : IsOneGroup group
   pub accepted : IsLegal (take kept history ++ group)
   pub stands : StandsForEither (take kept history) group file
 
@@ -72,6 +82,7 @@ pub record IsBeginning (history : List Entry) (recovered : ℕ) (file : List ℕ
 pub record IsDesk (disk opened : DiskState) (gate : ℕ) (next : Option ℕ) (history doubt : List Entry)
     (recovered faults : ℕ) : Type 0 where
   pub stands : Stands disk gate next history doubt
+  pub one : IsOneGroup doubt
   pub recovers : recovered ≤ length history
   -- every crash since the opening
   pub since : CrashesLeave (IsBeginning history recovered) opened disk

@@ -1,8 +1,6 @@
 -- What `run` does to its disk.
-use Rattle.std.proofs.Common.{◌≡◌, ℕ, List, [], ◌++◌, length, take, Option, Some, None, ◌⊎◌, inl, inr, sym, subst, ap, ◌∙◌, refl, arith, append-nil}
+use Rattle.std.proofs.Common.{◌≡◌, ℕ, List, [], ◌++◌, length, Option, Some, None, ◌⊎◌, inl, inr, sym, subst, ap, ◌∙◌, refl, arith, append-nil}
 use Rattle.std.specs.Prelude.{Ok, Err, IfSome}
-use Rattle.std.proofs.Math.Seq.{take-append_seam}
-use Rattle.std.proofs.lemmas.List.{length-append}
 use Rattle.tb_link.specs.Counts.{NeverFalls, Rose}
 use Rattle.tb_disk.specs.Disks.{DiskState}
 use Rattle.tb_disk.specs.Past.{Past, contents_of, MayLeave, Leaves}
@@ -15,6 +13,7 @@ use Rattle.tb_message.specs.declared.message.Entry.{Entry}
 use Rattle.tb_history.specs.Legal.{IsLegal}
 use Rattle.tb_history.proofs.HistoryLemmas.{IsLegal-front}
 use Rattle.tb_desk.specs.Desks.{DeskView, IsBeginning}
+use Rattle.tb_desk.proofs.DeskLemmas.{IsOneGroup-none, beginning_whole}
 use Rattle.tb_desk.specs.Replay.{IsExact, LeavesRefused}
 use Rattle.tb_desk.specs.Stands.{CrashesLeave, LeavesEither, StandsForEither, StandsForHistory, payloads_of}
 use Rattle.tb_desk.specs.declared.fault.OpenFault.{OpenFault}
@@ -42,10 +41,6 @@ StandsStill-harmless before now harmless history stands =
 pub IsLegal-first : (first last : Standing) → HasGrown first last → IsLegal last.history → IsLegal first.history
 IsLegal-first first last grown legal = IsLegal-front grown.0 first.history (subst IsLegal grown.1 legal)
 
--- the front of a list that begins with another
-front-is : (first last more : List Entry) → last ≡ first ++ more → take (length first) last ≡ first
-front-is first last more is = ap (take (length first)) is ∙ take-append_seam first more
-
 -- a file that stands for the first history stands for a beginning of the last
 IsBeginning-first : (first last : List Entry) (more : List Entry) (file : List ℕ)
     → last ≡ first ++ more
@@ -53,15 +48,8 @@ IsBeginning-first : (first last : List Entry) (more : List Entry) (file : List �
     → StandsForHistory first file
     → IsBeginning last (length first) file
 IsBeginning-first first last more file is legal stands =
-    let front : take (length first) last ≡ first = front-is first last more is in
-    record {
-      kept = length first;
-      enough = omega arith;
-      within = omega (arith, ap length is, length-append first more);
-      group = [];
-      accepted = subst IsLegal (sym (append-nil (take (length first) last) ∙ front)) legal;
-      stands = inl (subst (λ (h : List Entry). StandsForHistory h file) (sym front) stands);
-    }
+    beginning_whole first [] last (length first) file (more, is) (omega arith) IsOneGroup-none
+    (subst IsLegal (sym (append-nil first)) legal) (inl stands)
 
 -- a crash during the command
 keeps-past : (first last : List Entry) (more : List Entry) (before mid now : Past)

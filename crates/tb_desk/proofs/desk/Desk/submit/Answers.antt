@@ -1,5 +1,5 @@
 -- A turn keeps what holds of every desk.
-use Rattle.std.proofs.Common.{[], ◌∷◌}
+use Rattle.std.proofs.Common.{[], ◌∷◌, arith}
 use Rattle.tb_desk.specs.Desks.{replies_of}
 use Rattle.tb_desk.proofs.AnswerLemmas.{replies-none}
 use Rattle.tb_desk.proofs.DeskLemmas.{Stands-leaves, IsDesk-turn}
@@ -22,7 +22,7 @@ invariant_of-self g c =
           (record { history = inside.host.history; doubt = inside.doubt.items })
           (record { history = new.host.history; doubt = new.doubt.items }) (replies_of reply) ensures.turn.at
           inside.recovered inside.faults c.faults_after-self-inside.result c.self.invariant.0 ensures.stands
-          ensures.turn.turn ensures.crash ensures.count (λ none. ensures.fault (replies-none reply none))
+          (omega arith) ensures.turn.turn ensures.crash ensures.count (λ none. ensures.fault (replies-none reply none))
           c.faults_after-self-inside.ensures,
       record { entries_fit = ensures.buffers.0; bytes_fit = ensures.buffers.1 },
     )

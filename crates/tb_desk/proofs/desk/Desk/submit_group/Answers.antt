@@ -17,7 +17,8 @@ invariant_of-self g c =
           (record { submitter = c.args.submitter.now; moment = c.args.moment; messages = c.args.messages.now })
           (record { history = inside.host.history; doubt = inside.doubt.items })
           (record { history = new.host.history; doubt = new.doubt.items }) told.0 told.2.at inside.recovered
-          inside.faults c.faults_after_group-self-inside.result c.self.invariant.0 ensures.stands told.2.turn
+          inside.faults c.faults_after_group-self-inside.result c.self.invariant.0 ensures.stands
+          c.requires.size.1 told.2.turn
           ensures.crash ensures.count (λ none. ensures.fault (told-none reply new.verdicts told.0 told.1 none))
           (told-counts reply new.verdicts told.0 inside.faults c.faults_after_group-self-inside.result told.1
           c.faults_after_group-self-inside.ensures),
