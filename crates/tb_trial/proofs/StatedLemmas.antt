@@ -58,6 +58,14 @@ pub lines_to-none : (seed : ℕ) (lines : List BookLine) → lines ≡ [] → Is
 unfolding stated_bids
 lines_to-none seed lines none = subst (λ (xs : List BookLine). IsPermutation [] xs) (sym none) (IsPermutation-refl [])
 
+-- the lines that are kept are those
+pub lines_to-kept : (seed count : ℕ) (old new : List BookLine)
+    → new ≡ old
+    → IsPermutation (lines_to seed count) old
+    → IsPermutation (lines_to seed count) new
+lines_to-kept seed count old new same are =
+    subst (λ (lines : List BookLine). IsPermutation (lines_to seed count) lines) (sym same) are
+
 -- one more bid is one more line behind them
 lines_to-suc : (seed count : ℕ)
     → lines_to seed (suc count)

@@ -1,5 +1,5 @@
 //! The bids of a trial, as lines of a book.
-ghost use Rattle.std.specs.Prelude.{◌≡◌, ℕ, ◌+◌, ◌<◌, ◌≤◌, ◌^◌, IfOk};
+ghost use Rattle.std.specs.Prelude.{◌≡◌, ℕ, ◌+◌, ◌<◌, ◌≤◌, ◌^◌, IfOk, OnOk};
 ghost use Rattle.tb_results.specs.Biddings.{AreBooked, book_line_of};
 ghost use Rattle.tb_trial.specs.Trials.{bidders, most_bidders, next, stated_bid, trial_bidding};
 
@@ -10,19 +10,33 @@ use tb_units::{Dollars, OutOfMemory, Rate};
 /// How many bidders there are.
 pub const BIDDERS: u32 = 4096;
 
+/// For so many lines memory is taken at once: for few enough that little of it stays unused.
+const LINES_AHEAD: u64 = 1024;
+
 /// A book of the bids.
 pub fn stated_book(alloc: Global, seed: u64, count: u64) -> Result<Book, OutOfMemory>
     requires { count ≤ 10 ^ 6 }
     ensures { IfOk result (λ book. AreBooked (trial_bidding seed count) book.lines) }
 {
     let mut book = Book::new(alloc);
-    book.reserve(count)?;
     let mut drawn = seed;
     for stated in 0..count {
+        make_room(&mut book)?;
         drawn = next(drawn);
         book.add(stated_line(stated + 1, drawn));
     }
     Ok(book)
+}
+
+// Takes memory for the next lines where there is no room for one.
+fn make_room(book: &mut Book) -> Result<(), OutOfMemory>
+    ensures room { OnOk result (0 < book.new.spare) }
+    ensures lines { book.new.lines ≡ book.old.lines }
+{
+    if book.spare() == 0 {
+        book.reserve(LINES_AHEAD)?;
+    }
+    Ok(())
 }
 
 // What is drawn after it.

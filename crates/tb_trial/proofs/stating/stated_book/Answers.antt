@@ -3,27 +3,31 @@ use Rattle.std.proofs.Common.{◌≡◌, ℕ, refl, ap, ◌∙◌, subst, arith}
 use Rattle.std.specs.Prelude.{IsPermutation}
 use Rattle.tb_book.specs.declared.book_line.BookLine.{BookLine}
 use Rattle.tb_trial.specs.Trials.{drawn_for, trial_bidding}
-use Rattle.tb_trial.proofs.StatedLemmas.{drawn_for-next, later-none, lines_to, lines_to-added, lines_to-none, par-limited, stated-amount}
+use Rattle.tb_trial.proofs.StatedLemmas.{drawn_for-next, later-none, lines_to, lines_to-added, lines_to-kept, lines_to-none, par-limited, stated-amount}
 use Rattle.tb_trial.proofs.stating.stated_book.Goals as goal
 
 pub loop-stated-init : goal.loop-stated-init
 unfolding drawn_for
 loop-stated-init c = record {
   drawn = refl;
-  booked = lines_to-none c.args.seed c.reserve.new.self.lines (c.reserve.ensures.lines ∙ c.new-book.ensures);
-  room = omega (arith, c.in_ok-reserve.ensures.spare);
+  booked = lines_to-none c.args.seed c.new-book.result.lines c.new-book.ensures;
 }
+
+pub add-requires-clause-room : goal.add-requires-clause-room
+add-requires-clause-room c = omega (arith, c.in_ok-make_room.ensures.room)
 
 pub add-requires-clause-new : goal.add-requires-clause-new
 add-requires-clause-new c =
-    later-none c.args.seed c.loop-stated.stated _ _ _ c.loop-stated.invariant.booked
+    later-none c.args.seed c.loop-stated.stated _ _ _
+    (lines_to-kept c.args.seed c.loop-stated.stated _ _ c.make_room.ensures.lines c.loop-stated.invariant.booked)
     (omega (arith, ap (λ (line : BookLine). line.number) c.stated_line.ensures))
 
 pub add-requires-clause-fits : goal.add-requires-clause-fits
 add-requires-clause-fits c =
     omega (
       arith,
-      par-limited c.args.seed c.loop-stated.stated c.loop-stated.book.lines c.loop-stated.invariant.booked,
+      par-limited c.args.seed c.loop-stated.stated c.make_room.new.book.lines
+          (lines_to-kept c.args.seed c.loop-stated.stated _ _ c.make_room.ensures.lines c.loop-stated.invariant.booked),
       ap (λ (line : BookLine). line.amount.value) c.stated_line.ensures,
       stated-amount c.next-drawn.result,
     )
@@ -32,11 +36,12 @@ pub loop-stated-preserved : goal.loop-stated-preserved
 loop-stated-preserved c =
     let drawn = c.next-drawn.ensures ∙ drawn_for-next c.args.seed c.loop-stated.stated _
     c.loop-stated.invariant.drawn in
+    let booked = lines_to-kept c.args.seed c.loop-stated.stated _ _ c.make_room.ensures.lines
+    c.loop-stated.invariant.booked in
     record {
       drawn = drawn;
       booked = lines_to-added c.args.seed c.loop-stated.stated c.next-drawn.result c.stated_line.result _ _ drawn
-          c.stated_line.ensures c.loop-stated.invariant.booked c.add.ensures.elements;
-      room = omega (arith, c.add.ensures.room);
+          c.stated_line.ensures booked c.add.ensures.elements;
     }
 
 pub returns : goal.returns
