@@ -33,7 +33,7 @@ const BID_UNIT: u128 = 100;
 const OFFERING_UNIT: u128 = 1_000_000;
 
 /// The largest amount, in whole dollars.
-const MOST: u128 = 1_000_000_000_000;
+const MOST: u128 = Dollars::MOST_READ as u128;
 
 /// Reads a line of a book. Every other text is `None`.
 pub fn read_book_line(text: &[u8]) -> Option<BookLine>

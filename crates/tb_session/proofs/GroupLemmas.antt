@@ -19,7 +19,7 @@ use Rattle.tb_history.specs.Answer.{verdict_for}
 use Rattle.tb_history.specs.Legal.{IsLegal, Longer, last_of, running}
 use Rattle.tb_history.specs.Verdict.{verdict_on}
 use Rattle.tb_history.proofs.HistoryLemmas.{last_of-push, running-seconds}
-use Rattle.tb_desk.specs.Turn.{Held, Asked, Replies, IsTurn, Turns, AreNumbered, added_by as added_as, added as added_on, verdicts_on, group_on, group}
+use Rattle.tb_desk.specs.Turn.{Held, Asked, Replies, IsTurn, Turns, AreNumbered, added_by as added_as, added as added_on, verdicts_on, group_on}
 use Rattle.tb_desk.specs.declared.reply.GroupReply.TheVariants as reply
 use Rattle.tb_desk.specs.Desks.{CountsFault, Tells as DeskTells}
 use Rattle.tb_session.specs.declared.answer.Answer.{Answer}
