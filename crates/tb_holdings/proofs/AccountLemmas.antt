@@ -1,17 +1,22 @@
 -- Accounts in order: where an account stands, and the list after it was written, taken out or put in.
 use Rattle.std.proofs.Common.{◌≡◌, ℕ, ◌<◌, ◌≤◌, Bool, true, false, not, cond, ◌==◌, List, [], ◌∷◌, ◌++◌, length, get_or, drop, set, filter, insert, remove, All, AllPairs, refl, ap, ap₂, sym, ◌∙◌, inl, inr, eqb-true, true≢false, arith}
-use Rattle.std.specs.List.Sorted.{IsPartitionedBy}
+use Rattle.std.specs.List.{HoldsAt}
 use Rattle.std.proofs.lemmas.Bool.{and_parts, cases_Bool, cases_eq}
 use Rattle.std.proofs.lemmas.Bool.Decides.{nat_tests}
 use Rattle.std.proofs.lemmas.List.{set-get_or, set_split, take-append-drop}
 use Rattle.std.proofs.lemmas.List.Elements.{All-nil, All-cons, All-head, All-tail, All-append, All-filter}
 use Rattle.std.proofs.lemmas.List.Kept.{AllPairs-filter}
+use Rattle.tb_blocks.specs.Orders.{HasKeyAt}
 use Rattle.tb_units.specs.Places.{IsPlace}
 use Rattle.tb_units.proofs.ListLemmas.{AllPairs-head, AllPairs-tail, AllPairs-put, AllPairs-nil, AllPairs-one}
 use Rattle.tb_units.proofs.PlaceLemmas.{IsRanked, filter_all, filter_none, take-place, drop-place_present, drop-place_missing}
-use Rattle.tb_units.proofs.SumLemmas.{StandsOnce}
 use Rattle.tb_holdings.specs.declared.account.Account.{Account}
 use Rattle.tb_holdings.specs.Holdings.{is_account, is_of, comes_before, comes_behind, IsEarlier, AreInOrder, HoldSomething, account_with, account_of, with_held, without}
+use Rattle.tb_holdings.proofs.KeyLemmas.{IsPlace-own, IsRanked-key, before_on, equal-is, key_not_behind, other_behind, pair_order}
+
+-- the key of an account
+abbrev pub account_key : Account → ℕ × ℕ
+account_key account = (account.holder, account.security)
 
 -- the holder's account of the security stands at this place
 pub record StandsAt (holder security : ℕ) (accounts : List Account) (place : ℕ) : Type 0 where
@@ -24,72 +29,26 @@ pub record IsMissingAt (holder security : ℕ) (accounts : List Account) (place 
   pub first : IsPlace (comes_before holder security) accounts place
   pub other : (d : Account) → place < length accounts → is_account holder security (get_or accounts place d) ≡ false
 
--- the order of holder and then security goes on over a third
-comes_before_on : (holder security : ℕ) (one later : Account)
-    → comes_before holder security one ≡ true
-    → comes_behind holder security later ≡ true
-    → comes_before later.holder later.security one ≡ true
-comes_before_on holder security one later before behind = grind (arith, nat_tests)
-
--- an account before one that stands before a place stands before the place
-comes_before_back : (holder security : ℕ) (one later : Account)
-    → IsEarlier one later
-    → comes_before holder security later ≡ true
-    → comes_before holder security one ≡ true
-comes_before_back holder security one later earlier before = grind (arith, nat_tests)
-
--- an account behind one that doesn't stand before a place stands behind the place
-comes_behind_next : (holder security : ℕ) (one later : Account)
-    → IsEarlier one later
-    → comes_before holder security one ≡ false
-    → comes_behind holder security later ≡ true
-comes_behind_next holder security one later earlier from = grind (arith, nat_tests)
-
--- what stands behind a place doesn't stand before it
-comes_behind_apart : (holder security : ℕ) (account : Account)
-    → comes_behind holder security account ≡ true
-    → comes_before holder security account ≡ false
-comes_behind_apart holder security account behind = grind (arith, nat_tests)
-
--- each account stands before the place of a holder and security, at it or behind it
-pub StandsOnce-account : (holder security : ℕ)
-    → StandsOnce (comes_before holder security) (is_account holder security) (comes_behind holder security)
-StandsOnce-account holder security = λ account. grind (arith, nat_tests)
-
--- the holder's account of the security isn't behind its place
-same_not_behind : (holder security : ℕ) (account : Account)
-    → is_account holder security account ≡ true
-    → comes_behind holder security account ≡ false
-same_not_behind holder security account same = grind (arith, nat_tests)
-
--- another account that doesn't stand before the place stands behind it
-other_is_behind : (holder security : ℕ) (account : Account)
-    → comes_before holder security account ≡ false
-    → is_account holder security account ≡ false
-    → comes_behind holder security account ≡ true
-other_is_behind holder security account from other = grind (arith, nat_tests)
-
--- of accounts in order, those before a place stand first
-pub IsPartitionedBy-accounts : (holder security : ℕ) (accounts : List Account)
+-- an account that is the holder's, of the security, stands at its place among accounts in order
+pub StandsAt-account : (holder security : ℕ) (accounts : List Account) (place : ℕ)
     → AreInOrder accounts
-    → IsPartitionedBy (comes_before holder security) accounts
-IsPartitionedBy-accounts holder security accounts in_order = λ i j d within short before.
-    elim (cases_eq i j) [
-      | inl at ↦ rw at before
-      | inr apart ↦ comes_before_back holder security (get_or accounts i d) (get_or accounts j d)
-          (in_order i j d (omega arith) short) before
-    ]
-
--- accounts in order are ranked by each holder and security
-IsRanked-accounts : (holder security : ℕ) (accounts : List Account)
-    → AreInOrder accounts
-    → IsRanked (comes_before holder security) (comes_behind holder security) accounts
-IsRanked-accounts holder security accounts in_order = record {
-  apart = comes_behind_apart holder security;
-  pairs = λ i j d earlier short from.
-      comes_behind_next holder security (get_or accounts i d) (get_or accounts j d)
-      (in_order i j d earlier short) from;
+    → place < length accounts
+    → HoldsAt (λ account. is_account holder security account ≡ true) accounts place
+    → StandsAt holder security accounts place
+StandsAt-account holder security accounts place in_order within own = record {
+  first = IsPlace-own account_key (holder, security) accounts place in_order within own;
+  within = within;
+  same = own;
 }
+
+-- so does one that has the key
+pub StandsAt-key : (holder security : ℕ) (accounts : List Account) (place : ℕ)
+    → AreInOrder accounts
+    → HasKeyAt pair_order account_key (holder, security) accounts place
+    → StandsAt holder security accounts place
+StandsAt-key holder security accounts place in_order has =
+    StandsAt-account holder security accounts place in_order has.within
+    (λ d. equal-is (account_key (get_or accounts place d)) (holder, security) (has.same d))
 
 -- an account stands where something is held
 account_of-some : (holder security held : ℕ)
@@ -119,9 +78,9 @@ pub with_held-write : (holder security held : ℕ) (accounts : List Account) (pl
     → set accounts place (account_with holder security held) ≡ with_held holder security held accounts
 with_held-write holder security held accounts place in_order stands some =
     let d : Account = account_with holder security held in
-    let ranked = IsRanked-accounts holder security accounts in_order in
+    let ranked = IsRanked-key account_key (holder, security) accounts in_order in
     let at = stands.first in
-    let own = same_not_behind holder security (get_or accounts place d) (stands.same d) in
+    let own = key_not_behind (account_key (get_or accounts place d)) (holder, security) (stands.same d) in
     set_split accounts place d stands.within
     ∙ sym (with_held-parts holder security held accounts _ _ _
     (take-place _ _ accounts place ranked at)
@@ -157,9 +116,9 @@ pub with_held-take_out : (holder security held : ℕ) (accounts : List Account) 
     → remove accounts place ≡ with_held holder security held accounts
 with_held-take_out holder security held accounts place in_order stands none =
     let d : Account = account_with holder security held in
-    let ranked = IsRanked-accounts holder security accounts in_order in
+    let ranked = IsRanked-key account_key (holder, security) accounts in_order in
     let at = stands.first in
-    let own = same_not_behind holder security (get_or accounts place d) (stands.same d) in
+    let own = key_not_behind (account_key (get_or accounts place d)) (holder, security) (stands.same d) in
     sym (with_held-parts holder security held accounts _ _ _
     (take-place _ _ accounts place ranked at)
     (account_of-none holder security held none)
@@ -171,10 +130,11 @@ missing_behind : (holder security : ℕ) (accounts : List Account) (place : ℕ)
     → IsMissingAt holder security accounts place
     → filter (comes_behind holder security) accounts ≡ drop place accounts
 missing_behind holder security accounts place in_order missing =
-    let ranked = IsRanked-accounts holder security accounts in_order in
+    let ranked = IsRanked-key account_key (holder, security) accounts in_order in
     let at = missing.first in
     drop-place_missing _ _ accounts place ranked at
-    (λ d short. other_is_behind holder security (get_or accounts place d) (at.stops d short) (missing.other d short))
+    (λ d short. other_behind (account_key (get_or accounts place d)) (holder, security) (at.stops d short)
+    (missing.other d short))
 
 -- where there is no account one is put in
 pub with_held-insert : (holder security held : ℕ) (accounts : List Account) (place : ℕ)
@@ -183,7 +143,7 @@ pub with_held-insert : (holder security held : ℕ) (accounts : List Account) (p
     → 0 < held
     → insert accounts place (account_with holder security held) ≡ with_held holder security held accounts
 with_held-insert holder security held accounts place in_order missing some =
-    let ranked = IsRanked-accounts holder security accounts in_order in
+    let ranked = IsRanked-key account_key (holder, security) accounts in_order in
     sym (with_held-parts holder security held accounts _ _ _
     (take-place _ _ accounts place ranked missing.first)
     (account_of-some holder security held some)
@@ -196,7 +156,7 @@ pub with_held-keep : (holder security held : ℕ) (accounts : List Account) (pla
     → held ≤ 0
     → accounts ≡ with_held holder security held accounts
 with_held-keep holder security held accounts place in_order missing none =
-    let ranked = IsRanked-accounts holder security accounts in_order in
+    let ranked = IsRanked-key account_key (holder, security) accounts in_order in
     sym (take-append-drop place accounts)
     ∙ sym (with_held-parts holder security held accounts _ _ _
     (take-place _ _ accounts place ranked missing.first)
@@ -238,8 +198,8 @@ pub with_held-none : (holder security held : ℕ) (accounts : List Account)
 with_held-none holder security held accounts in_order others none =
     sym (with_held-parts holder security held accounts _ _ _ refl (account_of-none holder security held none) refl
     ∙ parts_whole (comes_before holder security) (comes_behind holder security) accounts
-    (IsRanked-accounts holder security accounts in_order)
-    (λ k d short from. other_is_behind holder security (get_or accounts k d) from (others k d short)))
+    (IsRanked-key account_key (holder, security) accounts in_order)
+    (λ k d short from. other_behind (account_key (get_or accounts k d)) (holder, security) from (others k d short)))
 
 -- what holds of the holder's account of the security holds of what stands at its place
 pub All-account_of : (P : Account → Type 0) (holder security held : ℕ)
@@ -273,12 +233,14 @@ AreInOrder-with_held holder security held accounts in_order =
     AllPairs-put IsEarlier before behind
     (account_of holder security held) accounts in_order
     (AllPairs-account_of holder security held)
-    (comes_before_on holder security)
+    (λ one later. before_on (account_key one) (holder, security) (account_key later))
     (All-account_of Below holder security held (λ one is. is))
     (All-account_of Above holder security held (λ later is. is))
 
 -- in a redemption too
-pub AreInOrder-without : (other : ℕ) (accounts : List Account) → AreInOrder accounts → AreInOrder (without other accounts)
+pub AreInOrder-without : (other : ℕ) (accounts : List Account)
+    → AreInOrder accounts
+    → AreInOrder (without other accounts)
 AreInOrder-without other accounts in_order =
     AllPairs-filter IsEarlier (λ account. not (is_of other account)) accounts in_order
 

@@ -8,7 +8,9 @@ use Rattle.tb_units.proofs.PlaceLemmas.{filter_none}
 use Rattle.tb_units.proofs.SumLemmas.{sum_by-put, sum_by-filter, sum_by_agree, sum_by_none}
 use Rattle.tb_holdings.specs.declared.account.Account.{Account}
 use Rattle.tb_holdings.specs.Holdings.{is_account, is_of, comes_before, comes_behind, AreInOrder, HoldSomething, held_in, total_in, account_of, with_held, credited, moved, without}
-use Rattle.tb_holdings.proofs.AccountLemmas.{IsMissingAt, StandsAt, StandsOnce-account, with_held-keep, with_held-own}
+use Rattle.tb_holdings.proofs.AccountLemmas.{IsMissingAt, StandsAt, account_key, with_held-keep, with_held-own}
+use Rattle.tb_holdings.proofs.KeyLemmas.{StandsOnce-key}
+use Rattle.tb_holdings.proofs.WalkLemmas.{IsSum}
 
 -- what the account adds to what this holder holds of the security
 abbrev pub held_share : ℕ → ℕ → Account → ℕ
@@ -28,6 +30,10 @@ held_in-shares holder security accounts =
 total_in-shares : (security : ℕ) (accounts : List Account)
     → total_in security accounts ≡ sum_by (total_share security) accounts
 total_in-shares security accounts = sum_by-filter (λ account. account.held) (is_of security) accounts
+
+-- so the total is a sum
+pub IsSum-total : (security : ℕ) → IsSum (total_share security) (total_in security)
+IsSum-total security = record { is = total_in-shares security }
 
 -- a holder holds no more than all together
 pub held_in-le-total_in : (holder security : ℕ) (accounts : List Account)
@@ -106,7 +112,7 @@ held_in-with_held holder security held other other_security accounts =
     let test : Bool = other == holder && other_security == security in
     let put = sum_by-put (held_share other other_security)
     (comes_before holder security) (is_account holder security) (comes_behind holder security)
-    (StandsOnce-account holder security) (account_of holder security held) accounts in
+    (StandsOnce-key account_key (holder, security)) (account_of holder security held) accounts in
     let there = held_share-there holder security other other_security accounts in
     let added = held_share-account_of holder security held other other_security in
     let new = held_in-shares other other_security (with_held holder security held accounts) in
@@ -136,7 +142,7 @@ unfolding with_held
 total_in-with_held holder security held other accounts =
     let put = sum_by-put (total_share other)
     (comes_before holder security) (is_account holder security) (comes_behind holder security)
-    (StandsOnce-account holder security) (account_of holder security held) accounts in
+    (StandsOnce-key account_key (holder, security)) (account_of holder security held) accounts in
     let there = sum_by-filter (total_share other) (is_account holder security) accounts
     ∙ sum_by_agree _ _ accounts (total_share-other holder security other)
     ∙ kept_share (other == security) (held_share holder security) accounts

@@ -177,7 +177,8 @@ AreKept-with_left left_of less accounts marks redeemed paid kept = record {
   none_empty = kept.none_empty;
   marks_in_order = MarksAreInOrder-with_left left_of marks kept.marks_in_order;
   limited = kept.limited;
-  covered = λ holder security. le_trans (pledged_in-le left_of less holder security marks) (kept.covered holder security);
+  covered = λ holder security.
+      le_trans (pledged_in-le left_of less holder security marks) (kept.covered holder security);
   few_open = λ holder. le_trans (open_marks_in-le left_of less holder marks) (kept.few_open holder);
   none_redeemed = kept.none_redeemed;
   only_redeemed = kept.only_redeemed;
@@ -285,7 +286,8 @@ AreKept-redeemed security accounts marks redeemed paid kept live = record {
       omega arith;
   covered = covered_redeemed security accounts marks kept.covered;
   few_open = λ holder.
-      le_trans (open_marks_in-le (after_redemption security) (cleared_less security) holder marks) (kept.few_open holder);
+      le_trans (open_marks_in-le (after_redemption security) (cleared_less security) holder marks)
+      (kept.few_open holder);
   none_redeemed = none_redeemed_now security accounts redeemed kept.none_redeemed;
   only_redeemed = only_redeemed_now security accounts paid redeemed kept.only_redeemed;
   paid_limited = paid_limited_now security accounts marks redeemed paid kept live;

@@ -1,12 +1,11 @@
 pub mod PlaceLemmas
+pub mod KeyLemmas
+pub mod WalkLemmas
 pub mod AccountLemmas
-pub mod AccountKeyLemmas
 pub mod HoldingLemmas
 pub mod HolderLemmas
 pub mod MarkLemmas
-pub mod MarkKeyLemmas
 pub mod LeftLemmas
 pub mod KeptLemmas
 pub mod NextLemmas
-pub mod WalkLemmas
 pub mod RunLemmas

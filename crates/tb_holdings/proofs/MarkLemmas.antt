@@ -1,95 +1,45 @@
 -- Marks in order: which mark is found, what is pledged and how many are open after each change.
-use Rattle.std.proofs.Common.{◌≡◌, ◌≢◌, ◌⊎◌, ℕ, ◌+◌, ◌-◌, ◌<◌, ◌≤◌, true, false, not, cond, ◌&&◌, ◌==◌, nat_lt, if◌then◌else◌, List, [], ◌∷◌, ◌++◌, map, length, suc, get_or, set, take, drop, filter, find, insert, All, remove, sum_by, Option, Some, None, Bool, refl, ap, ap₂, sym, subst, ◌∙◌, inl, inr, append-nil, drop-cons, eqb-true, eq-eqb, ne_eqb, arith}
+use Rattle.std.proofs.Common.{◌≡◌, ◌≢◌, ◌⊎◌, ℕ, ◌+◌, ◌-◌, ◌<◌, ◌≤◌, true, false, not, cond, ◌&&◌, ◌==◌, nat_lt, if◌then◌else◌, List, [], ◌∷◌, ◌++◌, map, length, suc, get_or, set, take, drop, filter, find, insert, All, sum_by, Option, Some, None, Bool, refl, ap, ap₂, sym, subst, ◌∙◌, inl, inr, append-nil, drop-cons, eqb-true, eq-eqb, ne_eqb, arith}
 use Rattle.std.specs.Option.{option_map}
 use Rattle.std.proofs.lemmas.Bool.{cases_Bool, cases_eq, cases_lt, and_parts, and_from, cond-false, cond-true}
 use Rattle.std.proofs.lemmas.Bool.Decides.{nat_tests}
 use Rattle.std.proofs.lemmas.Grind.{get_or-set_at}
-use Rattle.std.proofs.lemmas.List.{take_all, drop_all, ext_get_or, get_or-drop, get_or-map, get_or-set_other, get_or-take, get_or_default, length-drop, length-map, length-set, length-take, take-append-drop, append_assoc, set-get_or, take_more}
+use Rattle.std.proofs.lemmas.List.{take_all, drop_all, ext_get_or, get_or-drop, get_or-map, get_or-set_other, get_or-take, get_or_default, length-drop, length-map, length-set, length-take, take-append-drop, set-get_or}
 use Rattle.std.proofs.lemmas.List.Edits.{map_over_more}
-use Rattle.std.proofs.lemmas.List.Elements.{All-nil, All-cons, All-head, All-tail, All-weaker, filter-append}
-use Rattle.std.proofs.Math.Seq.{get_or-append_seam, take-add}
-use Rattle.std.proofs.lemmas.List.Sums.{sum_by-append, sum_by-le-sum_by, sum_by-cons, sum_by-take-drop}
-use Rattle.tb_blocks.specs.Lists.{IsRun}
+use Rattle.std.proofs.lemmas.List.Elements.{All-nil, All-cons, All-head, All-tail, All-weaker}
+use Rattle.std.proofs.lemmas.List.Sums.{sum_by-le-sum_by, sum_by-cons}
 use Rattle.tb_units.specs.Places.{IsPlace}
 use Rattle.tb_units.proofs.ListLemmas.{AllPairs-put, AllPairs-one, AllPairs-head, AllPairs-tail, AllPairs-map}
-use Rattle.tb_units.proofs.PlaceLemmas.{IsRanked, take-place, drop-place_missing, filter_none, find_none, find_passes, find-le-sum_by, find-append_none, find-append_some, find-filter_all, find-filter_none}
-use Rattle.tb_units.proofs.SumLemmas.{StandsOnce, sum_by-put, sum_by-filter, sum_by-map, sum_by_agree, sum_by_none}
+use Rattle.tb_units.proofs.PlaceLemmas.{take-place, drop-place_missing, filter_none, find_none, find_passes, find-le-sum_by, find-append_none, find-append_some, find-filter_all, find-filter_none}
+use Rattle.tb_units.proofs.SumLemmas.{sum_by-put, sum_by-filter, sum_by-map, sum_by_agree, sum_by_none}
 use Rattle.tb_holdings.specs.declared.mark.KeptMark.{KeptMark}
 use Rattle.tb_holdings.specs.Marks.{MarkIsMissingAt, MarkStandsAt, is_mark, is_own, precedes, follows, IsEarlierMark, MarksAreInOrder, has_left, mark_in, pledges_par, pledged_in, is_open_of, open_marks_in, open_marks_beside, with_mark, left_at, with_left, after_release, released, after_redemption, cleared}
+use Rattle.tb_holdings.proofs.KeyLemmas.{IsRanked-key, StandsOnce-key, before_differs, before_on, behind_differs, behind_next, behind_other, behind_stops, other_behind}
+use Rattle.tb_holdings.proofs.WalkLemmas.{IsSum, figure-parts}
 
--- the order of holder and then number goes on over a third
-precedes_on : (holder number : ℕ) (one later : KeptMark)
-    → precedes holder number one ≡ true
-    → follows holder number later ≡ true
-    → precedes later.holder later.number one ≡ true
-precedes_on holder number one later before behind = grind (arith, nat_tests)
-
--- a mark behind one that doesn't stand before a place stands behind the place
-follows_next : (holder number : ℕ) (one later : KeptMark)
-    → IsEarlierMark one later
-    → precedes holder number one ≡ false
-    → follows holder number later ≡ true
-follows_next holder number one later earlier from = grind (arith, nat_tests)
-
--- what stands behind a place doesn't stand before it
-follows_apart : (holder number : ℕ) (mark : KeptMark)
-    → follows holder number mark ≡ true
-    → precedes holder number mark ≡ false
-follows_apart holder number mark behind = grind (arith, nat_tests)
-
--- another mark that doesn't stand before the place stands behind it
-other_follows : (holder number : ℕ) (mark : KeptMark)
-    → precedes holder number mark ≡ false
-    → is_mark holder number mark ≡ false
-    → follows holder number mark ≡ true
-other_follows holder number mark from other = grind (arith, nat_tests)
-
--- each mark stands before the place of a holder and number, at it or behind it
-StandsOnce-mark : (holder number : ℕ)
-    → StandsOnce (precedes holder number) (is_mark holder number) (follows holder number)
-StandsOnce-mark holder number = λ mark. grind (arith, nat_tests)
-
--- marks in order are ranked by each holder and number
-IsRanked-marks : (holder number : ℕ) (marks : List KeptMark)
-    → MarksAreInOrder marks
-    → IsRanked (precedes holder number) (follows holder number) marks
-IsRanked-marks holder number marks in_order = record {
-  apart = follows_apart holder number;
-  pairs = λ i j d earlier short from.
-      follows_next holder number (get_or marks i d) (get_or marks j d) (in_order i j d earlier short) from;
-}
-
--- a mark that stands before a place isn't the one of that name
-precedes_other : (holder number : ℕ) (mark : KeptMark)
-    → precedes holder number mark ≡ true
-    → is_mark holder number mark ≡ false
-precedes_other holder number mark before = grind (arith, nat_tests)
-
--- nor is one that stands behind it
-follows_other : (holder number : ℕ) (mark : KeptMark)
-    → follows holder number mark ≡ true
-    → is_mark holder number mark ≡ false
-follows_other holder number mark behind = grind (arith, nat_tests)
+-- the key of a mark
+abbrev pub mark_key : KeptMark → ℕ × ℕ
+mark_key mark = (mark.holder, mark.number)
 
 -- a mark in front of the place isn't the one of that name
 front_other : (holder number : ℕ) (marks : List KeptMark) (place : ℕ)
     → IsPlace (precedes holder number) marks place
     → All (λ mark. is_mark holder number mark ≡ false) (take place marks)
 front_other holder number marks place first =
-    All-weaker _ (λ mark. is_mark holder number mark ≡ false) (precedes_other holder number) (take place marks)
-    first.passed
+    All-weaker _ (λ mark. is_mark holder number mark ≡ false)
+    (λ mark before. before_differs (mark_key mark) (holder, number) before) (take place marks) first.passed
 
 -- a mark behind the place isn't the one of that name
-behind_other : (holder number : ℕ) (marks : List KeptMark) (place k : ℕ) (d : KeptMark)
+no_other_behind : (holder number : ℕ) (marks : List KeptMark) (place k : ℕ) (d : KeptMark)
     → MarksAreInOrder marks
     → IsPlace (precedes holder number) marks place
     → place < k
     → k < length marks
     → is_mark holder number (get_or marks k d) ≡ false
-behind_other holder number marks place k d in_order first later short =
-    follows_other holder number (get_or marks k d)
-    (follows_next holder number (get_or marks place d) (get_or marks k d) (in_order place k d later short)
-    (first.stops d (omega (arith, later, short))))
+no_other_behind holder number marks place k d in_order first later short =
+    behind_differs (holder, number) (mark_key (get_or marks k d))
+    (behind_next (mark_key (get_or marks place d)) (holder, number) (mark_key (get_or marks k d))
+    (in_order place k d later short) (first.stops d (omega (arith, later, short))))
 
 -- a mark is the one of its own name
 pub is_mark-own : (mark : KeptMark) → is_mark mark.holder mark.number mark ≡ true
@@ -108,7 +58,7 @@ others_apart holder number marks place k d in_order first apart short =
           let read = get_or-take place marks k d inside in
           subst (λ (mark : KeptMark). is_mark holder number mark ≡ false) read
           (front_other holder number marks place first k d (omega (arith, length-take place marks, inside, short)))
-      | inr past ↦ behind_other holder number marks place k d in_order first (omega (arith, past, apart)) short
+      | inr past ↦ no_other_behind holder number marks place k d in_order first (omega (arith, past, apart)) short
     ]
 
 -- nothing is found where no mark passes
@@ -236,9 +186,9 @@ own_from holder marks first k d in_order place from short =
           rw at (place.stops d here)
       | inr apart ↦
           let later : first < k = omega (arith, from, apart) in
-          follows_apart holder 0 (get_or marks k d)
-          (follows_next holder 0 (get_or marks first d) (get_or marks k d) (in_order first k d later short)
-          (place.stops d (omega (arith, later, short))))
+          behind_stops (holder, 0) (mark_key (get_or marks k d))
+          (behind_next (mark_key (get_or marks first d)) (holder, 0) (mark_key (get_or marks k d))
+          (in_order first k d later short) (place.stops d (omega (arith, later, short))))
     ]
 
 -- before it none is the holder's
@@ -267,13 +217,6 @@ own-behind holder marks first place in_order from later other = λ k d short.
           (in_order place (place + k) d (omega (arith, apart)) (omega (arith, long, short)))
     ])
 
--- the marks up to the end of a run that begins at the place
-run_on : (marks run : List KeptMark) (place : ℕ)
-    → IsRun place marks run
-    → take (place + length run) marks ≡ take place marks ++ run
-run_on marks run place is =
-    take-add place (length run) marks ∙ ap (λ (ms : List KeptMark). take place marks ++ ms) (sym is.is)
-
 -- a sum over the marks that pass is that over all, where the others count for nothing
 sum_by-part : (test : KeptMark → Bool) (f : KeptMark → ℕ) (marks : List KeptMark)
     → ((mark : KeptMark) → test mark ≡ false → f mark ≡ 0)
@@ -294,12 +237,12 @@ pub with_mark-insert : (mark : KeptMark) (marks : List KeptMark) (place : ℕ)
     → insert marks place mark ≡ with_mark mark marks
 unfolding with_mark
 with_mark-insert mark marks place in_order new at =
-    let ranked = IsRanked-marks mark.holder mark.number marks in_order in
+    let ranked = IsRanked-key mark_key (mark_key mark) marks in_order in
     let others = find_none (is_mark mark.holder mark.number) marks new in
     let front = take-place _ _ marks place ranked at in
     let back = drop-place_missing _ _ marks place ranked at
-    (λ d short. other_follows mark.holder mark.number (get_or marks place d)
-    (at.stops d short) (others place d short)) in
+    (λ d short. other_behind (mark_key (get_or marks place d)) (mark_key mark) (at.stops d short)
+    (others place d short)) in
     sym (λ i. front i ++ mark ∷ back i)
 
 -- the marks stay in order with it
@@ -313,7 +256,7 @@ MarksAreInOrder-with_mark mark marks in_order =
     let Below : KeptMark → Type 0 = λ later. (one : KeptMark) → before one ≡ true → IsEarlierMark one later in
     let Above : KeptMark → Type 0 = λ one. (later : KeptMark) → behind later ≡ true → IsEarlierMark one later in
     AllPairs-put IsEarlierMark before behind (mark ∷ []) marks in_order (AllPairs-one IsEarlierMark mark)
-    (precedes_on mark.holder mark.number)
+    (λ one later. before_on (mark_key one) (mark_key mark) (mark_key later))
     (All-cons Below mark [] (λ one is. is) (All-nil Below))
     (All-cons Above mark [] (λ later is. is) (All-nil Above))
 
@@ -336,108 +279,61 @@ pledged_in-shares holder security marks = sum_by-filter (λ mark. mark.left) (pl
 abbrev pub open_share : ℕ → KeptMark → ℕ
 open_share holder mark = cond (is_open_of holder mark) 1 0
 
--- what is pledged stands among the holder's marks
-pledged_in-own : (holder security : ℕ) (marks : List KeptMark)
-    → pledged_in holder security (filter (is_own holder) marks) ≡ pledged_in holder security marks
-pledged_in-own holder security marks =
-    pledged_in-shares holder security (filter (is_own holder) marks)
-    ∙ (sum_by-part (is_own holder) (left_share holder security) marks
-    (λ mark other. ap (λ b. cond (b && mark.security == security) mark.left 0) other)
-    ∙ sym (pledged_in-shares holder security marks))
+-- a figure of marks is a sum to which only the holder's marks add something
+pub record IsOwnSum (holder : ℕ) (share : KeptMark → ℕ) (figure : List KeptMark → ℕ) : Type 0 where
+  pub sum : IsSum share figure
+  pub others : (mark : KeptMark) → is_own holder mark ≡ false → share mark ≡ 0
 
--- and so does what is open
-open_marks_in-own : (holder : ℕ) (marks : List KeptMark)
-    → open_marks_in holder (filter (is_own holder) marks) ≡ open_marks_in holder marks
-open_marks_in-own holder marks =
-    sum_by-part (is_own holder) (open_share holder) marks
-    (λ mark other. ap (λ b. cond (b && nat_lt 0 mark.left) 1 0) other)
+-- as what the holder pledged
+pub IsOwnSum-pledged : (holder security : ℕ)
+    → IsOwnSum holder (left_share holder security) (pledged_in holder security)
+IsOwnSum-pledged holder security = record {
+  sum = record { is = pledged_in-shares holder security };
+  others = λ mark other. ap (λ b. cond (b && mark.security == security) mark.left 0) other;
+}
 
--- what is pledged in a list and a second one behind it
-pledged_in-append : (holder security : ℕ) (front back : List KeptMark)
-    → pledged_in holder security (front ++ back) ≡ pledged_in holder security front + pledged_in holder security back
-pledged_in-append holder security front back =
-    ap (sum_by (λ (mark : KeptMark). mark.left)) (filter-append (pledges_par holder security) front back)
-    ∙ sum_by-append (λ mark. mark.left) (filter (pledges_par holder security) front)
-    (filter (pledges_par holder security) back)
+-- and how many of its marks are open
+pub IsOwnSum-open : (holder : ℕ) → IsOwnSum holder (open_share holder) (open_marks_in holder)
+IsOwnSum-open holder = record {
+  sum = record { is = λ marks. refl };
+  others = λ mark other. ap (λ b. cond (b && nat_lt 0 mark.left) 1 0) other;
+}
 
--- nothing of the holder's is pledged by others' marks
-pledged_in-others : (holder security : ℕ) (marks : List KeptMark)
+-- of others' marks it is nothing
+figure-others : (holder : ℕ) (share : KeptMark → ℕ) (figure : List KeptMark → ℕ) (marks : List KeptMark)
+    → IsOwnSum holder share figure
     → All (λ mark. is_own holder mark ≡ false) marks
-    → pledged_in holder security marks ≡ 0
-pledged_in-others holder security marks others =
-    sym (pledged_in-own holder security marks)
-    ∙ ap (pledged_in holder security) (filter_none (is_own holder) marks others)
+    → figure marks ≡ 0
+figure-others holder share figure marks own others =
+    own.sum.is marks
+    ∙ (sym (sum_by-part (is_own holder) share marks own.others)
+    ∙ ap (sum_by share) (filter_none (is_own holder) marks others))
 
--- nor is one of them open for it
-open_marks_in-others : (holder : ℕ) (marks : List KeptMark)
-    → All (λ mark. is_own holder mark ≡ false) marks
-    → open_marks_in holder marks ≡ 0
-open_marks_in-others holder marks others =
-    sym (open_marks_in-own holder marks) ∙ ap (open_marks_in holder) (filter_none (is_own holder) marks others)
-
--- before the holder's first mark it has pledged nothing
-pub pledged_in-first : (holder security : ℕ) (marks : List KeptMark) (first : ℕ)
+-- so before the holder's first mark it is nothing
+pub figure-first : (holder : ℕ) (share : KeptMark → ℕ) (figure : List KeptMark → ℕ) (marks : List KeptMark) (first : ℕ)
+    → IsOwnSum holder share figure
     → IsPlace (precedes holder 0) marks first
-    → pledged_in holder security (take first marks) ≡ 0
-pledged_in-first holder security marks first place =
-    pledged_in-others holder security (take first marks) (own-before holder marks first place)
+    → figure (take first marks) ≡ 0
+figure-first holder share figure marks first own place =
+    figure-others holder share figure (take first marks) own (own-before holder marks first place)
 
--- and has no open mark
-pub open_marks_in-first : (holder : ℕ) (marks : List KeptMark) (first : ℕ)
-    → IsPlace (precedes holder 0) marks first
-    → open_marks_in holder (take first marks) ≡ 0
-open_marks_in-first holder marks first place =
-    open_marks_in-others holder (take first marks) (own-before holder marks first place)
+-- a walk over the holder's marks, which begin at the first, came to another's mark at the place, or to the end
+pub record IsPastOwn (holder : ℕ) (marks : List KeptMark) (first place : ℕ) : Type 0 where
+  pub in_order : MarksAreInOrder marks
+  pub begun : IsPlace (precedes holder 0) marks first
+  pub from : first ≤ place
+  pub other : (d : KeptMark) → place < length marks → is_own holder (get_or marks place d) ≡ false
 
--- what is pledged up to the end of a run that begins at the place
-pub pledged_in-run : (holder security : ℕ) (marks run : List KeptMark) (place : ℕ)
-    → IsRun place marks run
-    → pledged_in holder security (take (place + length run) marks)
-    ≡ pledged_in holder security (take place marks) + pledged_in holder security run
-pledged_in-run holder security marks run place is =
-    ap (pledged_in holder security) (run_on marks run place is)
-    ∙ pledged_in-append holder security (take place marks) run
-
--- how many are open up to there
-pub open_marks_in-run : (holder : ℕ) (marks run : List KeptMark) (place : ℕ)
-    → IsRun place marks run
-    → open_marks_in holder (take (place + length run) marks)
-    ≡ open_marks_in holder (take place marks) + open_marks_in holder run
-open_marks_in-run holder marks run place is =
-    ap (open_marks_in holder) (run_on marks run place is)
-    ∙ sum_by-append (open_share holder) (take place marks) run
-
--- what is pledged before a place and from it on
-pub pledged_in-part : (holder security : ℕ) (marks : List KeptMark) (place : ℕ)
-    → pledged_in holder security (take place marks) + pledged_in holder security (drop place marks)
-    ≡ pledged_in holder security marks
-pledged_in-part holder security marks place =
-    sym (pledged_in-append holder security (take place marks) (drop place marks))
-    ∙ ap (pledged_in holder security) (take-append-drop place marks)
-
--- before the first mark of another holder stands all that the holder pledged
-pub pledged_in-all : (holder security : ℕ) (marks : List KeptMark) (first place : ℕ)
-    → MarksAreInOrder marks
-    → IsPlace (precedes holder 0) marks first
-    → first ≤ place
-    → ((d : KeptMark) → place < length marks → is_own holder (get_or marks place d) ≡ false)
-    → pledged_in holder security (take place marks) ≡ pledged_in holder security marks
-pledged_in-all holder security marks first place in_order from later other =
-    let none = pledged_in-others holder security (drop place marks)
-    (own-behind holder marks first place in_order from later other) in
-    omega (arith, none, pledged_in-part holder security marks place)
-
--- and all its open marks
-pub open_marks_in-all : (holder : ℕ) (marks : List KeptMark) (first place : ℕ)
-    → MarksAreInOrder marks
-    → IsPlace (precedes holder 0) marks first
-    → first ≤ place
-    → ((d : KeptMark) → place < length marks → is_own holder (get_or marks place d) ≡ false)
-    → open_marks_in holder (take place marks) ≡ open_marks_in holder marks
-open_marks_in-all holder marks first place in_order from later other =
-    let none = open_marks_in-others holder (drop place marks)
-    (own-behind holder marks first place in_order from later other) in
-    omega (arith, none, sum_by-take-drop (open_share holder) marks place)
+-- then before the place it is that of all marks
+pub figure-all : (holder : ℕ) (share : KeptMark → ℕ) (figure : List KeptMark → ℕ) (marks : List KeptMark)
+    (first place : ℕ)
+    → IsOwnSum holder share figure
+    → IsPastOwn holder marks first place
+    → figure (take place marks) ≡ figure marks
+figure-all holder share figure marks first place own past =
+    let none = figure-others holder share figure (drop place marks) own
+    (own-behind holder marks first place past.in_order past.begun past.from past.other) in
+    omega (arith, none, figure-parts share figure marks place own.sum)
 
 -- what is pledged stands among the marks of which something is left
 pub pledged_in-left : (holder security : ℕ) (marks live : List KeptMark)
@@ -465,8 +361,9 @@ unfolding with_mark
 sum_by-with_mark f mark marks new =
     let named : KeptMark → Bool = is_mark mark.holder mark.number in
     let put = sum_by-put f (precedes mark.holder mark.number) named (follows mark.holder mark.number)
-    (StandsOnce-mark mark.holder mark.number) (mark ∷ []) marks in
-    let none : sum_by f (filter named marks) ≡ 0 = ap (sum_by f) (filter_none named marks (find_none named marks new)) in
+    (StandsOnce-key mark_key (mark_key mark)) (mark ∷ []) marks in
+    let none : sum_by f (filter named marks) ≡ 0 =
+    ap (sum_by f) (filter_none named marks (find_none named marks new)) in
     omega (arith, put, none, sum_by-cons f mark [])
 
 -- what is pledged with a new mark
@@ -556,7 +453,8 @@ with_left-kept left_of marks written i d short long so_far is =
 pub with_left-all : (left_of : KeptMark → ℕ) (marks : List KeptMark) (i : ℕ)
     → length marks ≤ i
     → map (left_at left_of) (take i marks) ++ drop i marks ≡ with_left left_of marks
-with_left-all left_of marks i all = rw (take_all i marks all, drop_all i marks all) (append-nil (map (left_at left_of) marks))
+with_left-all left_of marks i all =
+    rw (take_all i marks all, drop_all i marks all) (append-nil (map (left_at left_of) marks))
 
 -- a release leaves no more than was left
 pub released_less : (holder number par : ℕ) (mark : KeptMark) → after_release holder number par mark ≤ mark.left
@@ -583,39 +481,6 @@ cleared_same security mark (inl none) =
 cleared_same security mark (inr other) =
     cond-false (mark.security == security) 0 mark.left (ne_eqb mark.security security other)
 
--- the element behind a list's first part is taken out
-remove-behind : (front back : List KeptMark) (mark : KeptMark)
-    → remove (front ++ mark ∷ back) (length front) ≡ front ++ back
-remove-behind [] back mark = refl
-remove-behind (first ∷ front) back mark =
-    ap (λ (ms : List KeptMark). first ∷ ms) (remove-behind front back mark)
-
--- a walk from the end takes out the marks that fail the test, and the next one fails
-pub taken-out : (test : KeptMark → Bool) (marks walked : List KeptMark) (place : ℕ) (d : KeptMark)
-    → place < length marks
-    → walked ≡ take (place + 1) marks ++ filter test (drop (place + 1) marks)
-    → test (get_or walked place d) ≡ false
-    → remove walked place ≡ take place marks ++ filter test (drop place marks)
-taken-out test marks walked place d short so_far fails =
-    let mark : KeptMark = get_or marks place d in
-    let front : List KeptMark = take place marks in
-    let back : List KeptMark = filter test (drop (place + 1) marks) in
-    let long : length front ≡ place = omega (arith, length-take place marks, short) in
-    let next : suc place ≡ place + 1 = omega arith in
-    let split : walked ≡ front ++ mark ∷ back =
-    so_far
-    ∙ (ap (λ (ms : List KeptMark). ms ++ back) (take_more marks place d short)
-    ∙ append_assoc front (mark ∷ []) back) in
-    let read : get_or walked place d ≡ mark =
-    ap (λ (ms : List KeptMark). get_or ms place d) split
-    ∙ (ap (λ (n : ℕ). get_or (front ++ mark ∷ back) n d) (sym long) ∙ get_or-append_seam front mark back d) in
-    ap (λ (ms : List KeptMark). remove ms place) split
-    ∙ (ap (remove (front ++ mark ∷ back)) (sym long)
-    ∙ (remove-behind front back mark
-    ∙ ap (λ (ms : List KeptMark). front ++ ms)
-    (sym (ap (filter test) (drop-cons marks place d short ∙ ap (λ (n : ℕ). mark ∷ drop n marks) next)
-    ∙ cond-false (test mark) (mark ∷ back) back (ap test (sym read) ∙ fails)))))
-
 -- nothing is left of the marks of a redeemed security
 pub pledged_in-cleared : (holder security : ℕ) (marks : List KeptMark)
     → pledged_in holder security (cleared security marks) ≡ 0
@@ -632,7 +497,8 @@ cleared_share : (holder security other : ℕ) (mark : KeptMark)
 cleared_share holder security other mark differs =
     elim (cases_Bool (pledges_par holder other mark)) [
       | inl own ↦
-          let is_other = eqb-true mark.security other (and_parts (mark.holder == holder) (mark.security == other) own).1 in
+          let is_other = eqb-true mark.security other
+          (and_parts (mark.holder == holder) (mark.security == other) own).1 in
           let not_it : (mark.security == security) ≡ false =
           ne_eqb mark.security security (λ same. differs (sym is_other ∙ same)) in
           ap (λ n. cond (pledges_par holder other mark) n 0) (cond-false (mark.security == security) 0 mark.left not_it)
@@ -700,7 +566,8 @@ mark_in-with_left left_of holder number (mark ∷ marks) =
 -- of the mark that was found so much is left after a release of it
 released_here : (holder number par : ℕ) (marks : List KeptMark) (found : Option KeptMark)
     → mark_in holder number marks ≡ found
-    → option_map (left_at (after_release holder number par)) found ≡ option_map (left_at (λ mark. mark.left - par)) found
+    → option_map (left_at (after_release holder number par)) found
+    ≡ option_map (left_at (λ mark. mark.left - par)) found
 released_here holder number par marks None is = refl
 released_here holder number par marks (Some mark) is =
     ap (λ n. Some (record mark { left = n }))
@@ -779,7 +646,8 @@ mark_in-with_mark_other mark marks holder number other =
     let behind : KeptMark → Bool = follows mark.holder mark.number in
     let front : List KeptMark = filter before marks in
     let back : List KeptMark = filter behind marks in
-    let step : find named (mark ∷ back) ≡ find named back = cond-false (named mark) (Some mark) (find named back) other in
+    let step : find named (mark ∷ back) ≡ find named back =
+    cond-false (named mark) (Some mark) (find named back) other in
     elim (cases_Bool (name_precedes holder number mark)) [
       | inl earlier ↦
           let kept : find named front ≡ find named marks =
@@ -793,13 +661,6 @@ mark_in-with_mark_other mark marks holder number other =
           ∙ (step
           ∙ find-filter_all named behind (λ one is. named_follows holder number mark one is later other) marks)
     ]
-
--- no two marks are of one holder and number
-pub named_once : (holder number : ℕ) (one later : KeptMark)
-    → IsEarlierMark one later
-    → is_mark holder number one ≡ true
-    → is_mark holder number later ≡ false
-named_once holder number one later order is = grind (arith, nat_tests)
 
 -- of the mark itself par less is left
 released_own : (holder number par : ℕ) (mark : KeptMark)
@@ -825,7 +686,7 @@ sum_by-released f holder number par (one ∷ marks) mark in_order found =
           sym (cond-true (is_mark holder number one) (Some one) (mark_in holder number marks) own) ∙ found in
           let same : one ≡ mark = cc in
           let others : released holder number par marks ≡ marks = released_none holder number par marks
-          (λ k d short. named_once holder number one (get_or marks k d)
+          (λ k d short. behind_other (mark_key one) (mark_key (get_or marks k d)) (holder, number)
           (AllPairs-head IsEarlierMark one marks in_order k d short) own) in
           omega (
             arith,
@@ -854,9 +715,11 @@ pub pledged_in-released : (holder number par : ℕ) (marks : List KeptMark) (mar
 pledged_in-released holder number par marks mark in_order found enough other other_security =
     let share : KeptMark → ℕ = left_share other other_security in
     let sum = sum_by-released share holder number par marks mark in_order found in
-    let part : share (left_at (λ kept. kept.left - par) mark) + (if pledges_par other other_security mark then par else 0)
+    let part : share (left_at (λ kept. kept.left - par) mark)
+    + (if pledges_par other other_security mark then par else 0)
     ≡ share mark =
-    elim (pledges_par other other_security mark) as (λ b. cond b (mark.left - par) 0 + cond b par 0 ≡ cond b mark.left 0) [
+    elim (pledges_par other other_security mark) as
+    (λ b. cond b (mark.left - par) 0 + cond b par 0 ≡ cond b mark.left 0) [
       | true ↦ omega arith
       | false ↦ omega arith
     ] in

@@ -6,7 +6,7 @@ use Rattle.std.proofs.lemmas.List.{get_or-take, get_or_default, length-take}
 use Rattle.tb_units.specs.Places.{IsPlace}
 use Rattle.tb_holdings.specs.declared.account.Account.{Account}
 use Rattle.tb_holdings.specs.Holdings.{is_account, comes_before, comes_behind, IsEarlier, AreInOrder, HoldSomething, held_in}
-use Rattle.tb_holdings.proofs.AccountKeyLemmas.{StandsAt-account}
+use Rattle.tb_holdings.proofs.AccountLemmas.{StandsAt-account}
 use Rattle.tb_holdings.proofs.HoldingLemmas.{held_in-nothing, held_in-stands}
 
 -- what stands before a security is of none from that on
@@ -68,7 +68,8 @@ none_before holder first security accounts place in_order at from behind = λ k 
       | inl inside ↦
           let within = at.within in
           before_apart holder first security (get_or accounts k d) from
-          (subst (λ (account : Account). comes_before holder first account ≡ true) (get_or-take place accounts k d inside)
+          (subst (λ (account : Account). comes_before holder first account ≡ true)
+          (get_or-take place accounts k d inside)
           (at.passed k d (omega (arith, length-take place accounts, inside, within))))
       | inr past ↦ elim (cases_eq k place) [
         | inl here ↦
@@ -103,7 +104,8 @@ pub held_in-between : (holder first security : ℕ) (accounts : List Account) (p
     → held_in holder security accounts ≡ 0
 held_in-between holder first security accounts place account in_order at is own from less =
     held_in-none holder first security accounts place in_order at from
-    (λ d within. rw (get_or_default accounts place d account within, ← is) (own_behind holder security account own less))
+    (λ d within. rw (get_or_default accounts place d account within, ← is)
+    (own_behind holder security account own less))
 
 -- nor of any from that on where another's account is at the place
 pub held_in-past : (holder first security : ℕ) (accounts : List Account) (place : ℕ) (account : Account)

@@ -1,124 +1,116 @@
--- Walks over accounts: run by run, and from the last to the first as those of a security are taken out.
-use Rattle.std.proofs.Common.{◌≡◌, ℕ, ◌+◌, ◌<◌, ◌≤◌, true, not, Option, List, ◌∷◌, ◌++◌, length, get_or, take, drop, suc, filter, remove, IfSome, IsNone, ap, ap₂, sym, subst, ◌∙◌, drop-cons, drop_at, length-append, arith}
-use Rattle.std.specs.List.{HoldsAt}
-use Rattle.std.specs.declared.cmp.Ordering.TheVariants.{Equal}
+-- Walks over a list: run by run, and from the last element to the first as those that fail a test are taken out.
+use Rattle.std.proofs.Common.{◌≡◌, ℕ, ◌+◌, ◌<◌, ◌≤◌, Bool, false, List, ◌∷◌, ◌++◌, length, get_or, take, drop, suc, filter, remove, sum_by, ap, ap₂, sym, ◌∙◌, drop-cons, drop_at, length-append, arith}
 use Rattle.std.proofs.Math.Seq.{take-add}
 use Rattle.std.proofs.lemmas.Bool.{cond-false}
-use Rattle.std.proofs.lemmas.Bool.Decides.{nat_tests}
-use Rattle.std.proofs.lemmas.List.{append_assoc, get_or_append_left, get_or-take, get_or_default, length-take-le, take-append-drop, take-append-le, take-take}
+use Rattle.std.proofs.lemmas.List.{append_assoc, get_or_append_left, get_or-take, length-take-le, take-append-le, take-take}
 use Rattle.std.proofs.lemmas.List.Elements.{filter-append}
+use Rattle.std.proofs.lemmas.List.Sums.{sum_by-append, sum_by-take-drop}
 use Rattle.tb_blocks.specs.Lists.{IsRun}
-use Rattle.tb_blocks.specs.Orders.{HasKey, IsRemoved}
-use Rattle.tb_holdings.specs.declared.account.Account.{Account}
-use Rattle.tb_holdings.specs.Holdings.{is_account, is_of, AreInOrder, total_in, without}
-use Rattle.tb_holdings.proofs.AccountLemmas.{with_held-take_out}
-use Rattle.tb_holdings.proofs.AccountKeyLemmas.{StandsAt-account, account_key, equal-own, key_order, pair_order, with_held-removed}
-use Rattle.tb_holdings.proofs.HoldingLemmas.{total_in-append}
 
--- the accounts up to the end of a run are those before it and the run
-take-run : (place : ℕ) (accounts run : List Account)
-    → IsRun place accounts run
-    → take (place + length run) accounts ≡ take place accounts ++ run
-take-run place accounts run is =
-    take-add place (length run) accounts ∙ ap (λ (xs : List Account). take place accounts ++ xs) (sym is.is)
+-- the elements up to the end of a run are those before it and the run
+pub take-run : {X : Type 0} (place : ℕ) (xs run : List X)
+    → IsRun place xs run
+    → take (place + length run) xs ≡ take place xs ++ run
+take-run place xs run is = take-add place (length run) xs ∙ ap (λ rest. take place xs ++ rest) (sym is.is)
 
--- what all hold up to the end of a run
-pub total_in-run : (security place : ℕ) (accounts run : List Account)
-    → IsRun place accounts run
-    → total_in security (take (place + length run) accounts)
-    ≡ total_in security (take place accounts) + total_in security run
-total_in-run security place accounts run is =
-    ap (total_in security) (take-run place accounts run is) ∙ total_in-append security (take place accounts) run
+-- a figure of a list is the sum of its elements' shares
+pub record IsSum {X : Type 0} (share : X → ℕ) (figure : List X → ℕ) : Type 0 where
+  pub is : (xs : List X) → figure xs ≡ sum_by share xs
 
--- what all hold up to a place is part of what they hold
-pub total_in-take : (security place : ℕ) (accounts : List Account)
-    → total_in security (take place accounts) ≤ total_in security accounts
-total_in-take security place accounts =
+-- what a walk counted once it passes a run at the place
+pub record IsCounted {X : Type 0} (figure : List X → ℕ) (place : ℕ) (xs run : List X) : Type 0 where
+  -- the run's figure is added
+  pub more : figure (take (place + length run) xs) ≡ figure (take place xs) + figure run
+  -- which makes no more than that of all
+  pub part : figure (take (place + length run) xs) ≤ figure xs
+
+-- a sum up to a place and from it on
+pub figure-parts : {X : Type 0} (share : X → ℕ) (figure : List X → ℕ) (xs : List X) (place : ℕ)
+    → IsSum share figure
+    → figure (take place xs) + figure (drop place xs) ≡ figure xs
+figure-parts share figure xs place sum =
     omega (
       arith,
-      total_in-append security (take place accounts) (drop place accounts),
-      ap (total_in security) (take-append-drop place accounts),
+      sum.is (take place xs),
+      sum.is (drop place xs),
+      sum.is xs,
+      sum_by-take-drop share xs place,
     )
 
--- those of a security up to the end of a run
-pub filter-run : (security place : ℕ) (paid accounts run : List Account)
-    → IsRun place accounts run
-    → (paid ++ filter (is_of security) (take place accounts)) ++ filter (is_of security) run
-    ≡ paid ++ filter (is_of security) (take (place + length run) accounts)
-filter-run security place paid accounts run is =
-    append_assoc paid (filter (is_of security) (take place accounts)) (filter (is_of security) run)
-    ∙ ap (λ (xs : List Account). paid ++ xs)
-    (sym (ap (filter (is_of security)) (take-run place accounts run is)
-    ∙ filter-append (is_of security) (take place accounts) run))
+-- a sum is counted run by run
+pub IsCounted-run : {X : Type 0} (share : X → ℕ) (figure : List X → ℕ) (place : ℕ) (xs run : List X)
+    → IsSum share figure
+    → IsRun place xs run
+    → IsCounted figure place xs run
+IsCounted-run share figure place xs run sum is = record {
+  more = omega (
+    arith,
+    ap figure (take-run place xs run is),
+    sum.is (take place xs ++ run),
+    sum.is (take place xs),
+    sum.is run,
+    sum_by-append share (take place xs) run,
+  );
+  part = omega (arith, figure-parts share figure xs (place + length run) sum);
+}
 
--- the accounts once those of a security are taken out from the place on
-abbrev pub cleared_from : ℕ → ℕ → List Account → List Account
-cleared_from security place accounts = take place accounts ++ without security (drop place accounts)
+-- what passes the test up to the end of a run, put behind others
+pub filter-run : {X : Type 0} (test : X → Bool) (place : ℕ) (others xs run : List X)
+    → IsRun place xs run
+    → (others ++ filter test (take place xs)) ++ filter test run ≡ others ++ filter test (take (place + length run) xs)
+filter-run test place others xs run is =
+    append_assoc others (filter test (take place xs)) (filter test run)
+    ∙ ap (λ rest. others ++ rest)
+    (sym (ap (filter test) (take-run place xs run is) ∙ filter-append test (take place xs) run))
 
--- as many accounts are left at least as stand before the place
-pub length-cleared_from : (security place : ℕ) (accounts : List Account)
-    → place ≤ length accounts
-    → place ≤ length (cleared_from security place accounts)
-length-cleared_from security place accounts within =
+-- the list once what fails the test is taken out from the place on
+abbrev pub kept_from : {X : Type 0} → (X → Bool) → ℕ → List X → List X
+kept_from test place xs = take place xs ++ filter test (drop place xs)
+
+-- a walk from the end came down to the place, and took out what fails the test
+pub record IsWalked {X : Type 0} (test : X → Bool) (place : ℕ) (xs left : List X) : Type 0 where
+  pub is : left ≡ kept_from test place xs
+  pub within : place ≤ length xs
+
+-- what stands before the place is left
+pub length-walked : {X : Type 0} (test : X → Bool) (place : ℕ) (xs left : List X)
+    → IsWalked test place xs left
+    → place ≤ length left
+length-walked test place xs left walked =
     omega (
       arith,
-      length-take-le place accounts within,
-      length-append (take place accounts) (without security (drop place accounts)),
+      ap length walked.is,
+      length-take-le place xs walked.within,
+      length-append (take place xs) (filter test (drop place xs)),
     )
 
--- an account is the holder's own, of its security
-own-itself : (account : Account) → is_account account.holder account.security account ≡ true
-own-itself account = grind (arith, nat_tests)
-
--- what stands in front of the place still stands there
-pub cleared_from-at : (security place after : ℕ) (accounts : List Account) (d : Account)
-    → place < after
-    → after ≤ length accounts
-    → get_or (cleared_from security after accounts) place d ≡ get_or accounts place d
-cleared_from-at security place after accounts d earlier within =
-    let long = length-take-le after accounts within in
-    get_or_append_left (take after accounts) (without security (drop after accounts)) d place (omega (arith, long, earlier))
-    ∙ get_or-take after accounts place d earlier
-
--- once the last account in front of the place is taken out too, so are those from its own place on
-pub cleared_from-of : (security place after : ℕ) (accounts : List Account) (d : Account)
+-- the walk reads the list's own element, the last before the place
+walked-read : {X : Type 0} (test : X → Bool) (place after : ℕ) (xs left : List X) (d : X)
+    → IsWalked test after xs left
     → after ≡ suc place
-    → place < length accounts
-    → is_of security (get_or accounts place d) ≡ true
-    → remove (cleared_from security after accounts) place ≡ cleared_from security place accounts
-cleared_from-of security place after accounts d next within of =
-    let front : List Account = take (suc place) accounts in
-    let back : List Account = without security (drop (suc place) accounts) in
-    let account : Account = get_or accounts place d in
-    let long : length front ≡ suc place = length-take-le (suc place) accounts (omega (arith, within)) in
-    let before : take place (front ++ back) ≡ take place accounts =
-    take-append-le place front back (omega (arith, long)) ∙ take-take place (suc place) accounts (omega arith) in
-    let behind : without security (drop place accounts) ≡ back =
-    ap (without security) (drop-cons accounts place d within)
-    ∙ cond-false (not (is_of security account)) (account ∷ back) back (ap not of) in
-    rw next
-    (ap₂ (λ (xs ys : List Account). xs ++ ys) before (drop_at front back (suc place) long ∙ sym behind))
+    → get_or left place d ≡ get_or xs place d
+walked-read test place after xs left d walked next =
+    let long = length-take-le after xs walked.within in
+    ap (λ ys. get_or ys place d) walked.is
+    ∙ (get_or_append_left (take after xs) (filter test (drop after xs)) d place (omega (arith, long, next))
+    ∙ get_or-take after xs place d (omega (arith, next)))
 
--- what is taken out by its own key stood at its place
-pub removed-at : (accounts rest : List Account) (place : ℕ) (account : Account) (taken : Option Account)
-    → AreInOrder accounts
-    → place < length accounts
-    → account ≡ get_or accounts place account
-    → (IsNone taken → ¬ (HasKey pair_order account_key (account_key account) accounts))
-    → IfSome taken (λ one. IsRemoved one accounts rest)
-    → IfSome taken (λ one. key_order account.holder account.security one ≡ Equal)
-    → rest ≡ remove accounts place
-removed-at accounts rest place account taken in_order within is lacks out same =
-    let own : HoldsAt (λ one. is_account account.holder account.security one ≡ true) accounts place = λ d.
-    subst (λ (one : Account). is_account account.holder account.security one ≡ true)
-    (is ∙ get_or_default accounts place account d within) (own-itself account) in
-    with_held-removed account.holder account.security 0 accounts rest taken in_order lacks (
-      place,
-      record {
-        within = within;
-        same = λ d. equal-own account.holder account.security (get_or accounts place d) (own d);
-      },
-    )
-    out same (omega arith)
-    ∙ sym (with_held-take_out account.holder account.security 0 accounts place in_order
-    (StandsAt-account account.holder account.security accounts place in_order within own) (omega arith))
+-- and where it fails takes it out
+pub walked-out : {X : Type 0} (test : X → Bool) (place after : ℕ) (xs left : List X) (d : X)
+    → IsWalked test after xs left
+    → after ≡ suc place
+    → test (get_or left place d) ≡ false
+    → remove left place ≡ kept_from test place xs
+walked-out {X} test place after xs left d walked next fails =
+    let front : List X = take (suc place) xs in
+    let back : List X = filter test (drop (suc place) xs) in
+    let x : X = get_or xs place d in
+    let within : place < length xs = omega (arith, walked.within, next) in
+    let long : length front ≡ suc place = length-take-le (suc place) xs (omega (arith, within)) in
+    let before : take place (front ++ back) ≡ take place xs =
+    take-append-le place front back (omega (arith, long)) ∙ take-take place (suc place) xs (omega arith) in
+    let out : test x ≡ false = ap test (sym (walked-read test place after xs left d walked next)) ∙ fails in
+    let behind : filter test (drop place xs) ≡ back =
+    ap (filter test) (drop-cons xs place d within) ∙ cond-false (test x) (x ∷ back) back out in
+    ap (λ ys. remove ys place) (walked.is ∙ ap (λ n. kept_from test n xs) next)
+    ∙ ap₂ (λ (ys zs : List X). ys ++ zs) before (drop_at front back (suc place) long ∙ sym behind)

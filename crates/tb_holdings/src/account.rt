@@ -149,7 +149,8 @@ pub fn set_held(accounts: &mut Ordered<Account>, holder: u32, security: u32, hel
     ensures one_more { length accounts.new.elements ≤ length accounts.old.elements + 1 }
     ensures no_more { held ≤ held_in holder security accounts.old.elements
         → length accounts.new.elements ≤ length accounts.old.elements }
-    ensures keeps_room { held ≤ held_in holder security accounts.old.elements → accounts.old.spare ≤ accounts.new.spare }
+    ensures keeps_room { held ≤ held_in holder security accounts.old.elements
+        → accounts.old.spare ≤ accounts.new.spare }
     ensures room { accounts.old.spare ≤ accounts.new.spare + 1 }
 {
     let account = Account {
@@ -222,7 +223,7 @@ pub fn close_accounts(accounts: &mut Ordered<Account>, security: u32)
     for place in (0..accounts.len()).rev() {
         let account = accounts.at(place);
         if account.is_of(security) {
-            let key = account.key();
+            let key = (account.holder, account.security);
             accounts.remove(&key);
         }
     }

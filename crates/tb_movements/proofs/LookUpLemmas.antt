@@ -12,7 +12,8 @@ use Rattle.tb_units.proofs.ListLemmas.{AllPairs-head, AllPairs-tail}
 use Rattle.tb_units.proofs.PlaceLemmas.{find-filter_all, find-filter_none}
 use Rattle.tb_holdings.specs.declared.mark.KeptMark.{KeptMark}
 use Rattle.tb_holdings.specs.Marks.{is_mark, mark_in, IsEarlierMark, MarksAreInOrder, pledged_in, open_marks_in}
-use Rattle.tb_holdings.proofs.MarkLemmas.{left_share, open_share, pledged_in-shares, named_once}
+use Rattle.tb_holdings.proofs.KeyLemmas.{behind_other}
+use Rattle.tb_holdings.proofs.MarkLemmas.{left_share, open_share, pledged_in-shares}
 use Rattle.tb_movements.specs.Movements.{Movement, Settled, Transferred, Pledged, Released, Redeemed}
 use Rattle.tb_movements.specs.Marks.{Mark, mark_made, marks, is_named, mark_of, pledged, open_marks}
 use Rattle.tb_movements.specs.Legal.{Passes, IsLegal}
@@ -213,7 +214,8 @@ StandOnce-in_order (x ∷ xs) in_order holder number =
     elim (cases_Bool (named x)) [
       | inl own ↦
           let rest = count_absent named xs
-          (λ k d short. named_once holder number x (get_or xs k d)
+          (λ k d short. let later = get_or xs k d in
+          behind_other (x.holder, x.number) (later.holder, later.number) (holder, number)
           (AllPairs-head IsEarlierMark x xs in_order k d short) own) in
           omega (arith, step, rest, cond-true {A = ℕ} (named x) 1 0 own)
       | inr differs ↦

@@ -1,35 +1,32 @@
 -- An account of the security is taken out at its place.
-use Rattle.std.proofs.Common.{◌≡◌, ◌-◌, List, ap, sym, ◌∙◌, get_or, length, remove, arith}
+use Rattle.std.proofs.Common.{◌-◌, ◌<◌, length, not, ap, sym, ◌∙◌, arith}
 use Rattle.tb_holdings.specs.declared.account.Account.{Account}
 use Rattle.tb_holdings.specs.Holdings.{is_of}
-use Rattle.tb_holdings.proofs.AccountKeyLemmas.{AreInOrder-keys}
-use Rattle.tb_holdings.proofs.WalkLemmas.{cleared_from-at, cleared_from-of, length-cleared_from, removed-at}
+use Rattle.tb_holdings.proofs.AccountLemmas.{account_key}
+use Rattle.tb_holdings.proofs.KeyLemmas.{AreKeyed-order, HasKeyAt-read, removed-at}
+use Rattle.tb_holdings.proofs.WalkLemmas.{length-walked, walked-out}
 use Rattle.tb_holdings.proofs.account.close_accounts.Goals as goal
 
 pub loop-place-preserved-then-is_of : goal.loop-place-preserved-then-is_of
 loop-place-preserved-then-is_of c =
-    let security = c.args.security in
+    let test = λ (account : Account). not (is_of c.args.security account) in
     let all = c.args.accounts.now.elements in
+    let left = c.loop-place.accounts.elements in
     let after = c.loop-place.place in
     let place = after - 1 in
-    let left = c.loop-place.accounts.elements in
     let account = c.at-account.result.now in
     let some = c.loop-place-test.true in
-    let kept = c.loop-place.invariant in
-    let walked = ap length kept.accounts in
-    let own : account ≡ get_or all place account =
-    c.at-account.ensures
-    ∙ (ap (λ (xs : List Account). get_or xs place account) kept.accounts
-    ∙ cleared_from-at security place after all account (omega (arith, some)) kept.within) in
+    let so_far = c.loop-place.invariant in
+    let within : place < length left = omega (arith, some, length-walked test after all left so_far.walked) in
     record {
-      accounts = removed-at left c.remove.new.self.elements place account c.remove.result kept.in_order
-          (omega (arith, some, walked, length-cleared_from security after all kept.within)) c.at-account.ensures
-          (rw c.key-key.ensures at c.remove.ensures.none.0) c.remove.ensures.removed
-          (rw c.key-key.ensures at c.remove.ensures.key)
-          ∙ (ap (λ (xs : List Account). remove xs place) kept.accounts
-          ∙ cleared_from-of security place after all account (omega (arith, some)) (omega (arith, some, kept.within))
-          (ap (is_of security) (sym own) ∙ (sym c.is_of.ensures ∙ c.if-is_of.true)));
-      in_order = AreInOrder-keys c.remove.new.self.elements c.remove.ensures.ordered;
-      within = omega (arith, kept.within);
-      spare = c.remove.ensures.spare ∙ kept.spare;
+      walked = record {
+        is = removed-at account_key (account_key account) left c.remove.new.self.elements place c.remove.result
+            so_far.in_order (HasKeyAt-read account_key left place account within c.at-account.ensures)
+            (record { none = c.remove.ensures.none.0; removed = c.remove.ensures.removed; same = c.remove.ensures.key })
+            ∙ walked-out test place after all left account so_far.walked (omega (arith, some))
+            (ap test (sym c.at-account.ensures) ∙ ap not (sym c.is_of.ensures ∙ c.if-is_of.true));
+        within = omega (arith, so_far.walked.within);
+      };
+      in_order = AreKeyed-order account_key c.remove.new.self.elements c.remove.ensures.ordered;
+      spare = c.remove.ensures.spare ∙ so_far.spare;
     }

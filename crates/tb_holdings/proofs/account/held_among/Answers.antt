@@ -4,7 +4,7 @@ use Rattle.std.specs.List.{HoldsAt}
 use Rattle.std.proofs.lemmas.List.{get_or_default}
 use Rattle.tb_holdings.specs.declared.account.Account.{Account}
 use Rattle.tb_holdings.specs.Holdings.{is_account}
-use Rattle.tb_holdings.proofs.AccountKeyLemmas.{StandsAt-account}
+use Rattle.tb_holdings.proofs.AccountLemmas.{StandsAt-account}
 use Rattle.tb_holdings.proofs.HoldingLemmas.{held_in-missing, held_in-stands}
 use Rattle.tb_holdings.proofs.account.held_among.Goals as goal
 

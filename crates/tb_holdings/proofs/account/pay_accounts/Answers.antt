@@ -13,7 +13,8 @@ loop-place-preserved c =
     ≡ c.args.paid.now.items ++ filter (is_of c.args.security) (take (c.loop-place.place + length run) accounts) =
     c.pay_run.ensures.paid
     ∙ (ap (λ xs. xs ++ filter (is_of c.args.security) run) c.loop-place.invariant.paid
-    ∙ filter-run c.args.security c.loop-place.place c.args.paid.now.items accounts run c.run_from-run.ensures) in
+    ∙ filter-run (is_of c.args.security) c.loop-place.place c.args.paid.now.items accounts run
+    c.run_from-run.ensures) in
     record {
       paid = paid;
       room = omega (

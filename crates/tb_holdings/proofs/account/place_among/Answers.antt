@@ -3,7 +3,8 @@ use Rattle.std.proofs.Common.{rules, tests}
 use Rattle.std.proofs.lemmas.List.Sorted.{IsPartitionPoint-from_clause}
 use Rattle.tb_holdings.specs.Holdings.{comes_before}
 use Rattle.tb_holdings.proofs.PlaceLemmas.{IsPlace-found}
-use Rattle.tb_holdings.proofs.AccountLemmas.{IsPartitionedBy-accounts}
+use Rattle.tb_holdings.proofs.AccountLemmas.{account_key}
+use Rattle.tb_holdings.proofs.KeyLemmas.{IsPartitionedBy-key}
 use Rattle.tb_holdings.proofs.account.place_among.Goals as goal
 
 pub returns : goal.returns
@@ -12,5 +13,5 @@ returns c =
     let found = c.partition_point.result in
     IsPlace-found before c.args.accounts.now found c.partition_point.ensures.bound
     (IsPartitionPoint-from_clause before c.args.accounts.now found c.partition_point.ensures.partitioned
-    (IsPartitionedBy-accounts c.args.holder c.args.security c.args.accounts.now c.requires)
+    (IsPartitionedBy-key account_key (c.args.holder, c.args.security) c.args.accounts.now c.requires)
     (λ account answer q k. search (rules, tests)))

@@ -1,9 +1,9 @@
 -- The mark at its place is written over, or taken out.
-use Rattle.std.proofs.Common.{◌≡◌, ◌-◌, List, get_or, set, ap, ◌∙◌}
-use Rattle.std.specs.declared.cmp.Ordering.TheVariants.{Equal}
+use Rattle.std.proofs.Common.{ℕ, ◌-◌, List, set, ap, ◌∙◌}
 use Rattle.tb_holdings.specs.declared.mark.KeptMark.{KeptMark}
+use Rattle.tb_holdings.proofs.KeyLemmas.{HasKeyAt-own, removed-at}
 use Rattle.tb_holdings.proofs.LeftLemmas.{lowered-goes, lowered-missing, lowered-stays}
-use Rattle.tb_holdings.proofs.MarkKeyLemmas.{is_mark-equal, key_order, removed-at}
+use Rattle.tb_holdings.proofs.MarkLemmas.{mark_key}
 use Rattle.tb_holdings.proofs.mark.lower_mark.Goals as goal
 
 pub returns-then-left-gt0-clause-marks : goal.returns-then-left-gt0-clause-marks
@@ -23,12 +23,10 @@ returns-else-left-gt0-clause-marks c =
     let marks : List KeptMark = c.args.marks.now.elements in
     let place = c.in-Ok.place in
     let stands = c.in-Ok.ensures.stands in
-    let equal : (d : KeptMark) → key_order c.args.holder c.args.number (get_or marks place d) ≡ Equal =
-    λ d. is_mark-equal c.args.holder c.args.number (get_or marks place d) (stands.same d) in
-    removed-at c.args.holder c.args.number marks c.remove.new.self.elements place c.remove.result c.requires.in_order
-    stands.within stands.same c.remove.ensures.none.0
-    (place, record { within = stands.within; same = equal })
-    c.remove.ensures.removed c.remove.ensures.key
+    let key : ℕ × ℕ = (c.args.holder, c.args.number) in
+    removed-at mark_key key marks c.remove.new.self.elements place c.remove.result c.requires.in_order
+    (HasKeyAt-own mark_key key marks place stands.within stands.same)
+    (record { none = c.remove.ensures.none.0; removed = c.remove.ensures.removed; same = c.remove.ensures.key })
     ∙ lowered-goes c.args.holder c.args.number c.args.par marks place c.saturating_sub-left.result c.at-mark.result.now
     c.requires.in_order c.requires.left stands
     (c.saturating_sub-left.ensures ∙ ap (λ (own : KeptMark). own.left - c.args.par) c.at-mark.ensures)

@@ -1,5 +1,5 @@
 -- The accounts of the security are paid off, so the room that they took is free again.
-use Rattle.std.proofs.Common.{◌≡◌, ◌+◌, ◌≤◌, ◌++◌, not, refl, ap, ◌∙◌, filter, length, length-append, vec_len, arith}
+use Rattle.std.proofs.Common.{◌≡◌, ◌+◌, ◌≤◌, not, refl, ap, ◌∙◌, filter, length, length-append, vec_len, arith}
 use Rattle.std.proofs.lemmas.List.Filters.{length-filter_both}
 use Rattle.tb_holdings.specs.Holdings.{is_of, held_in, total_in, without}
 use Rattle.tb_holdings.specs.Marks.{pledged_in, open_marks_in}
@@ -8,12 +8,6 @@ use Rattle.tb_holdings.proofs.KeptLemmas.{AreKept-redeemed, held_in-paid}
 use Rattle.tb_holdings.proofs.RunLemmas.{HaveNoRun-live}
 use Rattle.tb_holdings.proofs.HoldingLemmas.{held_in-without_other, held_in-append_of_other, total_in-without_other, total_in-without_same}
 use Rattle.tb_holdings.proofs.accounts.Accounts.redeem.Goals as goal
-
--- the accounts that were paid
-paid_items : (c : goal.After-push_reserved)
-    → c.pay_off.new.paid.items
-    ≡ c.self.inside.paid.items ++ filter (is_of c.args.security) c.self.inside.accounts.elements
-paid_items c = c.pay_off.ensures.paid
 
 -- an account leaves or stays
 leave_or_stay : (c : goal.After-push_reserved)
@@ -35,25 +29,26 @@ same_count c =
       c.pay_off.new.paid.ok.0,
       inside.paid.ok.0,
       ap length c.close_accounts.ensures.accounts,
-      ap length (paid_items c),
+      ap length c.pay_off.ensures.paid,
       length-append inside.paid.items (filter (is_of c.args.security) inside.accounts.elements),
       leave_or_stay c,
     )
 
 -- no account is added
-fewer : (c : goal.After-push_reserved) → length c.close_accounts.new.accounts.elements ≤ length c.self.inside.accounts.elements
-fewer c =
-    omega (
-      arith,
-      ap length c.close_accounts.ensures.accounts,
-      leave_or_stay c,
-    )
+fewer : (c : goal.After-push_reserved)
+    → length c.close_accounts.new.accounts.elements ≤ length c.self.inside.accounts.elements
+fewer c = omega (arith, ap length c.close_accounts.ensures.accounts, leave_or_stay c)
 
 pub invariant_of-self : goal.invariant_of-self
 invariant_of-self c =
     let inside = c.self.inside in
     let live = rw (← c.self.view_is) at c.requires.live in (
-      rw (c.close_accounts.ensures.accounts, c.clear.ensures.list, c.push_reserved.ensures.items, paid_items c)
+      rw (
+        c.close_accounts.ensures.accounts,
+        c.clear.ensures.list,
+        c.push_reserved.ensures.items,
+        c.pay_off.ensures.paid,
+      )
           (AreKept-redeemed c.args.security
           inside.accounts.elements inside.marks.list inside.redeemed.items inside.paid.items c.self.invariant.0 live),
       omega (arith, same_count c, c.pay_off.ensures.capacity, c.self.invariant.1),
@@ -92,7 +87,7 @@ pub returns-clause-paid_all : goal.returns-clause-paid_all
 returns-clause-paid_all c = λ holder.
     let live = rw (← c.self.view_is) at c.requires.live in
     rw (← c.self.view_is)
-    (ap (held_in holder c.args.security) (paid_items c)
+    (ap (held_in holder c.args.security) c.pay_off.ensures.paid
     ∙ held_in-paid c.self.invariant.0 holder c.args.security live)
 
 pub returns-clause-none_held : goal.returns-clause-none_held
@@ -116,7 +111,7 @@ returns-clause-others c =
           ap (pledged_in holder other) c.clear.ensures.list
           ∙ pledged_in-cleared_other holder c.args.security other inside.marks.list differs;
       payments = λ holder other differs.
-          ap (held_in holder other) (paid_items c)
+          ap (held_in holder other) c.pay_off.ensures.paid
           ∙ held_in-append_of_other holder other c.args.security inside.paid.items inside.accounts.elements differs;
       totals = λ other differs.
           ap (total_in other) c.close_accounts.ensures.accounts
