@@ -166,6 +166,8 @@ fn par_is_paid(rt: &impl Abort, book: &mut Accounts) -> Result<(), Fail>
 #[test]
 fn par_is_moved_and_pledged_and_paid(rt: HostRuntime) -> Result<(), Fail> {
     let mut book = Accounts::new(rt.alloc());
+    // All the memory of the story: where its steps reserve, there is room.
+    book.reserve(8, 1, 1)?;
     credit(&mut book, 1, 7, 1000)?;
     par_is_moved(&rt, &mut book)?;
     par_is_pledged(&rt, &mut book)?;
