@@ -51,6 +51,7 @@ impl<T: Drop> Blocks<T> {
         }
     }
 
+    /// How many elements there are.
     pub fn len(&self) -> usize
         ensures { result ≡ length self.now.elements }
     {

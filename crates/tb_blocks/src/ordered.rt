@@ -39,6 +39,7 @@ impl<T: Keyed + Drop> Ordered<T> {
         }
     }
 
+    /// How many elements there are.
     pub fn len(&self) -> usize
         ensures len { result ≡ length self.now.elements }
         ensures ordered { AreOrdered T.Key.cmp T.key_of self.now.elements }

@@ -21,6 +21,7 @@ pub struct FileDisk {
 }
 
 impl FileDisk {
+    /// A disk on the file, which is open for reading and writing. It has had no fault.
     pub fn new(file: File) -> FileDisk
         ensures { (result.faults.count ≡ 0) × (result.sync_failed ≡ false) }
     {

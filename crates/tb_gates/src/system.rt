@@ -17,6 +17,7 @@ pub struct SystemClock<'a, R> {
 }
 
 impl<'a, R: Time> SystemClock<'a, R> {
+    /// A clock that has given no reading.
     pub fn new(time: &'a R) -> SystemClock<'a, R>
         ensures { (result.readings ≡ 0) × (result.last.seconds ≡ 946702800) }
     {

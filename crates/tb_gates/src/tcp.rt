@@ -19,6 +19,7 @@ pub struct TcpConn {
 }
 
 impl TcpConn {
+    /// A link over the socket. It has had no fault.
     pub fn new(stream: TcpStream) -> TcpConn
         ensures { (result.reads ≡ 0) × (result.read_faults.count ≡ 0) × (result.write_faults.count ≡ 0) }
     {

@@ -71,6 +71,7 @@ impl<T: Drop, By: KeyOf<T>> Keyed<T, By> {
         &self.rows
     }
 
+    /// How many elements there are.
     pub fn len(&self) -> usize
         ensures { result ≡ length self.now.list }
     {

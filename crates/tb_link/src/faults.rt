@@ -12,6 +12,7 @@ pub struct Faults {
 }
 
 impl Faults {
+    /// No fault so far.
     pub fn none() -> Faults
         ensures { result.count ≡ 0 }
     {

@@ -19,6 +19,7 @@ pub struct StdSource<R> {
 }
 
 impl<R: Read> StdSource<R> {
+    /// A source of what the reader gives. It was not read yet, and has had no fault.
     pub fn new(reader: R) -> StdSource<R>
         ensures start { (result.faults.count ≡ 0) × (result.reads ≡ 0) }
         ensures reader { result.reader ≡ reader }
@@ -78,6 +79,7 @@ pub struct StdSink<W> {
 }
 
 impl<W: Write> StdSink<W> {
+    /// A sink that writes to the writer. It has had no fault.
     pub fn new(writer: W) -> StdSink<W>
         ensures start { result.faults.count ≡ 0 }
         ensures writer { result.writer ≡ writer }

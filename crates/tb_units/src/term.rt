@@ -13,6 +13,7 @@ pub struct Days {
 }
 
 impl Days {
+    /// The days of the longest term: those of a leap year.
     pub const MOST: u64 = 366;
 
     /// Reads a decimal number without leading zeros, from 1 to 366.
