@@ -1,6 +1,7 @@
 pub mod GroupLemmas
 pub mod StepLemmas
 pub mod TurnLemmas
+pub mod DoubtLemmas
 pub mod DeskLemmas
 pub mod ReplayLemmas
 pub mod ExactLemmas

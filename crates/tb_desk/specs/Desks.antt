@@ -1,5 +1,5 @@
 -- What contracts see of a desk, and what holds of every desk.
-use Rattle.std.specs.Prelude.{◌≡◌, ◌⊎◌, ℕ, ◌+◌, ◌≤◌, min, List, [], ◌∷◌, ◌++◌, ◌-◌, length, map, replicate, take, Option, Some, None, refl}
+use Rattle.std.specs.Prelude.{◌≡◌, ◌⊎◌, ℕ, ◌+◌, ◌≤◌, min, List, [], ◌∷◌, ◌++◌, ◌-◌, length, map, replicate, take, Option, Some, None, Contains, refl}
 use Rattle.std.specs.List.{All}
 use Rattle.std.specs.Coded.{Coded, code_by, coded×, coded_ℕ, coded_list}
 use Rattle.tb_units.specs.declared.moment.Moment.{Moment}
@@ -15,7 +15,7 @@ use Rattle.tb_desk.specs.declared.reply.Reply.{Reply}
 use Rattle.tb_desk.specs.declared.reply.Reply.TheVariants as reply
 use Rattle.tb_desk.specs.declared.reply.GroupReply.{GroupReply}
 use Rattle.tb_desk.specs.declared.reply.GroupReply.TheVariants as group
-use Rattle.tb_desk.specs.Stands.{StandsForEither, Stands, CrashesLeave}
+use Rattle.tb_desk.specs.Stands.{StandsForHistory, Stands, CrashesLeave}
 use Rattle.tb_desk.specs.Turn.{Held, Replies}
 
 -- The disk now and as the opening left it; what was accepted, and the room for more; the group in doubt; the place of
@@ -67,25 +67,51 @@ pub record IsOneGroup (entries : List Entry) : Type 0 where
   pub few : length entries ≤ 64
   pub each : All (λ (entry : Entry). (entry.submitter ≡ submitter) × (entry.moment ≡ moment)) entries
 
--- A file stands for a beginning of the history that has the recovered one, or for it followed by one group that was
--- accepted on it.
+-- a group that was in doubt, and how many entries of the history stood before it
+pub record Doubt : Type 0 where
+  pub before : ℕ
+  pub group : List Entry
+
+-- so many entries of the history, and the group behind them
+abbrev pub with_doubt : List Entry → Doubt → List Entry
+with_doubt history doubt = take doubt.before history ++ doubt.group
+
+-- it was one group, accepted on a beginning of the history that has the recovered one
+pub record WasInDoubt (history : List Entry) (recovered : ℕ) (doubt : Doubt) : Type 0 where
+  pub one : IsOneGroup doubt.group
+  pub enough : recovered ≤ doubt.before
+  pub within : doubt.before ≤ length history
+  pub accepted : IsLegal (with_doubt history doubt)
+
+-- a file stands for a beginning of the history that has the recovered one
 pub record IsBeginning (history : List Entry) (recovered : ℕ) (file : List ℕ) : Type 0 where
   pub kept : ℕ
   pub enough : recovered ≤ kept
   pub within : kept ≤ length history
-  pub group : List Entry
-  pub one : IsOneGroup group
-  pub accepted : IsLegal (take kept history ++ group)
-  pub stands : StandsForEither (take kept history) group file
+  pub stands : StandsForHistory (take kept history) file
+
+-- or for a beginning followed by one of these groups, which was in doubt there
+abbrev pub IsBeginningOr : List Doubt → List Entry → ℕ → List ℕ → Type 0
+IsBeginningOr doubts history recovered file =
+    IsBeginning history recovered file
+    ⊎ ((doubt : Doubt) × Contains doubts doubt × StandsForHistory (with_doubt history doubt) file)
+
+-- Every crash since the opening left a beginning of the history that has the recovered one, or one followed by a group
+-- that was in doubt there. One that is in doubt now is among these, and there are no more of them than calls that were
+-- answered with a disk fault.
+pub record CrashesSince (opened disk : DiskState) (history doubt : List Entry) (recovered faults : ℕ) : Type 0 where
+  pub doubts : List Doubt
+  pub each : All (WasInDoubt history recovered) doubts
+  pub now : 1 ≤ length doubt → Contains doubts (record { before = length history; group = doubt })
+  pub few : (length doubts ≤ faults) ⊎ (faults ≡ last_count)
+  pub leaves : CrashesLeave (IsBeginningOr doubts history recovered) opened disk
 
 -- what holds of every desk
 pub record IsDesk (disk opened : DiskState) (gate : ℕ) (next : Option ℕ) (history doubt : List Entry)
     (recovered faults : ℕ) : Type 0 where
   pub stands : Stands disk gate next history doubt
-  pub one : IsOneGroup doubt
   pub recovers : recovered ≤ length history
-  -- every crash since the opening
-  pub since : CrashesLeave (IsBeginning history recovered) opened disk
+  pub since : CrashesSince opened disk history doubt recovered faults
   pub counted : (opened.faults + faults ≤ disk.faults) ⊎ (disk.faults ≡ last_count)
   pub limited : faults ≤ last_count
 

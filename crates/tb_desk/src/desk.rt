@@ -23,7 +23,7 @@ ghost use Rattle.tb_desk.specs.Stands.{StandsForHistory, StandsForEither, Stands
 ghost use Rattle.tb_desk.specs.Replay.{IsExact, LeavesRefused};
 ghost use Rattle.tb_desk.specs.Replaying.{IsReplayed, IsReplayFault};
 ghost use Rattle.tb_desk.specs.Turn.{Turns, Replies, IsOneOf, AreBids, AreNumbered};
-ghost use Rattle.tb_desk.specs.Desks.{held, IsSame, IsBeginning, replies_of, Tells, told_by, CountsFault};
+ghost use Rattle.tb_desk.specs.Desks.{held, IsSame, CrashesSince, replies_of, Tells, told_by, CountsFault};
 
 use crate::fault::{OpenFault, lifted};
 use crate::replay::replay;
@@ -181,8 +181,8 @@ impl<D: Disk> Desk<D> {
         ensures accepted { IsLegal (self.now.host.history ++ self.now.doubt) }
         ensures recovers { self.now.recovered ≤ length self.now.host.history }
         // What every crash since the opening left, and what one now leaves.
-        ensures since { CrashesLeave (IsBeginning self.now.host.history self.now.recovered) (D.disk self.now.opened)
-            (D.disk self.now.disk) }
+        ensures since { CrashesSince (D.disk self.now.opened) (D.disk self.now.disk) self.now.host.history
+            self.now.doubt self.now.recovered self.now.faults }
         ensures leaves { LeavesEither (D.disk self.now.disk) self.now.host.history self.now.doubt }
     {
         self.host.entries()
@@ -213,8 +213,10 @@ impl<D: Disk> Desk<D> {
         ensures stands { IfSome (D.disk result).past
             (λ past. StandsForEither self.host.history self.doubt (contents_of past)) }
         ensures leaves { LeavesEither (D.disk result) self.host.history self.doubt }
-        ensures since { CrashesLeave (IsBeginning self.host.history self.recovered) (D.disk self.opened)
-            (D.disk result) }
+        ensures since { CrashesSince (D.disk self.opened) (D.disk result) self.host.history self.doubt self.recovered
+            self.faults }
+        ensures counted { ((D.disk self.opened).faults + self.faults ≤ (D.disk result).faults)
+            ⊎ ((D.disk result).faults ≡ last_count) }
     {
         let Desk {
             journal,

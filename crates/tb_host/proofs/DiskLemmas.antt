@@ -1,7 +1,7 @@
 -- What `run` does to its disk.
-use Rattle.std.proofs.Common.{◌≡◌, ℕ, List, [], ◌++◌, length, Option, Some, None, ◌⊎◌, inl, inr, sym, subst, ap, ◌∙◌, refl, arith, append-nil}
-use Rattle.std.specs.Prelude.{Ok, Err, IfSome}
-use Rattle.tb_link.specs.Counts.{NeverFalls, Rose}
+use Rattle.std.proofs.Common.{◌≡◌, ℕ, ◌+◌, ◌≤◌, List, [], ◌++◌, length, Option, Some, None, ◌⊎◌, inl, inr, sym, subst, ap, ◌∙◌, refl, arith}
+use Rattle.std.specs.Prelude.{All, Ok, Err, IfSome}
+use Rattle.tb_link.specs.Counts.{NeverFalls, Rose, last_count}
 use Rattle.tb_disk.specs.Disks.{DiskState}
 use Rattle.tb_disk.specs.Past.{Past, contents_of, MayLeave, Leaves}
 use Rattle.tb_disk.proofs.Moments.{Leaves-both, Leaves-start, Leaves-weaker}
@@ -12,13 +12,13 @@ use Rattle.tb_journal.proofs.ToldLemmas.{Told-both, Told-weaker, told_given}
 use Rattle.tb_message.specs.declared.message.Entry.{Entry}
 use Rattle.tb_history.specs.Legal.{IsLegal}
 use Rattle.tb_history.proofs.HistoryLemmas.{IsLegal-front}
-use Rattle.tb_desk.specs.Desks.{DeskView, IsBeginning}
-use Rattle.tb_desk.proofs.DeskLemmas.{IsOneGroup-none, beginning_whole}
+use Rattle.tb_desk.specs.Desks.{CrashesSince, DeskView, Doubt, IsBeginningOr, WasInDoubt}
+use Rattle.tb_desk.proofs.DoubtLemmas.{IsBeginning-whole}
 use Rattle.tb_desk.specs.Replay.{IsExact, LeavesRefused}
-use Rattle.tb_desk.specs.Stands.{CrashesLeave, LeavesEither, StandsForEither, StandsForHistory, payloads_of}
+use Rattle.tb_desk.specs.Stands.{LeavesEither, StandsForEither, StandsForHistory, payloads_of}
 use Rattle.tb_desk.specs.declared.fault.OpenFault.{OpenFault}
 use Rattle.tb_desk.specs.declared.fault.OpenFault.TheVariants as fault
-use Rattle.tb_host.specs.DiskRun.{CrashesKeep, HasGrown, Keeps, StandsStill, Stays, Unopened}
+use Rattle.tb_host.specs.DiskRun.{CrashesKeep, HasGrown, Keeps, StandsStill, Unopened}
 use Rattle.tb_host.specs.Standings.{Standing, standing}
 
 -- a file that stands for the payloads of another stands for its history
@@ -41,37 +41,26 @@ StandsStill-harmless before now harmless history stands =
 pub IsLegal-first : (first last : Standing) → HasGrown first last → IsLegal last.history → IsLegal first.history
 IsLegal-first first last grown legal = IsLegal-front grown.0 first.history (subst IsLegal grown.1 legal)
 
--- a file that stands for the first history stands for a beginning of the last
-IsBeginning-first : (first last : List Entry) (more : List Entry) (file : List ℕ)
-    → last ≡ first ++ more
-    → IsLegal first
-    → StandsForHistory first file
-    → IsBeginning last (length first) file
-IsBeginning-first first last more file is legal stands =
-    beginning_whole first [] last (length first) file (more, is) (omega arith) IsOneGroup-none
-    (subst IsLegal (sym (append-nil first)) legal) (inl stands)
-
 -- a crash during the command
-keeps-past : (first last : List Entry) (more : List Entry) (before mid now : Past)
-    → last ≡ first ++ more
-    → IsLegal first
+keeps-past : (first last : List Entry) (doubts : List Doubt) (before mid now : Past)
+    → (more : List Entry) × (last ≡ first ++ more)
     → StandsForHistory first (contents_of before)
     → IsHarmless before mid
-    → Leaves (IsBeginning last (length first)) mid now
-    → Leaves (λ file. MayLeave before file ⊎ IsBeginning last (length first) file) before now
-keeps-past first last more before mid now is legal stands harmless since =
-    let Left : List ℕ → Type 0 = λ file. MayLeave before file ⊎ IsBeginning last (length first) file in
+    → Leaves (IsBeginningOr doubts last (length first)) mid now
+    → Leaves (λ file. MayLeave before file ⊎ IsBeginningOr doubts last (length first) file) before now
+keeps-past first last doubts before mid now grown stands harmless since =
+    let Left : List ℕ → Type 0 = λ file. MayLeave before file ⊎ IsBeginningOr doubts last (length first) file in
     let Opening : List ℕ → Type 0 = λ file. MayLeave before file ⊎ StandsAsWell (contents_of before) file in
     Leaves-both Left before mid now (Leaves-weaker Opening Left before mid kept harmless.images)
-    (Leaves-weaker (IsBeginning last (length first)) Left mid now (λ file begins. inr begins) since)
+    (Leaves-weaker (IsBeginningOr doubts last (length first)) Left mid now (λ file begins. inr begins) since)
   where
     kept : (file : List ℕ)
         → MayLeave before file ⊎ StandsAsWell (contents_of before) file
-        → MayLeave before file ⊎ IsBeginning last (length first) file
+        → MayLeave before file ⊎ IsBeginningOr doubts last (length first) file
     kept file (inl left) = inl left
     kept file (inr well) =
-        inr (IsBeginning-first first last more file is legal
-        (StandsForHistory-well first (contents_of before) file stands well))
+        inr (inl (IsBeginning-whole first last (length first) file grown (omega arith)
+        (StandsForHistory-well first (contents_of before) file stands well)))
 
 -- what an exact answer says of the file
 pub exact-stands : (past : Option Past) (history : List Entry)
@@ -80,48 +69,54 @@ pub exact-stands : (past : Option Past) (history : List Entry)
 exact-stands None history exact = tt
 exact-stands (Some past) history exact = exact.is_true.0
 
--- each crash during the command, where the desk was opened
-pub CrashesKeep-here : (old mid new : DiskState) (first last : Standing) (recovered : ℕ)
-    → IfSome old.past (λ past. IsExact (contents_of past) (Ok first.history))
-    → IsLegal first.history
-    → HasGrown first last
-    → recovered ≡ length first.history
-    → Told old mid IsHarmless
-    → CrashesLeave (IsBeginning last.history recovered) mid new
-    → CrashesKeep old new first last
-CrashesKeep-here old mid new first last recovered exact legal grown is harmless since =
-    let Begins : List ℕ → Type 0 = IsBeginning last.history (length first.history) in
-    let Both : Past → Past → Type 0 =
-    λ before mid. IsHarmless before mid × StandsForHistory first.history (contents_of before) in
-    let opening : Told old mid Both =
-    told_given IsHarmless (λ past. StandsForHistory first.history (contents_of past)) Both old mid
-    (λ before now one two. (one, two)) harmless (exact-stands old.past first.history exact) in
-    let later : CrashesLeave Begins mid new =
-    subst (λ (n : ℕ). CrashesLeave (IsBeginning last.history n) mid new) is since in
-    Told-both Both (λ before now. Leaves Begins before now)
-    (λ before now. Leaves (λ file. MayLeave before file ⊎ Begins file) before now) old mid new
-    (λ before between now one two. keeps-past first.history last.history grown.0 before between now grown.1 legal one.1
-    one.0 two) opening later
+-- A desk was opened with the first history, by which the disk went from the old state to the middle one, and was left
+-- with the last: it counted so many of its calls that met a fault, and says what each crash left since the opening.
+pub record OpenedAndLeft (old mid new : DiskState) (first last : Standing) (recovered faults : ℕ) : Type 0 where
+  pub exact : IfSome old.past (λ past. IsExact (contents_of past) (Ok first.history))
+  pub first_count : first.faults ≡ mid.faults
+  pub recovers : recovered ≡ length first.history
+  pub harmless : Told old mid IsHarmless
+  pub grown : HasGrown first last
+  pub final_count : last.faults ≡ new.faults
+  pub since : CrashesSince mid new last.history last.doubt recovered faults
+  pub counted : (mid.faults + faults ≤ new.faults) ⊎ (new.faults ≡ last_count)
 
--- a desk that was opened and closed keeps the last history
-pub Keeps-desk : (old mid new : DiskState) (first last : Standing) (recovered : ℕ)
-    → IfSome old.past (λ past. IsExact (contents_of past) (Ok first.history))
-    → first.doubt ≡ []
-    → first.faults ≡ old.faults
-    → recovered ≡ length first.history
-    → Told old mid IsHarmless
-    → HasGrown first last
-    → Stays last new
-    → CrashesLeave (IsBeginning last.history recovered) mid new
-    → Keeps old new first last
-Keeps-desk old mid new first last recovered exact sure count is harmless grown stays since =
-    let legal = IsLegal-first first last grown stays.legal in
-    record {
-      opened = record { stood = exact; legal = legal; sure = sure; count = count };
-      grown = grown;
-      stays = stays;
-      since = CrashesKeep-here old mid new first last recovered exact legal grown is harmless since;
-    }
+-- each crash during the command, where the desk was opened
+pub CrashesKeep-here : (old mid new : DiskState) (first last : Standing) (recovered faults : ℕ)
+    → OpenedAndLeft old mid new first last recovered faults
+    → CrashesKeep old new first last
+CrashesKeep-here old mid new first last recovered faults desk = record {
+  doubts = doubts;
+  each = subst (λ (n : ℕ). All (WasInDoubt last.history n) doubts) desk.recovers desk.since.each;
+  few = fewer desk.since.few desk.counted;
+  leaves = Told-both Both (λ before now. Leaves Begins before now)
+      (λ before now. Leaves (λ file. MayLeave before file ⊎ Begins file) before now) old mid new
+      (λ before between now one two. keeps-past first.history last.history doubts before between now desk.grown one.1
+      one.0 two) opening
+      (subst (λ (n : ℕ). Told mid new (λ before now. Leaves (IsBeginningOr doubts last.history n) before now))
+      desk.recovers desk.since.leaves);
+}
+  where
+    doubts : List Doubt
+    doubts = desk.since.doubts
+
+    Begins : List ℕ → Type 0
+    Begins = IsBeginningOr doubts last.history (length first.history)
+
+    Both : Past → Past → Type 0
+    Both before mid = IsHarmless before mid × StandsForHistory first.history (contents_of before)
+
+    opening : Told old mid Both
+    opening = told_given IsHarmless (λ past. StandsForHistory first.history (contents_of past)) Both old mid
+        (λ before now one two. (one, two)) desk.harmless (exact-stands old.past first.history desk.exact)
+
+    -- the calls that met a fault are no more than the faults that the disk has counted
+    fewer : (length doubts ≤ faults) ⊎ (faults ≡ last_count)
+        → (mid.faults + faults ≤ new.faults) ⊎ (new.faults ≡ last_count)
+        → (first.faults + length doubts ≤ last.faults) ⊎ (last_count ≤ last.faults)
+    fewer (inl few) (inl within) = inl (omega (arith, few, within, desk.first_count, desk.final_count))
+    fewer (inr end_) (inl within) = inr (omega (arith, end_, within, desk.final_count))
+    fewer few (inr end_) = inr (omega (arith, end_, desk.final_count))
 
 -- A desk was opened on a disk, and later its disk was handed back: that keeps the history of the desk that was closed.
 pub Keeps-closed : {D : Type 0} (disk : D → DiskState) (old : DiskState) (opened closed : DeskView D) (left : D)
@@ -137,19 +132,45 @@ pub Keeps-closed : {D : Type 0} (disk : D → DiskState) (old : DiskState) (open
     → IsLegal (closed.host.history ++ closed.doubt)
     → IfSome (disk left).past (λ past. StandsForEither closed.host.history closed.doubt (contents_of past))
     → LeavesEither (disk left) closed.host.history closed.doubt
-    → CrashesLeave (IsBeginning closed.host.history closed.recovered) (disk closed.opened) (disk left)
+    → CrashesSince (disk closed.opened) (disk left) closed.host.history closed.doubt closed.recovered closed.faults
+    → ((disk closed.opened).faults + closed.faults ≤ (disk left).faults) ⊎ ((disk left).faults ≡ last_count)
     → Keeps old (disk left) (standing (disk opened.disk) opened) (standing (disk closed.disk) closed)
-Keeps-closed {D} disk old opened closed left exact made no_fault crash kept grown is legal accepted stands leaves
-    since =
-    Keeps-desk old (disk opened.disk) (disk left) (standing (disk opened.disk) opened)
-    (standing (disk closed.disk) closed) closed.recovered exact made.0 no_fault (kept.1 ∙ made.1) crash grown (record {
-      legal = legal;
-      accepted = accepted;
-      stands = stands;
-      leaves = leaves;
-      count = ap (λ (d : D). (disk d).faults) (sym is);
-    }) (subst (λ (d : D). CrashesLeave (IsBeginning closed.host.history closed.recovered) (disk d) (disk left))
-    (kept.0 ∙ made.3) since)
+Keeps-closed {D} disk old opened closed left exact made no_fault crash kept grown is legal accepted stands leaves since
+    counted = record {
+      opened = record {
+        stood = exact;
+        legal = IsLegal-first first last grown legal;
+        sure = made.0;
+        count = no_fault;
+      };
+      grown = grown;
+      stays = record { legal = legal; accepted = accepted; stands = stands; leaves = leaves; count = count };
+      since = CrashesKeep-here old (disk opened.disk) (disk left) first last closed.recovered closed.faults (record {
+        exact = exact;
+        first_count = refl;
+        recovers = kept.1 ∙ made.1;
+        harmless = crash;
+        grown = grown;
+        final_count = count;
+        since = subst (λ (d : D). CrashesSince (disk d) (disk left) closed.host.history closed.doubt closed.recovered
+            closed.faults) same since;
+        counted = subst (λ (d : D). ((disk d).faults + closed.faults ≤ (disk left).faults)
+            ⊎ ((disk left).faults ≡ last_count)) same counted;
+      });
+    }
+  where
+    first : Standing
+    first = standing (disk opened.disk) opened
+
+    last : Standing
+    last = standing (disk closed.disk) closed
+
+    count : last.faults ≡ (disk left).faults
+    count = ap (λ (d : D). (disk d).faults) (sym is)
+
+    -- the closed desk was opened on the disk that the opening left
+    same : closed.opened ≡ opened.disk
+    same = kept.0 ∙ made.3
 
 -- a refusal does no more to the disk than an opening does
 pub breaks_refused : (why : OpenFault) (old new : DiskState)

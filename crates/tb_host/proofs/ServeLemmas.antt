@@ -16,9 +16,8 @@ use Rattle.tb_journal.specs.Opening.{IsHarmless, Opens}
 use Rattle.tb_journal.proofs.OpeningLemmas.{breaks_opened}
 use Rattle.tb_message.specs.declared.message.Entry.{Entry}
 use Rattle.tb_history.specs.Legal.{IsLegal}
-use Rattle.tb_desk.specs.Desks.{IsBeginning}
+use Rattle.tb_desk.specs.Desks.{CrashesSince}
 use Rattle.tb_desk.specs.Replay.{IsExact}
-use Rattle.tb_desk.specs.Stands.{CrashesLeave}
 use Rattle.tb_desk.specs.declared.fault.OpenFault.{OpenFault}
 use Rattle.tb_desk.specs.declared.fault.OpenFault.TheVariants as fault
 use Rattle.tb_desk.proofs.GroupLemmas.{IsLegal-in_range}
@@ -191,7 +190,7 @@ module _ {D C G K : Type 0} (disk : D → DiskState) (clock : C → ClockState) 
 
       tells : is_some new.disk.past ≡ is_some old.disk.past
       tells =
-          tells-on _ (disk done.after.desk.opened) new.disk done.since
+          tells-on _ (disk done.after.desk.opened) new.disk done.since.leaves
           ∙ (ap (λ (d : DiskState). is_some d.past) same
           ∙ tells-on IsHarmless old.disk (disk room.desk.disk) opened.harmless)
 
@@ -199,10 +198,19 @@ module _ {D C G K : Type 0} (disk : D → DiskState) (clock : C → ClockState) 
       faults = ap (λ (d : DiskState). d.faults) same ∙ opened.no_fault
 
       since : CrashesKeep old.disk new.disk first last
-      since = CrashesKeep-here old.disk (disk room.desk.disk) new.disk first last done.after.desk.recovered opened.exact
-          opened.legal grown (done.all.same.recovered ∙ opened.recovered) opened.harmless
-          (subst (λ (d : DiskState). CrashesLeave (IsBeginning last.history done.after.desk.recovered) d new.disk) same
-          done.since)
+      since = CrashesKeep-here old.disk (disk room.desk.disk) new.disk first last done.after.desk.recovered
+          done.after.desk.faults (record {
+            exact = opened.exact;
+            first_count = refl;
+            recovers = done.all.same.recovered ∙ opened.recovered;
+            harmless = opened.harmless;
+            grown = grown;
+            final_count = refl;
+            since = subst (λ (d : DiskState). CrashesSince d new.disk last.history last.doubt done.after.desk.recovered
+                done.after.desk.faults) same done.since;
+            counted = subst (λ (d : DiskState). (d.faults + done.after.desk.faults ≤ new.disk.faults)
+                ⊎ (new.disk.faults ≡ last_count)) same done.counted;
+          })
 
   -- what follows wherever links were served
   pub served-part : (operator : List ℕ) (moments : ClockState) (ended : Ending) (old new : Handed G)

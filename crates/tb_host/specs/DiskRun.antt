@@ -1,13 +1,13 @@
 -- What `run` and `serve` do to their disk.
-use Rattle.std.specs.Prelude.{◌≡◌, ◌⊎◌, List, [], ◌++◌, length, Ok, Err, IfSome}
-use Rattle.tb_link.specs.Counts.{Rose, NeverFalls}
+use Rattle.std.specs.Prelude.{◌≡◌, ◌⊎◌, ◌+◌, ◌≤◌, List, [], ◌++◌, length, All, Ok, Err, IfSome}
+use Rattle.tb_link.specs.Counts.{Rose, NeverFalls, last_count}
 use Rattle.tb_disk.specs.Disks.{DiskState}
 use Rattle.tb_disk.specs.Past.{Past, contents_of, MayLeave, Leaves}
 use Rattle.tb_journal.specs.Journal.{Told}
 use Rattle.tb_journal.specs.Opening.{IsHarmless}
 use Rattle.tb_message.specs.declared.message.Entry.{Entry}
 use Rattle.tb_history.specs.Legal.{IsLegal}
-use Rattle.tb_desk.specs.Desks.{IsBeginning}
+use Rattle.tb_desk.specs.Desks.{Doubt, IsBeginningOr, WasInDoubt}
 use Rattle.tb_desk.specs.Replay.{IsExact, LeavesRefused}
 use Rattle.tb_desk.specs.Stands.{LeavesEither, StandsForEither, StandsForHistory}
 use Rattle.tb_desk.specs.declared.fault.OpenFault.{OpenFault}
@@ -30,13 +30,16 @@ pub record Stays (last : Standing) (disk : DiskState) : Type 0 where
   pub leaves : LeavesEither disk last.history last.doubt
   pub count : last.faults ≡ disk.faults
 
--- every crash during the command left what a crash before it could leave, or a beginning of the last history that has
--- all that the file stood for, or that and one group that was accepted on it
-abbrev pub CrashesKeep : DiskState → DiskState → Standing → Standing → Type 0
-CrashesKeep old new first last =
-    Told old new
-    (λ before now. Leaves
-    (λ file. MayLeave before file ⊎ IsBeginning last.history (length first.history) file) before now)
+-- Every crash during the command left what a crash before it could leave; or a beginning of the last history that has
+-- all that the file stood for; or one followed by a group that was in doubt there. There are no more such groups than
+-- the disk's count of faults rose, unless it has reached its last value.
+pub record CrashesKeep (old new : DiskState) (first last : Standing) : Type 0 where
+  pub doubts : List Doubt
+  pub each : All (WasInDoubt last.history (length first.history)) doubts
+  pub few : (first.faults + length doubts ≤ last.faults) ⊎ (last_count ≤ last.faults)
+  pub leaves : Told old new
+      (λ before now. Leaves
+      (λ file. MayLeave before file ⊎ IsBeginningOr doubts last.history (length first.history) file) before now)
 
 -- the last history begins with the first
 abbrev pub HasGrown : Standing → Standing → Type 0

@@ -26,8 +26,7 @@ use Rattle.tb_disk.specs.Disks.{DiskState}
 use Rattle.tb_gates.specs.Clocks.{ClockState}
 use Rattle.tb_gates.specs.Gates.{GateState}
 use Rattle.tb_desk.specs.declared.fault.OpenFault.{OpenFault}
-use Rattle.tb_desk.specs.Desks.{IsBeginning}
-use Rattle.tb_desk.specs.Stands.{CrashesLeave}
+use Rattle.tb_desk.specs.Desks.{CrashesSince}
 use Rattle.tb_session.specs.declared.room.Room.{Room}
 use Rattle.tb_session.specs.Codes.{Made, fixed_code}
 use Rattle.tb_session.specs.Serve.{Run, AreRuns, ServesAll, calls_of_gates, links_of_gates, some_failed}
@@ -142,8 +141,8 @@ module _ {D C G K : Type 0} (disk : D → DiskState) (clock : C → ClockState) 
     pub failed : Bool
     pub all : ServesAll disk clock gate source sink room old.gates after new.gates served accepted failed
     pub stays : Stays (standing new.disk after.desk) new.disk
-    pub since : CrashesLeave (IsBeginning after.desk.host.history after.desk.recovered) (disk after.desk.opened)
-        new.disk
+    pub since : CrashesSince (disk after.desk.opened) new.disk after.desk.host.history after.desk.doubt
+        after.desk.recovered after.desk.faults
     pub counted : ((disk after.desk.opened).faults + after.desk.faults ≤ new.disk.faults)
         ⊎ (new.disk.faults ≡ last_count)
     pub ends : ToldEnds failed ended old.out new.out (served_text served accepted)

@@ -5,8 +5,7 @@ ghost use Rattle.tb_units.specs.Bytes.{line_feed};
 ghost use Rattle.tb_link.specs.Counts.{last_count};
 ghost use Rattle.tb_link.specs.Sinks.{Takes, FailsToTake};
 ghost use Rattle.tb_disk.specs.Disks.{DiskState};
-ghost use Rattle.tb_desk.specs.Desks.{IsBeginning};
-ghost use Rattle.tb_desk.specs.Stands.{CrashesLeave};
+ghost use Rattle.tb_desk.specs.Desks.{CrashesSince};
 ghost use Rattle.tb_host.specs.DiskRun.{Stays};
 ghost use Rattle.tb_host.specs.Standings.{standing};
 ghost use Rattle.tb_host.specs.ServeRun.{ServeEnds, ToldEnds, RoomEnds, served_text};
@@ -86,8 +85,8 @@ fn finish<D: Disk + Drop, C: Clock + Drop, O: Sink>(ended: Ended<D, C>, out: &mu
         (served_text ended.served ended.accepted) }
     ensures disk { result.1 ≡ ended.room.desk.disk }
     ensures stays { Stays (standing (D.disk result.1) ended.room.desk) (D.disk result.1) }
-    ensures since { CrashesLeave (IsBeginning ended.room.desk.host.history ended.room.desk.recovered)
-        (D.disk ended.room.desk.opened) (D.disk result.1) }
+    ensures since { CrashesSince (D.disk ended.room.desk.opened) (D.disk result.1) ended.room.desk.host.history
+        ended.room.desk.doubt ended.room.desk.recovered ended.room.desk.faults }
     ensures counted { ((D.disk ended.room.desk.opened).faults + ended.room.desk.faults ≤ (D.disk result.1).faults)
         ⊎ ((D.disk result.1).faults ≡ last_count) }
 {
@@ -105,8 +104,8 @@ fn finish<D: Disk + Drop, C: Clock + Drop, O: Sink>(ended: Ended<D, C>, out: &mu
 fn leave<D: Disk, C: Clock + Drop>(room: Room<D, C>) -> D
     ensures disk { result ≡ room.desk.disk }
     ensures stays { Stays (standing (D.disk result) room.desk) (D.disk result) }
-    ensures since { CrashesLeave (IsBeginning room.desk.host.history room.desk.recovered) (D.disk room.desk.opened)
-        (D.disk result) }
+    ensures since { CrashesSince (D.disk room.desk.opened) (D.disk result) room.desk.host.history room.desk.doubt
+        room.desk.recovered room.desk.faults }
     ensures counted { ((D.disk room.desk.opened).faults + room.desk.faults ≤ (D.disk result).faults)
         ⊎ ((D.disk result).faults ≡ last_count) }
 {
@@ -115,7 +114,6 @@ fn leave<D: Disk, C: Clock + Drop>(room: Room<D, C>) -> D
         clock: _,
         operator: _,
     } = room;
-    let _counted = desk.faults();
     desk.into_disk()
 }
 

@@ -13,7 +13,7 @@ returns-in-Ok-clause-ends g c =
       standing (g.D.Disk.disk c.import_table-ending.new.desk.disk) c.import_table-ending.new.desk,
       Keeps-closed g.D.Disk.disk (g.D.Disk.disk c.args.disk) c.in-Ok.desk c.import_table-ending.new.desk
           c.into_disk.result begun.exact begun.made begun.no_fault begun.crash done.kept done.grown disk.disk disk.legal
-          disk.accepted disk.stands disk.leaves disk.since,
+          disk.accepted disk.stands disk.leaves disk.since disk.counted,
       done.ends,
     )
 

@@ -19,7 +19,7 @@ returns-in-Ok-clause-ends g c = λ input.
         stands,
         Keeps-closed g.D.Disk.disk (g.D.Disk.disk c.args.disk) c.in-Ok.desk c.in-Ok.desk c.into_disk.result begun.exact
             begun.made begun.no_fault begun.crash (refl, refl) ([], sym (append-nil stands.history)) disk.disk
-            disk.legal disk.accepted disk.stands disk.leaves disk.since,
+            disk.legal disk.accepted disk.stands disk.leaves disk.since disk.counted,
         (refl, c.write_answer-ending.ensures.reads),
       );
       unread = refl;
