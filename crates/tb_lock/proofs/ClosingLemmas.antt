@@ -270,8 +270,8 @@ module _ {T : Type 0} (m : Meanings T) (id : ℕ) (last : View) (ticket serving 
           once = view-once m left.final.0.views id last rule.once at;
           repeats = All-weaker (Stands m last.fixed (m.history value))
               (λ c. m.answer c.code ≡ repeated → Contains c.prefix (entry_of m last.fixed c))
-              (λ c h is. law last.fixed c.prefix c.code c.faults_before c.faults_after c.readings h.answered is) last.mine
-              stand;
+              (λ c h is. law last.fixed c.prefix c.code c.faults_before c.faults_after c.readings h.answered is)
+              last.mine stand;
           counts = subst (λ (y : ℕ × ℕ). All (IsBetween y.0 y.1) last.mine)
               (λ i. (sym opened i, sym faults i)) (rule.failed.calls id last at);
           read = subst (λ (n : ℕ). All (IsReadBy n) last.mine) (sym readings) (rule.readings.calls id last at);

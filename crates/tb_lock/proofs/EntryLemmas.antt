@@ -104,8 +104,8 @@ module _ {T : Type 0} (m : Meanings T) (fixed : List ℕ) where
         (
           live_both,
           any-left (Makes m fixed e) v.mine w.mine
-              (subst (λ (u : View). Any (Makes m fixed e) u.mine) (sym (same-view vs id made.0 v made.1 at made.2 (sym same)))
-              made.3.1),
+              (subst (λ (u : View). Any (Makes m fixed e) u.mine)
+              (sym (same-view vs id made.0 v made.1 at made.2 (sym same))) made.3.1),
         ),
       ))
       (λ (ne' : made.0 ≢ id). (

@@ -99,8 +99,8 @@ pub record AreFaults {T : Type 0} (m : Meanings T) (opening_faults faults : ℕ)
   pub same : EachView views (λ v. IsLive v → v.opening_faults ≡ opening_faults)
   pub calls : EachView views (λ v. All (IsBetween opening_faults faults) v.mine)
 
--- Readings. So many readings the clock of the value at home has given, and had given as the value was taken. The turn of
--- no call ended at more of them.
+-- Readings. So many readings the clock of the value at home has given, and had given as the value was taken. The turn
+-- of no call ended at more of them.
 pub record AreRead {T : Type 0} (m : Meanings T) (read : ℕ) (homes : Homes T) (views : List View) : Type 0 where
   pub value : (value : T) → IsHome homes value → m.readings value ≡ read
   pub taken : (j n : ℕ) (v : View) → IsView views j v → HasTaken n v.stage → v.readings ≡ read

@@ -2,6 +2,7 @@
 #![tactic(auto)]
 
 mod annals;
+mod bells;
 mod lock;
 mod pass;
 mod rule;

@@ -2,6 +2,7 @@
 ghost use Rattle.std.specs.Prelude.{◌≡◌, ◌≢◌, ◌-◌, ◌^◌, ◌≤◌, [], Some, IfOk, IfErr, IsOk, IsErr, IsSome};
 
 use crate::annals::{Annals, Told};
+use crate::bells::Bells;
 use crate::pass::Pass;
 use crate::rule::{Both, Halves, Order};
 use crate::view::View;
@@ -15,6 +16,7 @@ use tb_units::OutOfMemory;
 /// A value that is taken in turns.
 pub struct TurnLock<T: Annals> {
     pub(crate) table: Table<Option<T>, View, Snapshot<T>, Order, Global>,
+    pub(crate) bells: Bells,
     ghost sized: { (table.shared.table_id.words ≡ 4) × (table.shared.table_id.slots ≡ 1) },
 }
 
@@ -50,7 +52,10 @@ impl<T: Annals> TurnLock<T> {
         slots.push_reserved(Some(value));
         match Table::new(alloc, &[0, 0, entries, faults], slots, &given) {
             Ok((table, seat)) => Ok((
-                TurnLock { table },
+                TurnLock {
+                    table,
+                    bells: Bells::new(),
+                },
                 Pass {
                     seat,
                     holds: false,
@@ -164,7 +169,7 @@ impl<T: Annals> TurnLock<T> {
         requires own { IsSeatOf self seat }
         ensures left { IsLeft T.means seat.id seat.me.0 result.0.ticket result.0.serving result.1 }
     {
-        let TurnLock { table } = self;
+        let TurnLock { table, bells: _ } = self;
         let mut closed = table.close_with(seat);
         let ticket = closed.word(0);
         let serving = closed.word(1);

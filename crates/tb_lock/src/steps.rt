@@ -33,15 +33,15 @@ impl<T: Annals> TurnLock<T> {
         self.table.shared.fetch_add::<Draw>(seat, TICKET, 1)
     }
 
-    // True where the ticket's turn has come.
-    pub(crate) fn look_at_serving(&self, seat: &mut Seat<Option<T>, View>, ticket: u64) -> bool
+    // The ticket whose turn it is.
+    pub(crate) fn look_at_serving(&self, seat: &mut Seat<Option<T>, View>, ticket: u64) -> u64
         requires own { IsSeatOf self.now seat.old }
         requires waits { (n : ℕ) × (ticket ≡ n % 2 ^ 64) × (seat.old.me.0.stage ≡ Waiting n) }
         ensures own { IsSeatOf self.now seat.new }
-        ensures come { result ≡ true → (n : ℕ) × (seat.new.me ≡ (at_stage (Come n) seat.old.me.0, seat.old.me.1)) }
-        ensures not_yet { result ≡ false → seat.new.me ≡ seat.old.me }
+        ensures come { result ≡ ticket → (n : ℕ) × (seat.new.me ≡ (at_stage (Come n) seat.old.me.0, seat.old.me.1)) }
+        ensures not_yet { result ≢ ticket → seat.new.me ≡ seat.old.me }
     {
-        self.table.shared.load::<LookAtServing>(seat, SERVING) == ticket
+        self.table.shared.load::<LookAtServing>(seat, SERVING)
     }
 
     // Looks at the count of faults, and with it takes the slot.
@@ -108,13 +108,14 @@ impl<T: Annals> TurnLock<T> {
             .fetch_add::<RaiseCount<K>>(seat, COUNT, entries);
     }
 
-    // Lets the next ticket's turn come.
+    // Lets the next ticket's turn come, and wakes the one behind it, which is the next in line from now on.
     pub(crate) fn pass_on(&self, seat: &mut Seat<Option<T>, View>)
         requires own { IsSeatOf self.now seat.old }
         requires counted { (n : ℕ) × (seat.old.me.0.stage ≡ Counted n) }
         ensures own { IsSeatOf self.now seat.new }
         ensures idle { seat.new.me ≡ (at_stage Idle seat.old.me.0, seat.old.me.1) }
     {
-        self.table.shared.fetch_add::<PassOn>(seat, SERVING, 1);
+        let served = self.table.shared.fetch_add::<PassOn>(seat, SERVING, 1);
+        self.bells.ring(served.wrapping_add(2));
     }
 }

@@ -1,4 +1,4 @@
-//! Turns of one thread and of two, on the tally.
+//! Turns of one thread and of four, on the tally.
 ghost use Rattle.std.specs.Prelude.{◌≡◌, ◌<◌, ◌^◌};
 ghost use Rattle.tb_lock.specs.Passes.{IsPassOf, IsIdle};
 
@@ -7,7 +7,7 @@ use crate::pass::Pass;
 use crate::tally::{Outcome, Tally};
 use std::sync::Wait;
 use std::test::Fail;
-use std::thread::join_mut;
+use std::thread::{Threads, join_mut};
 
 fn append_all<R: Wait>(
     rt: &R,
@@ -60,35 +60,57 @@ fn a_turn_without_an_end_is_unserved(rt: HostRuntime) -> Result<(), Fail> {
     Ok(())
 }
 
+// Two threads, of which the second appends the numbers behind those of the first.
+fn append_both<R: Threads + Wait + Sync>(
+    rt: &R,
+    lock: &TurnLock<Tally>,
+    pass: &mut Pass<Tally>,
+    other: &mut Pass<Tally>,
+    first: u64,
+)
+    requires own { IsPassOf lock.now pass.old × IsPassOf lock.now other.old }
+    requires idle { IsIdle pass.old × IsIdle other.old }
+    requires small { first < 2 ^ 31 }
+    ensures own { IsPassOf lock.now pass.new × IsPassOf lock.now other.new }
+    ensures idle { IsIdle pass.new × IsIdle other.new }
+{
+    join_mut(
+        rt,
+        &mut || append_all(rt, lock, pass, first, 500),
+        &mut || append_all(rt, lock, other, first + 500, 500),
+    );
+}
+
+// Of four that wait, those behind the next in line sleep.
 #[test]
-fn two_threads_append_in_their_own_order(rt: HostRuntime) -> Result<(), Fail> {
+fn four_threads_append_in_their_own_order(rt: HostRuntime) -> Result<(), Fail> {
     let Ok((lock, mut pass)) = TurnLock::new(rt.alloc(), Tally::new(rt.alloc(), 4000, 0)) else {
         panic!(rt; "no memory")
     };
-    let mut other = lock.split(&mut pass);
+    let mut second = lock.split(&mut pass);
+    let mut third = lock.split(&mut pass);
+    let mut fourth = lock.split(&mut second);
     let shared = &lock;
     join_mut(
         &rt,
-        &mut || append_all(&rt, shared, &mut pass, 0, 1000),
-        &mut || append_all(&rt, shared, &mut other, 5000, 1000),
+        &mut || append_both(&rt, shared, &mut pass, &mut second, 0),
+        &mut || append_both(&rt, shared, &mut third, &mut fourth, 1000),
     );
-    lock.join(&mut pass, other);
+    lock.join(&mut pass, second);
+    lock.join(&mut pass, third);
+    lock.join(&mut pass, fourth);
     let Ok(tally) = lock.close(pass) else {
         panic!(rt; "a turn is out")
     };
     assert_eq!(rt; tally.numbers.len(), 2000);
-    let mut low = 0;
-    let mut high = 5000;
+    let mut next = [0, 500, 1000, 1500];
     for number in &tally.numbers {
-        if *number < 5000 {
-            assert_eq!(rt; *number, low);
-            low = u64::wrapping_add(low, 1);
-        } else {
-            assert_eq!(rt; *number, high);
-            high = u64::wrapping_add(high, 1);
-        }
+        let thread = *number / 500;
+        assert!(rt; thread < 4);
+        assert_eq!(rt; *number, next[thread as usize]);
+        next[thread as usize] = u64::wrapping_add(*number, 1);
     }
-    assert_eq!(rt; (low, high), (1000, 6000));
+    assert_eq!(rt; next, [500, 1000, 1500, 2000]);
     Ok(())
 }
 

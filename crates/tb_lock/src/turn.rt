@@ -22,10 +22,17 @@ impl<T: Annals> TurnLock<T> {
         ensures come { (n : ℕ) × (seat.new.me ≡ (at_stage (Come n) seat.old.me.0, seat.old.me.1)) }
     {
         for _ in rt.forever() {
-            if self.look_at_serving(seat, ticket) {
+            let rung = self.bells.rung(ticket);
+            let served = self.look_at_serving(seat, ticket);
+            if served == ticket {
                 return;
             }
-            thread::yield_now();
+            if ticket.wrapping_sub(served) == 1 {
+                // The next in line stays awake: a turn can be shorter than it takes to rouse a sleeper.
+                thread::yield_now();
+            } else {
+                self.bells.sleep(rt, ticket, rung);
+            }
         }
         unreachable!()
     }
