@@ -8,8 +8,6 @@ mod mark;
 mod marks;
 mod refusals;
 mod runs;
-#[cfg(test)]
-mod tests;
 
 pub use accounts::Accounts;
 pub use mark::Mark;

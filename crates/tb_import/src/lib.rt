@@ -7,8 +7,6 @@ mod laws;
 mod reading;
 mod records;
 mod row;
-#[cfg(test)]
-mod tests;
 
 pub use export::{export_awards, export_holdings};
 pub use laws::{exports_are_plain, one_table_or_bad_record};

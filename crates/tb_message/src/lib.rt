@@ -12,8 +12,6 @@ mod query;
 mod record;
 mod requests;
 mod taking;
-#[cfg(test)]
-mod tests;
 mod verdict;
 mod writing;
 

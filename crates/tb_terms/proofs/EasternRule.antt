@@ -55,7 +55,9 @@ unfolding jiff_on_literals
 rule_read = refl
 
 -- the first of a month, from 1 January
-pub days_from_civil-month : (y : ℤ) (m : ℕ) → 1 ≤ m → days_from_civil y m 1 ≡ first_day y +ℤ pos (days_of_months y (m - 1))
+pub days_from_civil-month : (y : ℤ) (m : ℕ)
+    → 1 ≤ m
+    → days_from_civil y m 1 ≡ first_day y +ℤ pos (days_of_months y (m - 1))
 days_from_civil-month y m h =
     let a = days_from_civil-day_count y m 1 in
     let b = days_from_civil-day_count y 1 1 in
@@ -103,7 +105,9 @@ abbrev pub two_o_clock : ℤ → ℤ
 two_o_clock day = day *ℤ pos 86_400_000_000_000 +ℤ pos 7_200_000_000_000
 
 -- a midnight lies between the changes where its day is after the one and not after the other
-window_is : (s e day : ℤ) → s <ℤ e → in_window (two_o_clock s, two_o_clock e) (day_nanos day) ≡ (int_lt s day && int_le day e)
+window_is : (s e day : ℤ)
+    → s <ℤ e
+    → in_window (two_o_clock s, two_o_clock e) (day_nanos day) ≡ (int_lt s day && int_le day e)
 window_is s e day h = grind (arith, ints)
 
 -- no midnight lies in the hour that is left out
@@ -141,13 +145,17 @@ offset_by_tests true false true std dst h = refl
 offset_by_tests true false false std dst h = refl
 
 -- outside the hour that is left out it is the offset of the window
-offset_outside_the_gap : (std dst : Offset) (w : ℤ × ℤ) (at : ℤ) → in_span w.0 (saturating_add w.0 (shift_between std dst)) at ≡ false
+offset_outside_the_gap : (std dst : Offset) (w : ℤ × ℤ) (at : ℤ)
+    → in_span w.0 (saturating_add w.0 (shift_between std dst)) at ≡ false
     → compatible_offset (ambiguous_ahead std dst w at) ≡ (if in_window w at then dst else std)
 offset_outside_the_gap std dst w at gap =
     offset_by_tests (in_window w at) _ (in_span (saturating_sub w.1 (shift_between std dst)) w.1 at) std dst gap
 
 -- the offset at a midnight, with the two Sundays' mornings
-offset_at_midnight : (std dst : Offset) (s e day : ℤ) → std.seconds ≡ neg_ℤ (pos 18000) → dst.seconds ≡ neg_ℤ (pos 14400) → s <ℤ e
+offset_at_midnight : (std dst : Offset) (s e day : ℤ)
+    → std.seconds ≡ neg_ℤ (pos 18000)
+    → dst.seconds ≡ neg_ℤ (pos 14400)
+    → s <ℤ e
     → neg_ℤ (pos 4_371_587) ≤ℤ s → s ≤ℤ pos 2_932_895
     → compatible_offset (ambiguous_by std dst (two_o_clock s, two_o_clock e) (day_nanos day))
     ≡ (if int_lt s day && int_le day e then dst else std)
@@ -158,7 +166,9 @@ offset_at_midnight std dst s e day std_is dst_is order low high =
     ∙ ap (λ (b : Bool). if b then dst else std) (window_is s e day order)
 
 -- the rule has daylight saving time
-some_dst : (o : Option Dst) → option_map dst_view o ≡ Some daylight_rule → (d : Dst) × (o ≡ Some d) × (dst_view d ≡ daylight_rule)
+some_dst : (o : Option Dst)
+    → option_map dst_view o ≡ Some daylight_rule
+    → (d : Dst) × (o ≡ Some d) × (dst_view d ≡ daylight_rule)
 some_dst None h = absurd (cc)
 some_dst (Some d) h = (d, refl, cc)
 

@@ -199,6 +199,6 @@ HasLeapDay-february issue from to =
         },
       ),
       λ has. subst (λ (y : ℕ). is_leap y ≡ true)
-          (february_after-one (year_of issue) (month_of issue) (day_of_month issue) issue has.0 is has.1.from has.1.after
-          has.1.within) has.1.leap,
+          (february_after-one (year_of issue) (month_of issue) (day_of_month issue) issue
+          has.0 is has.1.from has.1.after has.1.within) has.1.leap,
     )

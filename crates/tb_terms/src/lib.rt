@@ -11,8 +11,6 @@ mod length;
 mod paying;
 mod refusal;
 mod terms;
-#[cfg(test)]
-mod tests;
 mod texts;
 mod zone;
 

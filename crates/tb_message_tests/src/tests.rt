@@ -1,8 +1,8 @@
 //! Tests of the public calls. The bytes of records were spelled by hand from the table of formats.
-use crate::*;
 use std::alloc::Global;
 use std::process::Abort;
 use std::test::Fail;
+use tb_message::{Entry, Key, Kind, Message, Query, Request, Verdict, read_request, verdict_line};
 use tb_terms::{Field, Refusal};
 use tb_units::{Day, Dollars, Ident, Moment};
 

@@ -2,9 +2,9 @@
 ghost use Rattle.std.specs.Prelude.{◌≡◌, ◌≢◌, ◌≤◌, ◌^◌, []};
 ghost use Rattle.tb_holdings.specs.Book.{most_held, most_open};
 
-use super::*;
 use std::process::Abort;
 use std::test::Fail;
+use tb_holdings::{Accounts, InsufficientFree, PledgeRefused, ReleaseRefused};
 use tb_units::{Dollars, OutOfMemory};
 
 fn dollars(value: u128) -> Dollars

@@ -1,7 +1,10 @@
 //! Tests of the public calls. The seconds come from another calendar's arithmetic, or from published announcements.
-use crate::*;
 use std::process::Abort;
 use std::test::Fail;
+use tb_terms::{
+    Announcement, Cusip, EasternDays, Field, Refusal, Terms, TermsFault, payment_date, print_day,
+    print_minute, read_day, read_minute, year_length,
+};
 use tb_units::{Day, Dollars, Ident, Moment, OutOfMemory, Short, YearLength};
 
 fn day(rt: &impl Abort, text: &str) -> Day {

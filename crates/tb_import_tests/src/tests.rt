@@ -1,9 +1,9 @@
 //! Tests of the public calls: tables that were written by hand, and tables at the limits.
-use crate::*;
 use std::alloc::{AllocError, Global};
 use std::process::Abort;
 use std::test::Fail;
 use tb_history::{AwardLine, Awards, HoldingLine, Holdings};
+use tb_import::{ImportFault, export_awards, export_holdings, read_bids};
 use tb_message::Message;
 use tb_terms::Cusip;
 use tb_units::{Cents, Dollars, Ident, Rate};
