@@ -13,7 +13,7 @@ use Rattle.tb_desk.specs.Turn.{Held, Asked, Replies, IsTurn, IsOneOf}
 use Rattle.tb_desk.specs.Desks.{IsDesk, CountsFault}
 use Rattle.tb_journal.proofs.ToldLemmas.{known_of}
 use Rattle.tb_desk.proofs.StepLemmas.{either_stands, crash-none}
-use Rattle.tb_desk.proofs.DoubtLemmas.{CrashesSince-opened, CrashesSince-turn}
+use Rattle.tb_desk.proofs.CrashLemmas.{CrashesSince-opened, CrashesSince-turn}
 use Rattle.tb_desk.proofs.TurnLemmas.{Grows-turn, length-grows}
 
 -- each crash now leaves the history, with what is in doubt or without
@@ -97,7 +97,7 @@ pub IsDesk-turn : (opened old new : DiskState) (gate here : ℕ) (next behind : 
     → IsDesk new opened here behind after.history after.doubt recovered now
 IsDesk-turn opened old new gate here next behind asked held after replies at recovered faults now desk stands few turn
     crash falls rose counts =
-    let limited = limited_turn replies faults now counts desk.limited in
+    let now_limited = limited_turn replies faults now counts desk.limited in
     record {
       stands = stands;
       recovers = omega (
@@ -106,10 +106,17 @@ IsDesk-turn opened old new gate here next behind asked held after replies at rec
         length-grows held.history after.history
             (Grows-turn gate old asked held after replies at turn),
       );
-      since = CrashesSince-turn gate asked held after replies at recovered faults now opened old new few turn
-          stands.accepted desk.recovers counts desk.limited limited crash desk.since;
+      since = CrashesSince-turn gate asked held after replies at recovered faults now opened old new (record {
+        few = few;
+        turn = turn;
+        accepted = stands.accepted;
+        recovers = desk.recovers;
+        counts = counts;
+        limited = desk.limited;
+        now_limited = now_limited;
+      }) crash desk.since;
       counted = counted_turn replies opened.faults old.faults new.faults faults now falls rose counts desk.counted;
-      limited = limited;
+      limited = now_limited;
     }
 
 -- a desk that was just opened

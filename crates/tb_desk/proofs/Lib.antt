@@ -1,10 +1,10 @@
 pub mod GroupLemmas
 pub mod StepLemmas
 pub mod TurnLemmas
-pub mod DoubtLemmas
 pub mod DeskLemmas
 pub mod ReplayLemmas
 pub mod ExactLemmas
 pub mod JudgeLemmas
 pub mod AnswerLemmas
+pub mod CrashLemmas
 pub mod GroupAnswerLemmas

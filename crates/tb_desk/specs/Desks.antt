@@ -67,21 +67,21 @@ pub record IsOneGroup (entries : List Entry) : Type 0 where
   pub few : length entries ≤ 64
   pub each : All (λ (entry : Entry). (entry.submitter ≡ submitter) × (entry.moment ≡ moment)) entries
 
--- a group that was in doubt, and how many entries of the history stood before it
-pub record Doubt : Type 0 where
+-- a group, and how many entries of the history stood before it
+pub record PlacedGroup : Type 0 where
   pub before : ℕ
   pub group : List Entry
 
 -- so many entries of the history, and the group behind them
-abbrev pub with_doubt : List Entry → Doubt → List Entry
-with_doubt history doubt = take doubt.before history ++ doubt.group
+abbrev pub with_group : List Entry → PlacedGroup → List Entry
+with_group history placed = take placed.before history ++ placed.group
 
--- it was one group, accepted on a beginning of the history that has the recovered one
-pub record WasInDoubt (history : List Entry) (recovered : ℕ) (doubt : Doubt) : Type 0 where
-  pub one : IsOneGroup doubt.group
-  pub enough : recovered ≤ doubt.before
-  pub within : doubt.before ≤ length history
-  pub accepted : IsLegal (with_doubt history doubt)
+-- it is one group, and was accepted on a beginning of the history that has the recovered one
+pub record WasAccepted (history : List Entry) (recovered : ℕ) (placed : PlacedGroup) : Type 0 where
+  pub one : IsOneGroup placed.group
+  pub enough : recovered ≤ placed.before
+  pub within : placed.before ≤ length history
+  pub accepted : IsLegal (with_group history placed)
 
 -- a file stands for a beginning of the history that has the recovered one
 pub record IsBeginning (history : List Entry) (recovered : ℕ) (file : List ℕ) : Type 0 where
@@ -90,21 +90,21 @@ pub record IsBeginning (history : List Entry) (recovered : ℕ) (file : List ℕ
   pub within : kept ≤ length history
   pub stands : StandsForHistory (take kept history) file
 
--- or for a beginning followed by one of these groups, which was in doubt there
-abbrev pub IsBeginningOr : List Doubt → List Entry → ℕ → List ℕ → Type 0
-IsBeginningOr doubts history recovered file =
+-- or for a beginning followed by one of these groups, at its place
+abbrev pub IsBeginningOr : List PlacedGroup → List Entry → ℕ → List ℕ → Type 0
+IsBeginningOr groups history recovered file =
     IsBeginning history recovered file
-    ⊎ ((doubt : Doubt) × Contains doubts doubt × StandsForHistory (with_doubt history doubt) file)
+    ⊎ ((placed : PlacedGroup) × Contains groups placed × StandsForHistory (with_group history placed) file)
 
 -- Every crash since the opening left a beginning of the history that has the recovered one, or one followed by a group
--- that was in doubt there. One that is in doubt now is among these, and there are no more of them than calls that were
--- answered with a disk fault.
+-- that was accepted there. A group that is in doubt now is among these, and there are no more of them than calls that
+-- were answered with a disk fault, unless that count stands at its last value.
 pub record CrashesSince (opened disk : DiskState) (history doubt : List Entry) (recovered faults : ℕ) : Type 0 where
-  pub doubts : List Doubt
-  pub each : All (WasInDoubt history recovered) doubts
-  pub now : 1 ≤ length doubt → Contains doubts (record { before = length history; group = doubt })
-  pub few : (length doubts ≤ faults) ⊎ (faults ≡ last_count)
-  pub leaves : CrashesLeave (IsBeginningOr doubts history recovered) opened disk
+  pub groups : List PlacedGroup
+  pub each : All (WasAccepted history recovered) groups
+  pub now : 1 ≤ length doubt → Contains groups (record { before = length history; group = doubt })
+  pub few : (length groups ≤ faults) ⊎ (faults ≡ last_count)
+  pub leaves : CrashesLeave (IsBeginningOr groups history recovered) opened disk
 
 -- what holds of every desk
 pub record IsDesk (disk opened : DiskState) (gate : ℕ) (next : Option ℕ) (history doubt : List Entry)

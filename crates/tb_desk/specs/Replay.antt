@@ -60,8 +60,8 @@ pub record IsExact (file : List ℕ) (answer : Answer) : Type 0 where
   pub is_true : IsTrueOf file answer
   pub only : (other : Answer) → IsTrueOf file other → SpeaksOfFile other → SpeaksOfFile answer → answer ≡ other
 
--- A file that is no journal, or damaged, was put on the disk and nothing else. Where the disk failed or memory ran out no
--- more was done to it than an opening does.
+-- A file that is no journal, or damaged, was put on the disk and nothing else. Where the disk failed or memory ran out
+-- no more was done to it than an opening does.
 abbrev pub LeavesRefused : OpenFault → Past → Past → Type 0
 LeavesRefused (fault.NotAJournal found) before now = now ≡ Then Synced before
 LeavesRefused (fault.Damaged place) before now = now ≡ Then Synced before

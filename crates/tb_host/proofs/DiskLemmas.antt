@@ -12,8 +12,8 @@ use Rattle.tb_journal.proofs.ToldLemmas.{Told-both, Told-weaker, told_given}
 use Rattle.tb_message.specs.declared.message.Entry.{Entry}
 use Rattle.tb_history.specs.Legal.{IsLegal}
 use Rattle.tb_history.proofs.HistoryLemmas.{IsLegal-front}
-use Rattle.tb_desk.specs.Desks.{CrashesSince, DeskView, Doubt, IsBeginningOr, WasInDoubt}
-use Rattle.tb_desk.proofs.DoubtLemmas.{IsBeginning-whole}
+use Rattle.tb_desk.specs.Desks.{CrashesSince, DeskView, PlacedGroup, IsBeginningOr, WasAccepted}
+use Rattle.tb_desk.proofs.CrashLemmas.{IsBeginning-whole}
 use Rattle.tb_desk.specs.Replay.{IsExact, LeavesRefused}
 use Rattle.tb_desk.specs.Stands.{LeavesEither, StandsForEither, StandsForHistory, payloads_of}
 use Rattle.tb_desk.specs.declared.fault.OpenFault.{OpenFault}
@@ -42,21 +42,21 @@ pub IsLegal-first : (first last : Standing) → HasGrown first last → IsLegal 
 IsLegal-first first last grown legal = IsLegal-front grown.0 first.history (subst IsLegal grown.1 legal)
 
 -- a crash during the command
-keeps-past : (first last : List Entry) (doubts : List Doubt) (before mid now : Past)
+keeps-past : (first last : List Entry) (groups : List PlacedGroup) (before mid now : Past)
     → (more : List Entry) × (last ≡ first ++ more)
     → StandsForHistory first (contents_of before)
     → IsHarmless before mid
-    → Leaves (IsBeginningOr doubts last (length first)) mid now
-    → Leaves (λ file. MayLeave before file ⊎ IsBeginningOr doubts last (length first) file) before now
-keeps-past first last doubts before mid now grown stands harmless since =
-    let Left : List ℕ → Type 0 = λ file. MayLeave before file ⊎ IsBeginningOr doubts last (length first) file in
+    → Leaves (IsBeginningOr groups last (length first)) mid now
+    → Leaves (λ file. MayLeave before file ⊎ IsBeginningOr groups last (length first) file) before now
+keeps-past first last groups before mid now grown stands harmless since =
+    let Left : List ℕ → Type 0 = λ file. MayLeave before file ⊎ IsBeginningOr groups last (length first) file in
     let Opening : List ℕ → Type 0 = λ file. MayLeave before file ⊎ StandsAsWell (contents_of before) file in
     Leaves-both Left before mid now (Leaves-weaker Opening Left before mid kept harmless.images)
-    (Leaves-weaker (IsBeginningOr doubts last (length first)) Left mid now (λ file begins. inr begins) since)
+    (Leaves-weaker (IsBeginningOr groups last (length first)) Left mid now (λ file begins. inr begins) since)
   where
     kept : (file : List ℕ)
         → MayLeave before file ⊎ StandsAsWell (contents_of before) file
-        → MayLeave before file ⊎ IsBeginningOr doubts last (length first) file
+        → MayLeave before file ⊎ IsBeginningOr groups last (length first) file
     kept file (inl left) = inl left
     kept file (inr well) =
         inr (inl (IsBeginning-whole first last (length first) file grown (omega arith)
@@ -86,22 +86,22 @@ pub CrashesKeep-here : (old mid new : DiskState) (first last : Standing) (recove
     → OpenedAndLeft old mid new first last recovered faults
     → CrashesKeep old new first last
 CrashesKeep-here old mid new first last recovered faults desk = record {
-  doubts = doubts;
-  each = subst (λ (n : ℕ). All (WasInDoubt last.history n) doubts) desk.recovers desk.since.each;
+  groups = groups;
+  each = subst (λ (n : ℕ). All (WasAccepted last.history n) groups) desk.recovers desk.since.each;
   few = fewer desk.since.few desk.counted;
   leaves = Told-both Both (λ before now. Leaves Begins before now)
       (λ before now. Leaves (λ file. MayLeave before file ⊎ Begins file) before now) old mid new
-      (λ before between now one two. keeps-past first.history last.history doubts before between now desk.grown one.1
+      (λ before between now one two. keeps-past first.history last.history groups before between now desk.grown one.1
       one.0 two) opening
-      (subst (λ (n : ℕ). Told mid new (λ before now. Leaves (IsBeginningOr doubts last.history n) before now))
+      (subst (λ (n : ℕ). Told mid new (λ before now. Leaves (IsBeginningOr groups last.history n) before now))
       desk.recovers desk.since.leaves);
 }
   where
-    doubts : List Doubt
-    doubts = desk.since.doubts
+    groups : List PlacedGroup
+    groups = desk.since.groups
 
     Begins : List ℕ → Type 0
-    Begins = IsBeginningOr doubts last.history (length first.history)
+    Begins = IsBeginningOr groups last.history (length first.history)
 
     Both : Past → Past → Type 0
     Both before mid = IsHarmless before mid × StandsForHistory first.history (contents_of before)
@@ -111,53 +111,69 @@ CrashesKeep-here old mid new first last recovered faults desk = record {
         (λ before now one two. (one, two)) desk.harmless (exact-stands old.past first.history desk.exact)
 
     -- the calls that met a fault are no more than the faults that the disk has counted
-    fewer : (length doubts ≤ faults) ⊎ (faults ≡ last_count)
+    fewer : (length groups ≤ faults) ⊎ (faults ≡ last_count)
         → (mid.faults + faults ≤ new.faults) ⊎ (new.faults ≡ last_count)
-        → (first.faults + length doubts ≤ last.faults) ⊎ (last_count ≤ last.faults)
+        → (first.faults + length groups ≤ last.faults) ⊎ (last_count ≤ last.faults)
     fewer (inl few) (inl within) = inl (omega (arith, few, within, desk.first_count, desk.final_count))
     fewer (inr end_) (inl within) = inr (omega (arith, end_, within, desk.final_count))
     fewer few (inr end_) = inr (omega (arith, end_, desk.final_count))
 
--- A desk was opened on a disk, and later its disk was handed back: that keeps the history of the desk that was closed.
+-- the desk was opened on the disk, with all that the file stood for and nothing else
+pub record WasOpened {D : Type 0} (disk : D → DiskState) (old : DiskState) (opened : DeskView D) : Type 0 where
+  pub exact : IfSome old.past (λ past. IsExact (contents_of past) (Ok opened.host.history))
+  pub made : (opened.doubt ≡ []) × (opened.recovered ≡ length opened.host.history) × (opened.faults ≡ 0)
+      × (opened.opened ≡ opened.disk)
+  pub no_fault : (disk opened.disk).faults ≡ old.faults
+  pub harmless : Told old (disk opened.disk) IsHarmless
+
+-- the desk was closed later, and its disk handed back
+pub record WasClosed {D : Type 0} (disk : D → DiskState) (opened closed : DeskView D) (left : D) : Type 0 where
+  pub kept : (closed.opened ≡ opened.opened) × (closed.recovered ≡ opened.recovered)
+  pub grown : HasGrown (standing (disk opened.disk) opened) (standing (disk closed.disk) closed)
+  pub is : left ≡ closed.disk
+  pub legal : IsLegal closed.host.history
+  pub accepted : IsLegal (closed.host.history ++ closed.doubt)
+  pub stands : IfSome (disk left).past
+      (λ past. StandsForEither closed.host.history closed.doubt (contents_of past))
+  pub leaves : LeavesEither (disk left) closed.host.history closed.doubt
+  pub since : CrashesSince (disk closed.opened) (disk left) closed.host.history closed.doubt closed.recovered
+      closed.faults
+  pub counted : ((disk closed.opened).faults + closed.faults ≤ (disk left).faults)
+      ⊎ ((disk left).faults ≡ last_count)
+
+-- what the disk keeps then is the history of the desk that was closed
 pub Keeps-closed : {D : Type 0} (disk : D → DiskState) (old : DiskState) (opened closed : DeskView D) (left : D)
-    → IfSome old.past (λ past. IsExact (contents_of past) (Ok opened.host.history))
-    → (opened.doubt ≡ []) × (opened.recovered ≡ length opened.host.history) × (opened.faults ≡ 0)
-    × (opened.opened ≡ opened.disk)
-    → (disk opened.disk).faults ≡ old.faults
-    → Told old (disk opened.disk) IsHarmless
-    → (closed.opened ≡ opened.opened) × (closed.recovered ≡ opened.recovered)
-    → HasGrown (standing (disk opened.disk) opened) (standing (disk closed.disk) closed)
-    → left ≡ closed.disk
-    → IsLegal closed.host.history
-    → IsLegal (closed.host.history ++ closed.doubt)
-    → IfSome (disk left).past (λ past. StandsForEither closed.host.history closed.doubt (contents_of past))
-    → LeavesEither (disk left) closed.host.history closed.doubt
-    → CrashesSince (disk closed.opened) (disk left) closed.host.history closed.doubt closed.recovered closed.faults
-    → ((disk closed.opened).faults + closed.faults ≤ (disk left).faults) ⊎ ((disk left).faults ≡ last_count)
+    → WasOpened disk old opened
+    → WasClosed disk opened closed left
     → Keeps old (disk left) (standing (disk opened.disk) opened) (standing (disk closed.disk) closed)
-Keeps-closed {D} disk old opened closed left exact made no_fault crash kept grown is legal accepted stands leaves since
-    counted = record {
-      opened = record {
-        stood = exact;
-        legal = IsLegal-first first last grown legal;
-        sure = made.0;
-        count = no_fault;
-      };
-      grown = grown;
-      stays = record { legal = legal; accepted = accepted; stands = stands; leaves = leaves; count = count };
-      since = CrashesKeep-here old (disk opened.disk) (disk left) first last closed.recovered closed.faults (record {
-        exact = exact;
-        first_count = refl;
-        recovers = kept.1 ∙ made.1;
-        harmless = crash;
-        grown = grown;
-        final_count = count;
-        since = subst (λ (d : D). CrashesSince (disk d) (disk left) closed.host.history closed.doubt closed.recovered
-            closed.faults) same since;
-        counted = subst (λ (d : D). ((disk d).faults + closed.faults ≤ (disk left).faults)
-            ⊎ ((disk left).faults ≡ last_count)) same counted;
-      });
-    }
+Keeps-closed {D} disk old opened closed left begun done = record {
+  opened = record {
+    stood = begun.exact;
+    legal = IsLegal-first first last done.grown done.legal;
+    sure = begun.made.0;
+    count = begun.no_fault;
+  };
+  grown = done.grown;
+  stays = record {
+    legal = done.legal;
+    accepted = done.accepted;
+    stands = done.stands;
+    leaves = done.leaves;
+    count = count;
+  };
+  since = CrashesKeep-here old (disk opened.disk) (disk left) first last closed.recovered closed.faults (record {
+    exact = begun.exact;
+    first_count = refl;
+    recovers = done.kept.1 ∙ begun.made.1;
+    harmless = begun.harmless;
+    grown = done.grown;
+    final_count = count;
+    since = subst (λ (d : D). CrashesSince (disk d) (disk left) closed.host.history closed.doubt closed.recovered
+        closed.faults) same done.since;
+    counted = subst (λ (d : D). ((disk d).faults + closed.faults ≤ (disk left).faults)
+        ⊎ ((disk left).faults ≡ last_count)) same done.counted;
+  });
+}
   where
     first : Standing
     first = standing (disk opened.disk) opened
@@ -166,11 +182,11 @@ Keeps-closed {D} disk old opened closed left exact made no_fault crash kept grow
     last = standing (disk closed.disk) closed
 
     count : last.faults ≡ (disk left).faults
-    count = ap (λ (d : D). (disk d).faults) (sym is)
+    count = ap (λ (d : D). (disk d).faults) (sym done.is)
 
     -- the closed desk was opened on the disk that the opening left
     same : closed.opened ≡ opened.disk
-    same = kept.0 ∙ made.3
+    same = done.kept.0 ∙ begun.made.3
 
 -- a refusal does no more to the disk than an opening does
 pub breaks_refused : (why : OpenFault) (old new : DiskState)

@@ -7,7 +7,7 @@ use Rattle.tb_journal.specs.Journal.{Told}
 use Rattle.tb_journal.specs.Opening.{IsHarmless}
 use Rattle.tb_message.specs.declared.message.Entry.{Entry}
 use Rattle.tb_history.specs.Legal.{IsLegal}
-use Rattle.tb_desk.specs.Desks.{Doubt, IsBeginningOr, WasInDoubt}
+use Rattle.tb_desk.specs.Desks.{PlacedGroup, IsBeginningOr, WasAccepted}
 use Rattle.tb_desk.specs.Replay.{IsExact, LeavesRefused}
 use Rattle.tb_desk.specs.Stands.{LeavesEither, StandsForEither, StandsForHistory}
 use Rattle.tb_desk.specs.declared.fault.OpenFault.{OpenFault}
@@ -31,15 +31,15 @@ pub record Stays (last : Standing) (disk : DiskState) : Type 0 where
   pub count : last.faults ≡ disk.faults
 
 -- Every crash during the command left what a crash before it could leave; or a beginning of the last history that has
--- all that the file stood for; or one followed by a group that was in doubt there. There are no more such groups than
+-- all that the file stood for; or one followed by a group that was accepted there. There are no more such groups than
 -- the disk's count of faults rose, unless it has reached its last value.
 pub record CrashesKeep (old new : DiskState) (first last : Standing) : Type 0 where
-  pub doubts : List Doubt
-  pub each : All (WasInDoubt last.history (length first.history)) doubts
-  pub few : (first.faults + length doubts ≤ last.faults) ⊎ (last_count ≤ last.faults)
+  pub groups : List PlacedGroup
+  pub each : All (WasAccepted last.history (length first.history)) groups
+  pub few : (first.faults + length groups ≤ last.faults) ⊎ (last_count ≤ last.faults)
   pub leaves : Told old new
       (λ before now. Leaves
-      (λ file. MayLeave before file ⊎ IsBeginningOr doubts last.history (length first.history) file) before now)
+      (λ file. MayLeave before file ⊎ IsBeginningOr groups last.history (length first.history) file) before now)
 
 -- the last history begins with the first
 abbrev pub HasGrown : Standing → Standing → Type 0

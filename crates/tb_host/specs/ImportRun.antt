@@ -111,8 +111,8 @@ pub record ImportedInPart (sender : Sender) (clock clock' : ClockState) (input i
     pub sent : HasSent sender clock clock' input input' first last text rest
     pub taken : out'.taken ≡ after_taken out.taken text
 
--- Of the rows the first runs were sent, and then the run behind them. The output has taken what they are answered, of the
--- last run's text a part.
+-- Of the rows the first runs were sent, and then the run behind them. The output has taken what they are answered, of
+-- the last run's text a part.
 pub record SentInVain (sender : Sender) (clock clock' : ClockState) (rows : List SentRow) (out out' : SinkState)
     (first last : Standing) : Type 0
   where

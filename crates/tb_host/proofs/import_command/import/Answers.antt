@@ -12,8 +12,22 @@ returns-in-Ok-clause-ends g c =
       standing (g.D.Disk.disk c.in-Ok.desk.disk) c.in-Ok.desk,
       standing (g.D.Disk.disk c.import_table-ending.new.desk.disk) c.import_table-ending.new.desk,
       Keeps-closed g.D.Disk.disk (g.D.Disk.disk c.args.disk) c.in-Ok.desk c.import_table-ending.new.desk
-          c.into_disk.result begun.exact begun.made begun.no_fault begun.crash done.kept done.grown disk.disk disk.legal
-          disk.accepted disk.stands disk.leaves disk.since disk.counted,
+          c.into_disk.result (record {
+            exact = begun.exact;
+            made = begun.made;
+            no_fault = begun.no_fault;
+            harmless = begun.crash;
+          }) (record {
+            kept = done.kept;
+            grown = done.grown;
+            is = disk.disk;
+            legal = disk.legal;
+            accepted = disk.accepted;
+            stands = disk.stands;
+            leaves = disk.leaves;
+            since = disk.since;
+            counted = disk.counted;
+          }),
       done.ends,
     )
 

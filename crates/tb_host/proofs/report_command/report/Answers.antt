@@ -17,9 +17,22 @@ returns-in-Ok-clause-ends g c = λ input.
       ends = inl (
         stands,
         stands,
-        Keeps-closed g.D.Disk.disk (g.D.Disk.disk c.args.disk) c.in-Ok.desk c.in-Ok.desk c.into_disk.result begun.exact
-            begun.made begun.no_fault begun.crash (refl, refl) ([], sym (append-nil stands.history)) disk.disk
-            disk.legal disk.accepted disk.stands disk.leaves disk.since disk.counted,
+        Keeps-closed g.D.Disk.disk (g.D.Disk.disk c.args.disk) c.in-Ok.desk c.in-Ok.desk c.into_disk.result (record {
+          exact = begun.exact;
+          made = begun.made;
+          no_fault = begun.no_fault;
+          harmless = begun.crash;
+        }) (record {
+          kept = (refl, refl);
+          grown = ([], sym (append-nil stands.history));
+          is = disk.disk;
+          legal = disk.legal;
+          accepted = disk.accepted;
+          stands = disk.stands;
+          leaves = disk.leaves;
+          since = disk.since;
+          counted = disk.counted;
+        }),
         (refl, c.write_answer-ending.ensures.reads),
       );
       unread = refl;
