@@ -1,7 +1,7 @@
 //! Puts elements into a list in blocks by their keys, finds, walks and reads them, and takes them out.
 //!
-//! With no argument it does so with 3,000 elements in each order, and prints how many it found. With a number it takes so
-//! many, and prints nanoseconds for each step too; a second word names one order: random, rising or falling.
+//! With no argument it does so with 3,000 elements in each order, and prints how many it found. With a number it takes
+//! so many, and prints nanoseconds for each step too; a second word names one order: random, rising or falling.
 #![tactic(auto)]
 
 ghost use Rattle.std.specs.Prelude.{◌≤◌, length};

@@ -1,7 +1,7 @@
 //! Bids by 64 under one gate, on a desk over a real file in the folder for temporary files.
 //!
-//! With no argument it keeps one group and prints how many entries it finds when it opens the journal again. With a number
-//! it keeps so many groups and prints how many accepted bids that were a second.
+//! With no argument it keeps one group and prints how many entries it finds when it opens the journal again. With a
+//! number it keeps so many groups and prints how many accepted bids that were a second.
 #![tactic(auto)]
 
 ghost use Rattle.std.specs.Prelude.{◌≡◌, length, IfSome};

@@ -21,8 +21,8 @@ PartsAt compare key_of key elements place =
 -- the elements before the place have smaller keys, and those from it on have not
 abbrev pub IsPlaceOf : {X K : Type 0} → (K → K → Ordering) → (X → K) → K → List X → ℕ → Type 0
 IsPlaceOf compare key_of key elements place =
-    IsPartitionPoint (λ element. compare (key_of element) key ≡ Less) (λ element. ¬ (compare (key_of element) key ≡ Less))
-    elements place
+    IsPartitionPoint (λ element. compare (key_of element) key ≡ Less)
+    (λ element. ¬ (compare (key_of element) key ≡ Less)) elements place
 
 -- the elements stand in the order of their keys, and no key stands twice
 abbrev pub AreOrdered : {X K : Type 0} → (K → K → Ordering) → (X → K) → List X → Type 0

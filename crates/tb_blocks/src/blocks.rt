@@ -13,8 +13,8 @@ use std::alloc::{AllocError, Global};
 use std::marker::Model;
 use std::mem;
 
-/// A list. Contracts see its elements, and how many adds are sure: so many may follow wherever they go, whatever is taken
-/// out between them.
+/// A list. Contracts see its elements, and how many adds are sure: so many may follow wherever they go, whatever is
+/// taken out between them.
 #[derive(Drop)]
 pub struct Blocks<T> {
     // A list that never needed more than one block stands in the vector, which grows as vectors do.
@@ -71,8 +71,8 @@ impl<T: Drop> Blocks<T> {
         }
     }
 
-    /// Makes so many adds sure. No other call takes memory, and this one takes the least that the adds can need: a list of
-    /// one block grows as a vector does, a longer one takes the fewest blocks.
+    /// Makes so many adds sure. No other call takes memory, and this one takes the least that the adds can need: a list
+    /// of one block grows as a vector does, a longer one takes the fewest blocks.
     pub fn reserve(&mut self, more: usize) -> Result<(), AllocError>
         ensures spare { OnOk result (more ≤ self.new.spare) }
         // Where the room is there already it succeeds.

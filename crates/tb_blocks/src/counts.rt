@@ -1,5 +1,5 @@
-//! The numbers of elements before blocks, in two levels: before each group of blocks, and within the group before each of
-//! its blocks. Neither an add nor a place walks all of them.
+//! The numbers of elements before blocks, in two levels: before each group of blocks, and within the group before each
+//! of its blocks. Neither an add nor a place walks all of them.
 ghost use Rattle.std.specs.Prelude.{◌≡◌, ℕ, ◌+◌, ◌-◌, ◌*◌, ◌^◌, ◌<◌, ◌≤◌, [], length, slice_index, slice_index_or, vec_capacity};
 ghost use Rattle.tb_blocks.specs.Sizes.{block_size, most_blocks, full_of};
 ghost use Rattle.tb_blocks.specs.Rows.{before, AreCounts, IsRaised};

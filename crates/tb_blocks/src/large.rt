@@ -36,7 +36,8 @@ impl<T> Model for Large<T> {
 
     ghost invariant = { λ list.
         IsReady list.pace list.spare list.rows.blocks.items (length list.pool.free.items)
-        × HasRoom (length list.rows.blocks.items) (length list.pool.free.items) list.rows.room (vec_capacity list.pool.free) };
+        × HasRoom (length list.rows.blocks.items) (length list.pool.free.items)
+        list.rows.room (vec_capacity list.pool.free) };
 }
 
 impl<T: Drop> Large<T> {
@@ -190,10 +191,12 @@ fn make_way<T: Drop>(
     requires positive { 0 < spare }
     requires pace { IsPace pace }
     requires sure { IsSure pace spare rows.old.blocks.items (length pool.old.free.items) }
-    requires room { HasRoom (length rows.old.blocks.items) (length pool.old.free.items) rows.old.room (vec_capacity pool.old.free) }
+    requires room { HasRoom (length rows.old.blocks.items) (length pool.old.free.items)
+        rows.old.room (vec_capacity pool.old.free) }
     ensures way { IsWay place result.at rows.old.blocks.items rows.new.blocks.items }
     ensures pace { IsPace result.pace }
-    ensures room { HasRoom (length rows.new.blocks.items) (length pool.new.free.items) rows.new.room (vec_capacity pool.new.free) }
+    ensures room { HasRoom (length rows.new.blocks.items) (length pool.new.free.items)
+        rows.new.room (vec_capacity pool.new.free) }
     ensures filled { (block : List T) → 0 < length block → AreFilled (set rows.new.blocks.items result.at block) }
     ensures sure { IsSureAfter result.at result.pace (spare - 1) rows.new.blocks.items (length pool.new.free.items) }
 {
@@ -239,7 +242,8 @@ fn split<T: Drop>(rows: &mut Rows<T>, pool: &mut Pool<T>, at: usize, place: usiz
     requires high { place ≤ before (at + 1) rows.old.blocks.items }
     requires full { length (block_at at rows.old.blocks.items) ≡ block_size }
     requires free { 0 < length pool.old.free.items }
-    requires room { HasRoom (length rows.old.blocks.items) (length pool.old.free.items) rows.old.room (vec_capacity pool.old.free) }
+    requires room { HasRoom (length rows.old.blocks.items) (length pool.old.free.items)
+        rows.old.room (vec_capacity pool.old.free) }
     ensures blocks { rows.new.blocks.items ≡ halves rows.old.blocks.items at }
     ensures free { length pool.new.free.items + 1 ≡ length pool.old.free.items }
     ensures side { result ≤ at + 1 }
@@ -247,7 +251,8 @@ fn split<T: Drop>(rows: &mut Rows<T>, pool: &mut Pool<T>, at: usize, place: usiz
     ensures low { before result rows.new.blocks.items ≤ place }
     ensures high { place ≤ before (result + 1) rows.new.blocks.items }
     ensures half { length (block_at result rows.new.blocks.items) ≡ half_size }
-    ensures room { HasRoom (length rows.new.blocks.items) (length pool.new.free.items) rows.new.room (vec_capacity pool.new.free) }
+    ensures room { HasRoom (length rows.new.blocks.items) (length pool.new.free.items)
+        rows.new.room (vec_capacity pool.new.free) }
 {
     rows.split(at, pool.take());
     if place <= rows.start(at + 1) {
@@ -260,13 +265,18 @@ fn split<T: Drop>(rows: &mut Rows<T>, pool: &mut Pool<T>, at: usize, place: usiz
 // Gives an empty block back, but for a list's only one.
 fn free_empty<T: Drop>(rows: &mut Rows<T>, pool: &mut Pool<T>, at: usize)
     requires at { at < length rows.old.blocks.items }
-    requires room { HasRoom (length rows.old.blocks.items) (length pool.old.free.items) rows.old.room (vec_capacity pool.old.free) }
-    requires filled { (k : ℕ) → (k ≡ at → ⊥) → k < length rows.old.blocks.items → 0 < length (block_at k rows.old.blocks.items) }
+    requires room { HasRoom (length rows.old.blocks.items) (length pool.old.free.items)
+        rows.old.room (vec_capacity pool.old.free) }
+    requires filled { (k : ℕ) → (k ≡ at → ⊥) → k < length rows.old.blocks.items
+        → 0 < length (block_at k rows.old.blocks.items) }
     ensures same { joined rows.new.blocks.items ≡ joined rows.old.blocks.items }
     ensures some { 0 < length rows.new.blocks.items }
     ensures filled { AreFilled rows.new.blocks.items }
-    ensures room { HasRoom (length rows.new.blocks.items) (length pool.new.free.items) rows.new.room (vec_capacity pool.new.free) }
-    ensures sure { (pace spare : ℕ) → IsSure pace spare rows.old.blocks.items (length pool.old.free.items) → IsSure pace spare rows.new.blocks.items (length pool.new.free.items) }
+    ensures room { HasRoom (length rows.new.blocks.items) (length pool.new.free.items)
+        rows.new.room (vec_capacity pool.new.free) }
+    ensures sure { (pace spare : ℕ)
+        → IsSure pace spare rows.old.blocks.items (length pool.old.free.items)
+        → IsSure pace spare rows.new.blocks.items (length pool.new.free.items) }
 {
     if rows.blocks[at].len() > 0 || rows.blocks.len() == 1 {
         return;

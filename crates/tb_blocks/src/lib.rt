@@ -1,5 +1,5 @@
-//! Lists whose elements are kept in blocks: an element goes in, comes out and is found in the time of a block, and an add
-//! with room can't fail.
+//! Lists whose elements are kept in blocks: an element goes in, comes out and is found in the time of a block, and an
+//! add with room can't fail.
 #![tactic(auto)]
 
 mod block;

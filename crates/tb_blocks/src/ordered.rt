@@ -10,8 +10,8 @@ use crate::search::{Keyed, has_key};
 use std::alloc::{AllocError, Global};
 use std::marker::Model;
 
-/// A list in the order of its elements' keys, of which no two have the same. Contracts see its elements, and how many adds
-/// are sure.
+/// A list in the order of its elements' keys, of which no two have the same. Contracts see its elements, and how many
+/// adds are sure.
 #[derive(Drop)]
 pub struct Ordered<T: Keyed> {
     list: Blocks<T>,

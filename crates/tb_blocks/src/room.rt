@@ -21,11 +21,13 @@ pub fn fill<T: Drop>(
     wanted: usize,
     alloc: Global,
 ) -> Result<(), AllocError>
-    requires room { HasRoom (length rows.old.blocks.items) (length pool.old.free.items) rows.old.room (vec_capacity pool.old.free) }
+    requires room { HasRoom (length rows.old.blocks.items) (length pool.old.free.items)
+        rows.old.room (vec_capacity pool.old.free) }
     ensures filled { OnOk result (wanted ≤ length pool.new.free.items) }
     ensures same { rows.new.blocks.items ≡ rows.old.blocks.items }
     ensures free { length pool.old.free.items ≤ length pool.new.free.items }
-    ensures room { HasRoom (length rows.new.blocks.items) (length pool.new.free.items) rows.new.room (vec_capacity pool.new.free) }
+    ensures room { HasRoom (length rows.new.blocks.items) (length pool.new.free.items)
+        rows.new.room (vec_capacity pool.new.free) }
 {
     let used = rows.blocks.len();
     let wanted = wanted.max(pool.free.len());

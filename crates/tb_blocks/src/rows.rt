@@ -21,7 +21,8 @@ pub struct Rows<T> {
     pub room: usize,
     ghost rows: { AreRows groups.items starts.items blocks.items },
     ghost fullness: { full ≡ full_of blocks.items },
-    ghost places: { HasPlaces (length blocks.items) room (vec_capacity blocks) (vec_capacity starts) (vec_capacity groups) },
+    ghost places: { HasPlaces (length blocks.items) room
+        (vec_capacity blocks) (vec_capacity starts) (vec_capacity groups) },
 }
 
 // Puts an element into a vector that has room for it.
@@ -81,7 +82,8 @@ impl<T: Drop> Rows<T> {
         ensures at { result < length self.now.blocks.items }
         ensures low { before result self.now.blocks.items ≤ place }
         ensures high { place ≤ before (result + 1) self.now.blocks.items }
-        ensures inside { place < length (joined self.now.blocks.items) → place < before (result + 1) self.now.blocks.items }
+        ensures inside { place < length (joined self.now.blocks.items)
+            → place < before (result + 1) self.now.blocks.items }
     {
         let (mut low, mut high) = (0, self.blocks.len());
         while high - low > 1 {
@@ -146,7 +148,8 @@ impl<T: Drop> Rows<T> {
         requires at { at < length self.old.blocks.items }
         requires low { before at self.old.blocks.items ≤ place }
         requires inside { place < before (at + 1) self.old.blocks.items }
-        ensures value { result ≡ slice_index_or (block_at at self.old.blocks.items) (place - before at self.old.blocks.items) result }
+        ensures value { result ≡ slice_index_or (block_at at self.old.blocks.items)
+            (place - before at self.old.blocks.items) result }
         ensures blocks { self.new.blocks.items ≡ taken_from at place self.old.blocks.items }
         ensures room { self.new.room ≡ self.old.room }
     {
@@ -166,7 +169,8 @@ impl<T: Drop> Rows<T> {
         requires at { at < length self.old.blocks.items }
         requires low { before at self.old.blocks.items ≤ place }
         requires inside { place < before (at + 1) self.old.blocks.items }
-        ensures value { result ≡ slice_index_or (block_at at self.old.blocks.items) (place - before at self.old.blocks.items) result }
+        ensures value { result ≡ slice_index_or (block_at at self.old.blocks.items)
+            (place - before at self.old.blocks.items) result }
         ensures blocks { self.new.blocks.items ≡ replaced_in at place element self.old.blocks.items }
         ensures room { self.new.room ≡ self.old.room }
     {

@@ -48,8 +48,8 @@ pub fn place_in<T: Keyed>(elements: &[T], key: &T::Key) -> usize
 }
 
 impl<T: Keyed + Drop> Rows<T> {
-    /// How many elements stand before the key, where those come first. The blocks are searched by their first elements, and
-    /// then one of them.
+    /// How many elements stand before the key, where those come first. The blocks are searched by their first elements,
+    /// and then one of them.
     pub fn place_of(&self, key: &T::Key) -> usize
         requires some { 0 < length self.now.blocks.items }
         requires filled { AreFilled self.now.blocks.items }

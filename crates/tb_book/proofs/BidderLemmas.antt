@@ -17,7 +17,9 @@ abbrev pub counts_for : (Bidder → ℕ) → ℕ → Bidder → ℕ
 counts_for kind bidder entry = cond (entry.bidder == bidder) (kind entry) 0
 
 -- an entry of another bidder counts nothing
-counts-other : (kind : Bidder → ℕ) (bidder : ℕ) (entry : Bidder) → ¬ (entry.bidder ≡ bidder) → counts_for kind bidder entry ≡ 0
+counts-other : (kind : Bidder → ℕ) (bidder : ℕ) (entry : Bidder)
+    → ¬ (entry.bidder ≡ bidder)
+    → counts_for kind bidder entry ≡ 0
 counts-other kind bidder entry other =
     elim (cases_Bool (entry.bidder == bidder)) [
       | inl same ↦ absurd (other (eqb-true entry.bidder bidder same))
@@ -25,7 +27,9 @@ counts-other kind bidder entry other =
     ]
 
 -- and one of the bidder what it has
-counts-own : (kind : Bidder → ℕ) (bidder : ℕ) (entry : Bidder) → entry.bidder ≡ bidder → counts_for kind bidder entry ≡ kind entry
+counts-own : (kind : Bidder → ℕ) (bidder : ℕ) (entry : Bidder)
+    → entry.bidder ≡ bidder
+    → counts_for kind bidder entry ≡ kind entry
 counts-own kind bidder entry same = cond-true (entry.bidder == bidder) (kind entry) 0 (eq-eqb entry.bidder bidder same)
 
 -- where no entry is the bidder's it has nothing
@@ -50,7 +54,8 @@ pub total-only : (kind : Bidder → ℕ) (bidder : ℕ) (bidders : List Bidder) 
 total-only kind bidder [] place d apart within same = absurd (omega (arith, within))
 total-only kind bidder (entry ∷ bidders) zero d apart within same =
     let rest : All (λ e. ¬ (e.bidder ≡ bidder)) bidders =
-    λ k e short is. AllPairs-head (λ one other. ¬ (one.bidder ≡ other.bidder)) entry bidders apart k e short (same ∙ sym is) in
+    λ k e short is. AllPairs-head (λ one other. ¬ (one.bidder ≡ other.bidder))
+    entry bidders apart k e short (same ∙ sym is) in
     omega (
       arith,
       sum_by-cons (counts_for kind bidder) entry bidders,
@@ -59,13 +64,14 @@ total-only kind bidder (entry ∷ bidders) zero d apart within same =
     )
 total-only kind bidder (entry ∷ bidders) (suc place) d apart within same =
     let other : ¬ (entry.bidder ≡ bidder) =
-    λ is. AllPairs-head (λ one other. ¬ (one.bidder ≡ other.bidder)) entry bidders apart place d (omega (arith, within)) (is ∙ sym same) in
+    λ is. AllPairs-head (λ one other. ¬ (one.bidder ≡ other.bidder))
+    entry bidders apart place d (omega (arith, within)) (is ∙ sym same) in
     omega (
       arith,
       sum_by-cons (counts_for kind bidder) entry bidders,
       counts-other kind bidder entry other,
-      total-only kind bidder bidders place d (AllPairs-tail (λ one other. ¬ (one.bidder ≡ other.bidder)) entry bidders apart)
-          (omega (arith, within)) same,
+      total-only kind bidder bidders place d
+          (AllPairs-tail (λ one other. ¬ (one.bidder ≡ other.bidder)) entry bidders apart) (omega (arith, within)) same,
     )
 
 -- so where no entry has the bidder's key
@@ -84,7 +90,9 @@ total-missing kind bidder bidders none =
     ))
 
 -- what is more of one is more of what counts
-cond-more : (own : Bool) (less more amount : ℕ) → more ≡ less + amount → cond own more 0 ≡ cond own less 0 + cond own amount 0
+cond-more : (own : Bool) (less more amount : ℕ)
+    → more ≡ less + amount
+    → cond own more 0 ≡ cond own less 0 + cond own amount 0
 cond-more true less more amount is = is
 cond-more false less more amount is = refl
 

@@ -52,14 +52,19 @@ abbrev pub IsOther : ℕ → ℕ → BookLine → Type 0
 IsOther bidder number line = ¬ ((line.bidder ≡ bidder) × (line.number ≡ number))
 
 -- where a bid isn't there each line is another
-pub IsOther-all : (bidder number : ℕ) (lines : List BookLine) → ¬ (HasBid bidder number lines) → All (IsOther bidder number) lines
+pub IsOther-all : (bidder number : ℕ) (lines : List BookLine)
+    → ¬ (HasBid bidder number lines)
+    → All (IsOther bidder number) lines
 IsOther-all bidder number lines none = λ k d short same.
     none (k, short, λ e. rw (get_or_default lines k e d short) same)
 
 -- and where each line is another the bid isn't there
-pub HasBid-none : (bidder number : ℕ) (lines : List BookLine) → All (IsOther bidder number) lines → ¬ (HasBid bidder number lines)
+pub HasBid-none : (bidder number : ℕ) (lines : List BookLine)
+    → All (IsOther bidder number) lines
+    → ¬ (HasBid bidder number lines)
 HasBid-none bidder number lines others = λ has.
-    let d : BookLine = record { bidder = 0; number = 0; rate = None; amount = record { value = 0; in_range = omega arith } } in
+    let d : BookLine =
+    record { bidder = 0; number = 0; rate = None; amount = record { value = 0; in_range = omega arith } } in
     others has.0 d has.1 (has.2 d)
 
 -- what follows for the line of a rate from what holds of the book's line holds of each line of a rate
@@ -105,7 +110,8 @@ abbrev pub counts_as : (RateLine → ℕ) → BookLine → ℕ
 counts_as f line = sum_by f (rate_line_of line.bidder line.rate line.amount)
 
 -- a sum over the lines of rates is one over all lines, in which the noncompetitive ones count nothing
-pub sum_by-rate_lines : (f : RateLine → ℕ) (lines : List BookLine) → sum_by f (rate_lines lines) ≡ sum_by (counts_as f) lines
+pub sum_by-rate_lines : (f : RateLine → ℕ) (lines : List BookLine)
+    → sum_by f (rate_lines lines) ≡ sum_by (counts_as f) lines
 sum_by-rate_lines f [] = refl
 sum_by-rate_lines f (line ∷ lines) =
     sum_by-append f (rate_line_of line.bidder line.rate line.amount) (rate_lines lines)
@@ -140,7 +146,8 @@ nothing false amount = refl
 
 -- what one line bids for a bidder at a rate
 bid-is : (bidder steps own : ℕ) (rate : Option Rate) (amount : Dollars)
-    → sum_by (bid_of bidder steps) (rate_line_of own rate amount) ≡ cond ((own == bidder) && is_at steps rate) amount.value 0
+    → sum_by (bid_of bidder steps) (rate_line_of own rate amount)
+    ≡ cond ((own == bidder) && is_at steps rate) amount.value 0
 bid-is bidder steps own None amount = nothing (own == bidder) amount.value
 bid-is bidder steps own (Some rate) amount = omega arith
 
@@ -150,7 +157,8 @@ bids-cons : (bidder steps : ℕ) (line : BookLine) (lines : List BookLine) (rest
     → counts_as (bid_of bidder steps) line + rest ≡ competitive_at bidder steps (line ∷ lines)
 bids-cons bidder steps line lines rest is =
     ap₂ (λ a b. a + b) (bid-is bidder steps line.bidder line.rate line.amount) is
-    ∙ sym (sum_by-cons (λ (l : BookLine). cond ((l.bidder == bidder) && is_at steps l.rate) l.amount.value 0) line lines)
+    ∙ sym (sum_by-cons (λ (l : BookLine). cond ((l.bidder == bidder) && is_at steps l.rate) l.amount.value 0)
+    line lines)
 
 -- what the lines of rates bid for a bidder at a rate is the par of its lines at that rate
 pub bids-rate_lines : (bidder steps : ℕ) (lines : List BookLine)
@@ -158,4 +166,5 @@ pub bids-rate_lines : (bidder steps : ℕ) (lines : List BookLine)
 bids-rate_lines bidder steps [] = refl
 bids-rate_lines bidder steps (line ∷ lines) =
     sum_by-append (bid_of bidder steps) (rate_line_of line.bidder line.rate line.amount) (rate_lines lines)
-    ∙ bids-cons bidder steps line lines (sum_by (bid_of bidder steps) (rate_lines lines)) (bids-rate_lines bidder steps lines)
+    ∙ bids-cons bidder steps line lines (sum_by (bid_of bidder steps) (rate_lines lines))
+    (bids-rate_lines bidder steps lines)

@@ -59,7 +59,10 @@ abbrev is_same : Bid → Bid → Bool
 is_same one bid = (bid.rank == one.rank) && is_bid one.bidder one.number bid
 
 -- a bid of the bidder and the number is the one
-is_bid-from : (bidder number : ℕ) (bid : Bid) → bid.bidder ≡ bidder → bid.number ≡ number → is_bid bidder number bid ≡ true
+is_bid-from : (bidder number : ℕ) (bid : Bid)
+    → bid.bidder ≡ bidder
+    → bid.number ≡ number
+    → is_bid bidder number bid ≡ true
 is_bid-from bidder number bid one two =
     and_from (bid.bidder == bidder) (bid.number == number) (eq-eqb bid.bidder bidder one) (eq-eqb bid.number number two)
 
@@ -74,7 +77,8 @@ is_bid-parts bidder number bid is =
 abbrev pub HasBidKey : ℕ → ℕ → List Bid → Type 0
 HasBidKey bidder number bids =
     (k : ℕ) × (k < length bids)
-    × ((d : Bid) → ordering_then (nat_cmp (get_or bids k d).bidder bidder) (nat_cmp (get_or bids k d).number number) ≡ Equal)
+    × ((d : Bid) → ordering_then (nat_cmp (get_or bids k d).bidder bidder)
+    (nat_cmp (get_or bids k d).number number) ≡ Equal)
 
 -- a bid that is there is among the lines
 pub HasBid-key : (bidder number : ℕ) (lines : List BookLine) (bids : List Bid)
@@ -91,7 +95,8 @@ HasBid-key bidder number lines bids are has =
 pub key-HasBid : (bidder number : ℕ) (lines : List BookLine) (bids : List Bid)
     → AreBidsOf lines bids → HasBid bidder number lines → HasBidKey bidder number bids
 key-HasBid bidder number lines bids are has =
-    let d : BookLine = record { bidder = 0; number = 0; rate = None; amount = record { value = 0; in_range = omega arith } } in
+    let d : BookLine =
+    record { bidder = 0; number = 0; rate = None; amount = record { value = 0; in_range = omega arith } } in
     let line : BookLine = get_or lines has.0 d in
     let same = has.2 d in
     let found = carried (λ (l : BookLine). is_bid bidder number (bid_of l)) (is_bid bidder number) lines bids
@@ -113,14 +118,17 @@ HasLineKey rank bidder number lines =
     (ordering_then (nat_cmp (get_or lines k d).bidder bidder) (nat_cmp (get_or lines k d).number number)) ≡ Equal)
 
 -- it is the bidder's of this number
-pub HasBid-line_key : (rank bidder number : ℕ) (lines : List BookLine) → HasLineKey rank bidder number lines → HasBid bidder number lines
+pub HasBid-line_key : (rank bidder number : ℕ) (lines : List BookLine)
+    → HasLineKey rank bidder number lines
+    → HasBid bidder number lines
 HasBid-line_key rank bidder number lines has = (
   has.0,
   has.1,
   λ d.
       let line : BookLine = get_or lines has.0 d in
       pair-equal line.bidder line.number bidder number
-      (then-equal (nat_cmp (rank_of line.rate) rank) (ordering_then (nat_cmp line.bidder bidder) (nat_cmp line.number number)) (has.2 d)).1,
+      (then-equal (nat_cmp (rank_of line.rate) rank)
+      (ordering_then (nat_cmp line.bidder bidder) (nat_cmp line.number number)) (has.2 d)).1,
 )
 
 -- the line of a bid is there
@@ -138,7 +146,8 @@ line_key-bid lines bids k d are short =
       found.1,
       λ e.
           let line : BookLine = get_or lines found.0 e in
-          let both = and_parts (rank_of line.rate == bid.rank) (is_bid bid.bidder bid.number (bid_of line)) (found.2 e) in
+          let both = and_parts (rank_of line.rate == bid.rank) (is_bid bid.bidder bid.number (bid_of line))
+          (found.2 e) in
           let parts = is_bid-parts bid.bidder bid.number (bid_of line) both.1 in
           equal-then (nat_cmp (rank_of line.rate) bid.rank)
           (ordering_then (nat_cmp line.bidder bid.bidder) (nat_cmp line.number bid.number))
@@ -167,7 +176,8 @@ AreKept-insert line lines place kept within order new fits =
     }
 
 -- a line put in at a place is among the lines
-pub HasOneMore-insert : (line : BookLine) (lines : List BookLine) (place : ℕ) → HasOneMore line lines (insert lines place line)
+pub HasOneMore-insert : (line : BookLine) (lines : List BookLine) (place : ℕ)
+    → HasOneMore line lines (insert lines place line)
 HasOneMore-insert line lines place = record {
   front = take place lines;
   back = drop place lines;
@@ -231,8 +241,8 @@ noncompetitive-le bidder lines =
 -- and so is all that is bid noncompetitively
 pub noncompetitive_in-le : (lines : List BookLine) → noncompetitive_in lines ≤ par_in lines
 noncompetitive_in-le lines =
-    sum_by-le-sum_by (λ (line : BookLine). cond (is_none line.rate) line.amount.value 0) (λ line. line.amount.value) lines
-    (λ line. cond-le (is_none line.rate) line.amount.value)
+    sum_by-le-sum_by (λ (line : BookLine). cond (is_none line.rate) line.amount.value 0)
+    (λ line. line.amount.value) lines (λ line. cond-le (is_none line.rate) line.amount.value)
 
 -- an amount counts with the competitive ones of a bidder or with the noncompetitive ones, or with neither
 one_kind-le : (own : Bool) (rate : Option Rate) (amount : ℕ)
@@ -265,8 +275,10 @@ pub record IsAdded (line : BookLine) (lines more_lines : List BookLine) (bid : B
   pub new : ¬ (HasBid line.bidder line.number lines)
   pub fits : par_in lines + line.amount.value ≤ most_bid
   pub apart : AreOfBidders raised
-  pub competitive : IsRaised (λ entry. entry.competitive) line.bidder (cond (is_some line.rate) line.amount.value 0) bidders raised
-  pub noncompetitive : IsRaised (λ entry. entry.noncompetitive) line.bidder (cond (is_none line.rate) line.amount.value 0) bidders raised
+  pub competitive : IsRaised (λ entry. entry.competitive) line.bidder
+      (cond (is_some line.rate) line.amount.value 0) bidders raised
+  pub noncompetitive : IsRaised (λ entry. entry.noncompetitive) line.bidder
+      (cond (is_none line.rate) line.amount.value 0) bidders raised
 
 -- all is kept with it
 pub IsIndexed-added : (line : BookLine) (lines more_lines : List BookLine) (bid : Bid) (bids more_bids : List Bid)
@@ -321,11 +333,16 @@ pub record IsGone (line : BookLine) (lines rest : List BookLine) (bid : Bid) (bi
   pub bid_out : IsRemoved bid bids rest_bids
   pub bid_is : bid ≡ bid_of line
   pub apart : AreOfBidders lowered
-  pub competitive : IsRaised (λ entry. entry.competitive) line.bidder (cond (is_some line.rate) line.amount.value 0) lowered bidders
-  pub noncompetitive : IsRaised (λ entry. entry.noncompetitive) line.bidder (cond (is_none line.rate) line.amount.value 0) lowered bidders
+  pub competitive : IsRaised (λ entry. entry.competitive) line.bidder
+      (cond (is_some line.rate) line.amount.value 0) lowered bidders
+  pub noncompetitive : IsRaised (λ entry. entry.noncompetitive) line.bidder
+      (cond (is_none line.rate) line.amount.value 0) lowered bidders
 
 -- a sum over the list without an element
-sum-removed : {X : Type 0} (x : X) (xs rest : List X) → IsRemoved x xs rest → (part : X → ℕ) → sum_by part rest + part x ≡ sum_by part xs
+sum-removed : {X : Type 0} (x : X) (xs rest : List X)
+    → IsRemoved x xs rest
+    → (part : X → ℕ)
+    → sum_by part rest + part x ≡ sum_by part xs
 sum-removed x xs rest out = λ part.
     omega (
       arith,
@@ -344,7 +361,8 @@ pub IsIndexed-gone : (line : BookLine) (lines rest : List BookLine) (bid : Bid) 
 IsIndexed-gone line lines rest bid bids rest_bids bidders lowered noncompetitive less kept gone is =
     let sum_lines = sum-removed line lines rest gone.line_out in
     record {
-      kept = subst AreKept (sym gone.line_out.is) (AreKept-remove line lines gone.line_out.place kept.kept gone.line_out.within);
+      kept = subst AreKept (sym gone.line_out.is)
+          (AreKept-remove line lines gone.line_out.place kept.kept gone.line_out.within);
       bids_are = λ part. omega (
         arith,
         kept.bids_are part,
@@ -418,7 +436,9 @@ IsPermutation-inserted line lines more_lines put =
     subst (IsPermutation (line ∷ lines)) (sym put.is) (IsPermutation-insert lines put.place line)
 
 -- and one that is taken out is no more
-pub IsTakenOut-removed : (line : BookLine) (lines rest : List BookLine) → IsRemoved line lines rest → IsTakenOut line lines rest
+pub IsTakenOut-removed : (line : BookLine) (lines rest : List BookLine)
+    → IsRemoved line lines rest
+    → IsTakenOut line lines rest
 IsTakenOut-removed line lines rest out =
     subst (IsTakenOut line lines) (sym out.is) (IsTakenOut-remove line lines out.place out.within (out.there line))
 
@@ -432,7 +452,10 @@ IsPermutation-removed line lines rest out =
 -- ---- the bid that is taken out, and its line
 
 -- a bid of the same bidder, number and rank as a line is the line's
-bid-is : (bid : Bid) (line : BookLine) → bid.bidder ≡ line.bidder → bid.number ≡ line.number → bid.rank ≡ rank_of line.rate
+bid-is : (bid : Bid) (line : BookLine)
+    → bid.bidder ≡ line.bidder
+    → bid.number ≡ line.number
+    → bid.rank ≡ rank_of line.rate
     → bid ≡ bid_of line
 bid-is bid line bidder number rank = λ i. record { bidder = bidder i; number = number i; rank = rank i }
 

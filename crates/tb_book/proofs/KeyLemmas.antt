@@ -125,7 +125,9 @@ apart-bidders bidders order = λ a b d earlier short same.
     omega (arith, same, nat-less (get_or bidders a d).bidder (get_or bidders b d).bidder (order a b d earlier short))
 
 -- a rank below that of a line with no rate is a rate's
-pub some-below : (rate : Option Rate) (rest : Ordering) → ¬ (rest ≡ Less) → ordering_then (nat_cmp (rank_of rate) 200000) rest ≡ Less
+pub some-below : (rate : Option Rate) (rest : Ordering)
+    → ¬ (rest ≡ Less)
+    → ordering_then (nat_cmp (rank_of rate) 200000) rest ≡ Less
     → is_some rate ≡ true
 some-below (Some rate) rest never is = refl
 some-below None rest never is = absurd (never is)
@@ -134,7 +136,8 @@ some-below None rest never is = absurd (never is)
 pub none-behind : (rate : Option Rate) (rest : Ordering) → ¬ (ordering_then (nat_cmp (rank_of rate) 200000) rest ≡ Less)
     → is_some rate ≡ false
 none-behind (Some rate) rest not_below =
-    absurd (not_below (ap (λ order. ordering_then order rest) (less-nat rate.steps 200000 (omega (arith, rate.in_range)))))
+    absurd (not_below (ap (λ order. ordering_then order rest)
+    (less-nat rate.steps 200000 (omega (arith, rate.in_range)))))
 none-behind None rest not_below = refl
 
 -- no bidder and number are less than zero and zero
@@ -148,8 +151,10 @@ never-less bidder number is =
 -- so the place of that key parts the competitive lines from the others
 pub competitive-point : (lines : List BookLine) (place : ℕ)
     → IsPartitionPoint
-    (λ line. ordering_then (nat_cmp (rank_of line.rate) 200000) (ordering_then (nat_cmp line.bidder 0) (nat_cmp line.number 0)) ≡ Less)
-    (λ line. ¬ (ordering_then (nat_cmp (rank_of line.rate) 200000) (ordering_then (nat_cmp line.bidder 0) (nat_cmp line.number 0)) ≡ Less))
+    (λ line. ordering_then (nat_cmp (rank_of line.rate) 200000)
+    (ordering_then (nat_cmp line.bidder 0) (nat_cmp line.number 0)) ≡ Less)
+    (λ line. ¬ (ordering_then (nat_cmp (rank_of line.rate) 200000)
+    (ordering_then (nat_cmp line.bidder 0) (nat_cmp line.number 0)) ≡ Less))
     lines place
     → IsPartitionPoint (λ line. is_some line.rate ≡ true) (λ line. is_some line.rate ≡ false) lines place
 competitive-point lines place point = (

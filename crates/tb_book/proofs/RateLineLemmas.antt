@@ -55,11 +55,13 @@ pub length-rate_lines : (lines : List BookLine) (n : ℕ)
     → length (rate_lines lines) ≡ n
 length-rate_lines [] n within point = omega arith
 length-rate_lines (line ∷ lines) zero within point =
-    length-cons_none line.bidder line.rate line.amount (rate_lines lines) (point.1 zero line (omega arith) (omega arith))
+    length-cons_none line.bidder line.rate line.amount (rate_lines lines)
+    (point.1 zero line (omega arith) (omega arith))
     ∙ length-rate_lines lines zero (omega arith)
     (λ k d low high. absurd (omega arith), λ k d low high. point.1 (suc k) d (omega arith) (omega arith))
 length-rate_lines (line ∷ lines) (suc n) within point =
-    length-cons_some line.bidder line.rate line.amount (rate_lines lines) (point.0 zero line (omega arith) (omega arith))
+    length-cons_some line.bidder line.rate line.amount (rate_lines lines)
+    (point.0 zero line (omega arith) (omega arith))
     ∙ ap suc (length-rate_lines lines n (omega arith) (
       λ k d low high. point.0 (suc k) d (omega arith) (omega arith),
       λ k d low high. point.1 (suc k) d (omega arith) (omega arith),
@@ -149,7 +151,8 @@ is_some-at lines order k d short =
       amount = record { value = 0; in_range = omega arith };
     } in
     let line : BookLine = get_or lines k d in
-    is_some-read line.bidder line.rate line.amount (get_or (rate_lines lines) k r) (rate_lines-at lines order k d r short)
+    is_some-read line.bidder line.rate line.amount (get_or (rate_lines lines) k r)
+    (rate_lines-at lines order k d r short)
 
 -- and what is read of it is its bidder, its rate and its amount
 pub read-is : (line : BookLine) (read : RateLine) (rate : Rate)

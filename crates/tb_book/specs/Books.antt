@@ -52,7 +52,8 @@ IsKept book = AreKept book.lines
 abbrev pub HasBid : ℕ → ℕ → List BookLine → Type 0
 HasBid bidder number lines =
     (place : ℕ) × (place < length lines)
-    × ((d : BookLine) → ((slice_index_or lines place d).bidder ≡ bidder) × ((slice_index_or lines place d).number ≡ number))
+    × ((d : BookLine) → ((slice_index_or lines place d).bidder ≡ bidder)
+    × ((slice_index_or lines place d).number ≡ number))
 
 -- the new lines are the old ones with the line among them, in order
 pub record IsInserted (line : BookLine) (old new : List BookLine) : Type 0 where

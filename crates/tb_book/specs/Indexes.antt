@@ -34,12 +34,15 @@ IsRaised kind bidder amount old new =
     (other : ℕ) → total_of kind other new ≡ total_of kind other old + (if bidder == other then amount else 0)
 
 -- what a book keeps beside its lines is what they say
-pub record IsIndexed (lines : List BookLine) (bids : List Bid) (bidders : List Bidder) (noncompetitive : ℕ) : Type 0 where
+pub record IsIndexed (lines : List BookLine) (bids : List Bid) (bidders : List Bidder)
+    (noncompetitive : ℕ) : Type 0 where
   pub kept : AreKept lines
   pub bids_are : AreBidsOf lines bids
   pub apart : AreOfBidders bidders
-  pub competitive_are : (bidder : ℕ) → total_of (λ entry. entry.competitive) bidder bidders ≡ competitive_of bidder lines
-  pub noncompetitive_are : (bidder : ℕ) → total_of (λ entry. entry.noncompetitive) bidder bidders ≡ noncompetitive_of bidder lines
+  pub competitive_are : (bidder : ℕ)
+      → total_of (λ entry. entry.competitive) bidder bidders ≡ competitive_of bidder lines
+  pub noncompetitive_are : (bidder : ℕ)
+      → total_of (λ entry. entry.noncompetitive) bidder bidders ≡ noncompetitive_of bidder lines
   pub noncompetitive_is : noncompetitive ≡ noncompetitive_in lines
 
 -- so many lines may be added to each list

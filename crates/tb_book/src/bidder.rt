@@ -43,9 +43,12 @@ pub fn raise(bidders: &mut Ordered<Bidder>, bidder: u32, competitive: u128, nonc
     requires apart { AreOfBidders bidders.old.elements }
     requires room { 0 < bidders.old.spare }
     requires competitive { total_of (λ entry. entry.competitive) bidder bidders.old.elements + competitive ≤ most_bid }
-    requires noncompetitive { total_of (λ entry. entry.noncompetitive) bidder bidders.old.elements + noncompetitive ≤ most_bid }
-    ensures competitive { IsRaised (λ entry. entry.competitive) bidder competitive bidders.old.elements bidders.new.elements }
-    ensures noncompetitive { IsRaised (λ entry. entry.noncompetitive) bidder noncompetitive bidders.old.elements bidders.new.elements }
+    requires noncompetitive { total_of (λ entry. entry.noncompetitive) bidder bidders.old.elements
+        + noncompetitive ≤ most_bid }
+    ensures competitive { IsRaised (λ entry. entry.competitive) bidder competitive
+        bidders.old.elements bidders.new.elements }
+    ensures noncompetitive { IsRaised (λ entry. entry.noncompetitive) bidder noncompetitive
+        bidders.old.elements bidders.new.elements }
     ensures apart { AreOfBidders bidders.new.elements }
     ensures room { bidders.old.spare ≤ bidders.new.spare + 1 }
 {
@@ -68,8 +71,10 @@ pub fn lower(bidders: &mut Ordered<Bidder>, bidder: u32, competitive: u128, nonc
     requires apart { AreOfBidders bidders.old.elements }
     requires competitive { competitive ≤ total_of (λ entry. entry.competitive) bidder bidders.old.elements }
     requires noncompetitive { noncompetitive ≤ total_of (λ entry. entry.noncompetitive) bidder bidders.old.elements }
-    ensures competitive { IsRaised (λ entry. entry.competitive) bidder competitive bidders.new.elements bidders.old.elements }
-    ensures noncompetitive { IsRaised (λ entry. entry.noncompetitive) bidder noncompetitive bidders.new.elements bidders.old.elements }
+    ensures competitive { IsRaised (λ entry. entry.competitive) bidder competitive
+        bidders.new.elements bidders.old.elements }
+    ensures noncompetitive { IsRaised (λ entry. entry.noncompetitive) bidder noncompetitive
+        bidders.new.elements bidders.old.elements }
     ensures apart { AreOfBidders bidders.new.elements }
     ensures room { bidders.new.spare ≡ bidders.old.spare }
 {

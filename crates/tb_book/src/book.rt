@@ -104,7 +104,8 @@ impl Book {
     /// Takes out the bidder's line of this number. `None` where there is no such line.
     pub fn take_out(&mut self, bidder: u32, number: u64) -> Option<BookLine>
         ensures none { IsNone result ↔ (¬ (HasBid bidder number self.old.lines)) }
-        ensures taken { IfSome result (λ line. (line.bidder ≡ bidder) × (line.number ≡ number) × IsTakenOut line self.old.lines self.new.lines) }
+        ensures taken { IfSome result (λ line. (line.bidder ≡ bidder) × (line.number ≡ number)
+            × IsTakenOut line self.old.lines self.new.lines) }
         ensures elements { IfSome result (λ line. IsPermutation self.old.lines (line ∷ self.new.lines)) }
         ensures unchanged { IfNone result (self.new ≡ self.old) }
         ensures kept { IsKept self.new }

@@ -8,8 +8,8 @@ use tb_units::{Dollars, Rate};
 /// Where the lines without a rate stand: behind every rate.
 pub const NO_RATE: u32 = 200_000;
 
-/// A live bid: the number of its bidder, its own number, its rate where it is competitive, and its amount. One bidder has
-/// at most one bid of a number.
+/// A live bid: the number of its bidder, its own number, its rate where it is competitive, and its amount. One bidder
+/// has at most one bid of a number.
 #[derive(Clone, Copy, Debug, PartialEq, Eq)]
 pub struct BookLine {
     pub bidder: u32,

@@ -48,9 +48,11 @@ impl MemoryDisk {
         requires { length contents.now ≤ room }
         ensures contents { IfOk result (λ disk. disk.bytes.items ≡ contents.now) }
         ensures start { IfOk result (λ disk. disk.calls ≡ 0) }
-        ensures past { IfOk result (λ disk. memory_disk disk ≡ record { past = Some (Began contents.now); faults = 0 }) }
+        ensures past { IfOk result (λ disk. memory_disk disk
+            ≡ record { past = Some (Began contents.now); faults = 0 }) }
         ensures log { IfOk result (λ disk. (taken_of disk.log ≡ 0) × (disk.log.room ≡ log_room)) }
-        ensures as_given { IfOk result (λ disk. (disk.room ≡ room) × (disk.fails.items ≡ fails.items) × (disk.torn ≡ torn)) }
+        ensures as_given { IfOk result (λ disk. (disk.room ≡ room) × (disk.fails.items ≡ fails.items)
+            × (disk.torn ≡ torn)) }
     {
         let log = Log::new(alloc, contents, log_room as usize)?;
         let mut bytes = Vec::with_capacity(alloc, room as usize)?;
@@ -160,7 +162,8 @@ impl Disk for MemoryDisk {
         requires place { Reaches (memory_disk self.old) place }
         requires end { place + length bytes.now < 2 ^ 42 }
         ensures writes { OnOk result (Takes (Wrote place bytes.now) (memory_disk self.old) (memory_disk self.new)) }
-        ensures fails { OnErr result (FailsToWrite place (length bytes.now) (memory_disk self.old) (memory_disk self.new)) }
+        ensures fails { OnErr result (FailsToWrite place (length bytes.now)
+            (memory_disk self.old) (memory_disk self.new)) }
         ensures one_fault { OnErr result (self.new.faults.count ≡ counted self.old.faults.count) }
         ensures exactly { IsErr result
             ↔ (MustFail self.old (length bytes.now) ⊎ (self.old.room < place + length bytes.now)) }

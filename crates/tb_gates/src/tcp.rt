@@ -23,8 +23,8 @@ impl TcpConn {
     pub fn new(stream: TcpStream) -> TcpConn
         ensures { (result.reads ≡ 0) × (result.read_faults.count ≡ 0) × (result.write_faults.count ≡ 0) }
     {
-        // Replies to requests in a row are written one by one: none is to wait until the one before it was acknowledged.
-        // A system that refuses this is slower and nothing else.
+        // Replies to requests in a row are written one by one: none is to wait until the one before it was
+        // acknowledged. A system that refuses this is slower and nothing else.
         let _ = stream.set_nodelay(true);
         TcpConn {
             stream,

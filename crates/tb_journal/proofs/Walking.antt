@@ -101,7 +101,12 @@ length-behind rest size fits = omega (arith, length-take size (drop 4 rest), len
 
 -- a frame is passed
 pub passes : (place size next : ℕ) (file bytes : List ℕ) → place < length file → get_or file place 0 ≡ 1
-    → bytes ≡ take 4 (drop (place + 1) file) → take 4 bytes ≡ to_be_bytes w32 size → 1 ≤ size → size ≤ 32768 → next ≡ place + 5 + size → next ≤ length file
+    → bytes ≡ take 4 (drop (place + 1) file)
+    → take 4 bytes ≡ to_be_bytes w32 size
+    → 1 ≤ size
+    → size ≤ 32768
+    → next ≡ place + 5 + size
+    → next ≤ length file
     → PassesFrame place file (Some next)
 passes place size next file bytes within one is spelled some short at ends =
     let rest : List ℕ = drop (place + 1) file in
@@ -196,7 +201,8 @@ module _ (place count : ℕ) (head : List ℕ) (past : Option Past)
 -- behind the header no frame is passed yet
 pub walked_none : (past : Option Past) → IfSome past (λ past. take 16 (contents_of past) ≡ header)
     → IfSome past (λ past. IsReadUpTo 16 (contents_of past))
-walked_none past known = known_of (λ past. take 16 (contents_of past) ≡ header) (λ past. IsReadUpTo 16 (contents_of past)) past
+walked_none past known = known_of (λ past. take 16 (contents_of past) ≡ header)
+    (λ past. IsReadUpTo 16 (contents_of past)) past
     (λ past begins. record { payloads = []; read = read_none (contents_of past) begins }) known
 
 -- one frame more
@@ -211,7 +217,8 @@ walked_more past place next known passed =
     record {
       payloads = so_far.payloads ++ payload ∷ [];
       read = subst (λ (at : ℕ). IsReadTo (so_far.payloads ++ payload ∷ []) at (contents_of past)) (sym frame.2.4)
-          (read_more so_far.payloads payload frame.2.1 (contents_of past) place so_far.read frame.2.2 frame.0 frame.1 frame.2.3);
+          (read_more so_far.payloads payload frame.2.1 (contents_of past) place
+          so_far.read frame.2.2 frame.0 frame.1 frame.2.3);
     })) known passed
 
 -- a closed gate
@@ -433,7 +440,8 @@ frame_short gate place count size read head body bytes disk before known said be
     omega (arith, says.1, frame.fits, frame.long, there.some, there.long))) known behind
 
 -- the payload and the place behind it
-pub frame_whole : (gate place next : ℕ) (count size read : ℕ) (head body more : List ℕ) (disk : DiskState) → place < gate
+pub frame_whole : (gate place next : ℕ) (count size read : ℕ) (head body more : List ℕ) (disk : DiskState)
+    → place < gate
     → IfSome disk.past (λ past. IsHead place (contents_of past) count head)
     → size ≡ length_in (drop 1 head)
     → IfSome disk.past (λ past. IsBody place (contents_of past) size read body)

@@ -36,8 +36,8 @@ pub record IsExactAt (gate : ℕ) (file : List ℕ) : Type 0 where
   pub place : length (front payloads) ≡ gate
   pub exact : IsExact file (Ok payloads)
 
--- A file that is no journal, or damaged, was put on the disk and nothing else. Where the disk failed or memory ran out no
--- more was done to it than an opening does.
+-- A file that is no journal, or damaged, was put on the disk and nothing else. Where the disk failed or memory ran out
+-- no more was done to it than an opening does.
 abbrev pub LeavesRefused : JournalFault → Past → Past → Type 0
 LeavesRefused (NotAJournal found) before now = now ≡ Then Synced before
 LeavesRefused (Damaged place) before now = now ≡ Then Synced before

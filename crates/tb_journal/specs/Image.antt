@@ -28,7 +28,8 @@ length_in bytes = from_be_bytes w32 (take 4 bytes)
 
 -- behind a gate byte: a length outside 1 to 32,768, or one that runs past the end
 abbrev pub IsNoFrame : List ℕ → Type 0
-IsNoFrame rest = (length rest < 4) ⊎ (length_in rest < 1) ⊎ (32768 < length_in rest) ⊎ (length rest < 4 + length_in rest)
+IsNoFrame rest =
+    (length rest < 4) ⊎ (length_in rest < 1) ⊎ (32768 < length_in rest) ⊎ (length rest < 4 + length_in rest)
 
 -- where a gate byte should stand: the end of the file, or an open gate before no frame
 abbrev pub IsBroken : List ℕ → Type 0

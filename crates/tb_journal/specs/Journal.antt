@@ -118,7 +118,8 @@ WritesInPart place bytes before now =
     × (now ≡ Then (Tore place (length bytes) left) before))
     ⊎ (now ≡ Then (Wrote place bytes) before)
 
--- the disk failed while a payload was added: the frame was written in part, or it was staged and the gate opened in part
+-- the disk failed while a payload was added: the frame was written in part, or it was staged and the gate opened in
+-- part
 abbrev pub AddsInPart : List ℕ → ℕ → Past → Past → Type 0
 AddsInPart payload gate before now =
     WritesInPart (gate + 1) (framed payload ++ closed_gate ∷ []) before now
@@ -128,7 +129,8 @@ AddsInPart payload gate before now =
 abbrev pub SyncsOrNot : Past → Past → Type 0
 SyncsOrNot before now = (now ≡ before) ⊎ (now ≡ Then Synced before)
 
--- the journal holds these payloads, with its gate here; or one more may count or not, and the gate is at `next` behind it
+-- the journal holds these payloads, with its gate here; or one more may count or not, and the gate is at `next` behind
+-- it
 abbrev pub KeepsAt : List (List ℕ) → ℕ → Option ℕ → Past → Type 0
 KeepsAt payloads gate None past = Holds payloads gate past
 KeepsAt payloads gate (Some next) past = (payload : List ℕ) × InDoubt payloads payload gate next past

@@ -22,7 +22,8 @@ journal_code {D} disk =
     (λ p. record { disk = p.0; opened = p.1.0; gate = p.1.1.0; doubt = p.1.1.1 })
     (λ _. refl)
 
--- a file stands for a beginning of the payloads that has the recovered ones, or for such a beginning and one payload more
+-- a file stands for a beginning of the payloads that has the recovered ones, or for such a beginning and one payload
+-- more
 pub record StandsForBeginning (recovered payloads : List (List ℕ)) (file : List ℕ) : Type 0 where
   pub kept : ℕ
   pub enough : length recovered ≤ kept

@@ -38,8 +38,9 @@ MadeInPart before now =
     ⊎ ((left : List ℕ) × Torn 0 17 17 (contents_of before) left × (now ≡ Then (Tore 0 17 left) before))
     ⊎ (now ≡ Then (Wrote 0 empty_journal) before)
 
--- An opening that a failing disk or want of memory broke off. Over more than 17 bytes all was put on the disk, or nothing
--- happened; over at most 17 it did nothing, or put all on the disk and made none, a part or the whole of an empty journal.
+-- An opening that a failing disk or want of memory broke off. Over more than 17 bytes all was put on the disk, or
+-- nothing happened; over at most 17 it did nothing, or put all on the disk and made none, a part or the whole of an
+-- empty journal.
 pub record BreaksOff (before now : Past) : Type 0 where
   pub kept : empty_size < length (contents_of before) → SyncsOrNot before now
   pub made : length (contents_of before) ≤ empty_size

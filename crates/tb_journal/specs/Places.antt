@@ -52,8 +52,8 @@ GivesFrame gate place bytes size next past = (payloads : List (List ℕ)) (count
     × (take size bytes ≡ slice_index_or payloads count [])
     × (next ≡ length (front (take (count + 1) payloads)))
 
--- A payload of a payload's length stands between these places. Or it isn't one and ends at the gate: where the disk tells
--- its contents there is none such.
+-- A payload of a payload's length stands between these places. Or it isn't one and ends at the gate: where the disk
+-- tells its contents there is none such.
 abbrev pub StandsBetween : ℕ → ℕ → ℕ → ℕ → Type 0
 StandsBetween gate place size next =
     ((1 ≤ size) × (size ≤ 32768) × (next ≡ place + 5 + size)) ⊎ ((size ≡ 0) × (next ≡ gate))

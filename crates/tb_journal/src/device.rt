@@ -77,8 +77,8 @@ pub fn open_gate<D: Disk>(disk: &mut D, gate: u64) -> Result<(), Failed>
     disk.sync()
 }
 
-/// Reads the payload of the frame at a place before the gate, and gives its length and the place behind the frame. One that
-/// reads as none is given as no bytes that end at the gate.
+/// Reads the payload of the frame at a place before the gate, and gives its length and the place behind the frame. One
+/// that reads as none is given as no bytes that end at the gate.
 pub fn read_frame<D: Disk>(
     disk: &mut D,
     place: u64,
@@ -107,12 +107,14 @@ pub fn read_frame<D: Disk>(
     Ok((size, place + (FRAME_HEAD + size) as u64))
 }
 
-// How long a payload is, by so many bytes of the head of its frame: none where these say no length of a payload, or one that
-// needs more than the room.
+// How long a payload is, by so many bytes of the head of its frame: none where these say no length of a payload, or one
+// that needs more than the room.
 fn payload_within(head: &[u8; 5], count: usize, room: u64) -> Option<usize>
     requires { count ≤ 5 }
-    ensures found { IfSome result (λ size. (count ≡ 5) × (size ≡ length_in (drop 1 head.now)) × (1 ≤ size) × (size ≤ 32768) × (5 + size ≤ room)) }
-    ensures none { IfNone result ((count < 5) ⊎ (length_in (drop 1 head.now) < 1) ⊎ (32768 < length_in (drop 1 head.now)) ⊎ (room < 5 + length_in (drop 1 head.now))) }
+    ensures found { IfSome result (λ size. (count ≡ 5) × (size ≡ length_in (drop 1 head.now))
+        × (1 ≤ size) × (size ≤ 32768) × (5 + size ≤ room)) }
+    ensures none { IfNone result ((count < 5) ⊎ (length_in (drop 1 head.now) < 1)
+        ⊎ (32768 < length_in (drop 1 head.now)) ⊎ (room < 5 + length_in (drop 1 head.now))) }
 {
     if count < FRAME_HEAD {
         return None;

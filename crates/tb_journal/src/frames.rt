@@ -27,10 +27,11 @@ pub struct Window {
     pub bytes: [u8; 32768],
 }
 
-/// How long a payload is, by the bytes behind its gate byte: none where they are fewer than four, or say no length that a
-/// payload may have.
+/// How long a payload is, by the bytes behind its gate byte: none where they are fewer than four, or say no length that
+/// a payload may have.
 pub(crate) fn payload_size(bytes: &[u8]) -> Option<usize>
-    ensures found { IfSome result (λ size. (4 ≤ length bytes.now) × (size ≡ length_in bytes.now) × (1 ≤ size) × (size ≤ 32768)) }
+    ensures found { IfSome result (λ size. (4 ≤ length bytes.now) × (size ≡ length_in bytes.now)
+        × (1 ≤ size) × (size ≤ 32768)) }
     ensures spelled { IfSome result (λ size. take 4 bytes.now ≡ to_be_bytes w32 size) }
     ensures none { IfNone result ((length bytes.now < 4) ⊎ (length_in bytes.now < 1) ⊎ (32768 < length_in bytes.now)) }
 {

@@ -113,11 +113,11 @@ impl<D: Disk> Journal<D> {
         self.gate
     }
 
-    /// Reads the payload of the frame at a place into the window, and gives its length and the place behind the frame. At
-    /// the standing gate there is none.
+    /// Reads the payload of the frame at a place into the window, and gives its length and the place behind the frame.
+    /// At the standing gate there is none.
     ///
-    /// Where the disk doesn't tell its contents a frame may read otherwise than it was opened. One that reads as none is
-    /// given as no bytes that end at the gate.
+    /// Where the disk doesn't tell its contents a frame may read otherwise than it was opened. One that reads as none
+    /// is given as no bytes that end at the gate.
     pub fn next_frame(
         &mut self,
         place: u64,
@@ -128,10 +128,13 @@ impl<D: Disk> Journal<D> {
         ensures end { IfOk result (λ found. IsNone found ↔ (place ≡ self.old.gate)) }
         ensures frame { IfOk result (λ found. IfSome found (λ frame. IfSome (D.disk self.old.disk).past
             (GivesFrame self.old.gate place into.new.bytes frame.0 frame.1))) }
-        ensures between { IfOk result (λ found. IfSome found (λ frame. StandsBetween self.old.gate place frame.0 frame.1)) }
-        ensures next { IfOk result (λ found. IfSome found (λ frame. StandsAt (D.disk self.new.disk) self.new.gate frame.1)) }
+        ensures between { IfOk result (λ found. IfSome found
+            (λ frame. StandsBetween self.old.gate place frame.0 frame.1)) }
+        ensures next { IfOk result (λ found. IfSome found
+            (λ frame. StandsAt (D.disk self.new.disk) self.new.gate frame.1)) }
         ensures kept { (D.disk self.new.disk).past ≡ (D.disk self.old.disk).past }
-        ensures same { (self.new.gate ≡ self.old.gate) × (self.new.doubt ≡ self.old.doubt) × (self.new.opened ≡ self.old.opened) }
+        ensures same { (self.new.gate ≡ self.old.gate) × (self.new.doubt ≡ self.old.doubt)
+            × (self.new.opened ≡ self.old.opened) }
         ensures fault { OnErr result (Rose (D.disk self.old.disk).faults (D.disk self.new.disk).faults) }
         ensures no_fault { OnOk result ((D.disk self.new.disk).faults ≡ (D.disk self.old.disk).faults) }
         ensures count { NeverFalls (D.disk self.old.disk).faults (D.disk self.new.disk).faults }

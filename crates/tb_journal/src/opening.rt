@@ -71,9 +71,11 @@ fn read_header<D: Disk>(disk: &mut D) -> Result<(), JournalFault>
 fn pass_frame<D: Disk>(disk: &mut D, place: u64, size: u64) -> Result<Option<u64>, JournalFault>
     requires within { place ≤ size }
     requires size { HasLength (D.disk disk.old) size }
-    ensures found { IfOk result (λ found. IfSome (D.disk disk.old).past (λ past. PassesFrame place (contents_of past) found)) }
+    ensures found { IfOk result (λ found. IfSome (D.disk disk.old).past
+        (λ past. PassesFrame place (contents_of past) found)) }
     ensures within { IfOk result (λ found. IfSome found (λ next. (place < next) × (next ≤ size))) }
-    ensures err { IfErr result (λ fault. IfSome (D.disk disk.old).past (λ past. StopsAt place (contents_of past) fault)) }
+    ensures err { IfErr result (λ fault. IfSome (D.disk disk.old).past
+        (λ past. StopsAt place (contents_of past) fault)) }
     ensures kept { (D.disk disk.new).past ≡ (D.disk disk.old).past }
     ensures fault { IfErr result (λ fault. fault ≡ DiskFault → Rose (D.disk disk.old).faults (D.disk disk.new).faults) }
     ensures no_fault { OnOk result ((D.disk disk.new).faults ≡ (D.disk disk.old).faults) }
@@ -145,8 +147,8 @@ fn find<D: Disk>(disk: &mut D) -> Result<u64, JournalFault>
 }
 
 impl<D: Disk> Journal<D> {
-    /// Opens the journal on a disk, and keeps the place of its gate byte. An empty one is made where there are at most 17
-    /// bytes. A refusal hands the disk back.
+    /// Opens the journal on a disk, and keeps the place of its gate byte. An empty one is made where there are at most
+    /// 17 bytes. A refusal hands the disk back.
     pub fn open(alloc: Global, mut disk: D) -> Result<Journal<D>, (D, JournalFault)>
         // The disk holds the payloads that the file stood for.
         ensures found { IfOk result (λ journal. Told (D.disk disk) (D.disk journal.disk) (Finds journal.gate)) }

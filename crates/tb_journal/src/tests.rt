@@ -169,8 +169,8 @@ fn a_journal_has_the_bytes_of_its_format(rt: HostRuntime) -> Result<(), Fail> {
     Ok(())
 }
 
-// Opening an empty disk takes the calls 0 to 3: a sync, the length, a write and a sync. Those of the first append are 4 to
-// 7, and then come a sync and a read of `resolve`.
+// Opening an empty disk takes the calls 0 to 3: a sync, the length, a write and a sync. Those of the first append are 4
+// to 7, and then come a sync and a read of `resolve`.
 #[test]
 fn a_payload_in_doubt_is_settled(rt: HostRuntime) -> Result<(), Fail> {
     let alloc = rt.alloc();

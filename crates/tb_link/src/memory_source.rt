@@ -41,7 +41,8 @@ impl TextSource {
     // The next piece, for a buffer of so many bytes.
     fn next_piece(&self, most: usize) -> &[u8]
         requires { 0 < most }
-        ensures next { drop self.now.at self.now.bytes.items ≡ result.now ++ drop (self.now.at + length result.now) self.now.bytes.items }
+        ensures next { drop self.now.at self.now.bytes.items
+            ≡ result.now ++ drop (self.now.at + length result.now) self.now.bytes.items }
         ensures within { self.now.at + length result.now ≤ vec_len self.now.bytes }
         ensures short { length result.now ≤ most }
         ensures few { length result.now ≤ self.now.piece }

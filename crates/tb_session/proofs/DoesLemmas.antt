@@ -55,19 +55,20 @@ pub does-nothing : (operator : List ℕ) (old new : Held) (low high : ℕ) (c : 
     → HasRange c.outcome
     → IsSure operator old.history c said new.doubt
     → Does operator old new low high c said
-does-nothing operator old new low high c said history doubt faults none out given answered legal in_range sure = record {
-  at = old.history;
-  legal = legal;
-  settled = inl refl;
-  grown = history ∙ (sym (append-nil old.history) ∙ ap (λ (l : List Entry). old.history ++ l) (sym none));
-  doubt = inr (inl (doubt, history));
-  sure = sure;
-  comes_out = out;
-  in_range = in_range;
-  given = given;
-  least = omega (arith, faults);
-  answer = answered;
-}
+does-nothing operator old new low high c said history doubt faults none out given answered legal in_range sure =
+    record {
+      at = old.history;
+      legal = legal;
+      settled = inl refl;
+      grown = history ∙ (sym (append-nil old.history) ∙ ap (λ (l : List Entry). old.history ++ l) (sym none));
+      doubt = inr (inl (doubt, history));
+      sure = sure;
+      comes_out = out;
+      in_range = in_range;
+      given = given;
+      least = omega (arith, faults);
+      answer = answered;
+    }
 
 -- a caller's message is told its verdict at the running moment
 pub tells-verdict : (operator : List ℕ) (history : List Entry) (k : Key) (caller : List ℕ)

@@ -143,7 +143,8 @@ written_back {X} new items count same =
     rw (← same) (take-append-le (length new) new rest (omega arith) ∙ take_all (length new) new (omega arith))
 
 -- so a change of the book at a name's place, written back, is one of the name's book
-pub changed-back : (auction : List ℕ) (place : ℕ) (Change : Bids → Bids → Type 0) (items old new : List NamedBook) (count : ℕ)
+pub changed-back : (auction : List ℕ) (place : ℕ) (Change : Bids → Bids → Type 0)
+    (items old new : List NamedBook) (count : ℕ)
     → old ≡ items
     → length old ≡ count
     → position (is_of auction) items ≡ Some place
@@ -171,8 +172,8 @@ pub has_places-none : (books : List NamedBook) (auction : List ℕ) (more : ℕ)
 has_places-none books auction more none = rw (book_in-none books auction none) refl
 
 -- the places of a book that was changed at a name's place, written back
-pub places-back : {E : Type 0} (result : Result Unit E) (auction : List ℕ) (place more : ℕ) (Change : Bids → Bids → Type 0)
-    (items old new : List NamedBook) (count : ℕ)
+pub places-back : {E : Type 0} (result : Result Unit E) (auction : List ℕ) (place more : ℕ)
+    (Change : Bids → Bids → Type 0) (items old new : List NamedBook) (count : ℕ)
     → old ≡ items
     → length old ≡ count
     → position (is_of auction) items ≡ Some place
@@ -199,7 +200,8 @@ pub takes-first : (auction : List ℕ) (line : BookLine) (old new : Shelved)
     → IsOpened auction old new
     → IfSome (book_in new.books auction) (TakesLine line)
 takes-first auction line old new none some few opened =
-    let only : new.books ≡ opened.named ∷ [] = opened.books ∙ ap (λ (books : List NamedBook). books ++ opened.named ∷ []) none in
+    let only : new.books ≡ opened.named ∷ [] =
+    opened.books ∙ ap (λ (books : List NamedBook). books ++ opened.named ∷ []) none in
     subst (λ (books : List NamedBook). IfSome (book_in books auction) (TakesLine line)) (sym only)
     (elim (cases_Bool (is_of auction opened.named)) [
       | inr isnt ↦ rw isnt tt

@@ -8,7 +8,8 @@ use Rattle.tb_shelf.specs.Shelves.{is_of, names_in}
 
 -- a name is among the names as far on as its book is among the books
 place-names : (auction : List ℕ) (books : List NamedBook)
-    → position_or_len (λ (name : List ℕ). bytes_eq name auction) (names_in books) ≡ position_or_len (is_of auction) books
+    → position_or_len (λ (name : List ℕ). bytes_eq name auction) (names_in books)
+    ≡ position_or_len (is_of auction) books
 place-names auction [] = refl
 place-names auction (named ∷ books) =
     ap (λ (n : ℕ). cond (not (bytes_eq named.auction auction)) (1 + n) 0) (place-names auction books)

@@ -7,8 +7,8 @@ use Rattle.tb_book.specs.declared.book_line.BookLine.{BookLine}
 use Rattle.tb_book.specs.Books.{Bids, HasBid, par_in, most_bid}
 use Rattle.tb_shelf.specs.declared.named.NamedBook.{NamedBook}
 
--- what a contract sees of a shelf: the books under the names of their auctions, in the order in which these were opened,
--- how many empty books stand ready, and for how many lines each of those has room
+-- what a contract sees of a shelf: the books under the names of their auctions, in the order in which these were
+-- opened, how many empty books stand ready, and for how many lines each of those has room
 pub record Shelved : Type 0 where
   pub books : List NamedBook
   pub ready : ℕ

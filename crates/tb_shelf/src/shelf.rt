@@ -11,8 +11,8 @@ use tb_book::{Book, BookLine};
 use tb_index::Keyed;
 use tb_units::{Ident, OutOfMemory};
 
-/// The books of auctions. Contracts see them under their names, how many empty books stand ready, and for how many lines
-/// each of those has room.
+/// The books of auctions. Contracts see them under their names, how many empty books stand ready, and for how many
+/// lines each of those has room.
 #[derive(Drop)]
 pub struct Shelf {
     alloc: Global,

@@ -27,6 +27,7 @@ unfoldable pub thousandths_of : List ℕ → Option ℕ
 thousandths_of text =
     if list_any is_point text
     then option_and_then
-    (λ whole. option_map (λ thousandths. 1000 * whole + thousandths) (thousandths_of_decimals (after_first is_point text)))
+    (λ whole. option_map (λ thousandths. 1000 * whole + thousandths)
+    (thousandths_of_decimals (after_first is_point text)))
     (short_numeral_of (before_first is_point text))
     else option_map (λ whole. 1000 * whole) (short_numeral_of text)

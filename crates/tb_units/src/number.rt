@@ -27,7 +27,8 @@ pub fn read_within(text: &str, least: u64, most: u64) -> Option<u64>
 
 // No sign and no leading zero stands in front of a digit.
 fn has_plain_front(text: &str) -> bool
-    ensures plain { result ≡ true → (slice_index text.now 0 ≢ 43) × (slice_index text.now 0 ≡ 48 → length text.now ≤ 1) }
+    ensures plain { result ≡ true → (slice_index text.now 0 ≢ 43)
+        × (slice_index text.now 0 ≡ 48 → length text.now ≤ 1) }
     ensures other { result ≡ false
         → (length text.now ≡ 0)
         ⊎ ((slice_index text.now 0 ≡ 43) ⊎ ((slice_index text.now 0 ≡ 48) × (1 < length text.now))) }

@@ -26,7 +26,8 @@ impl Rate {
     pub fn read(text: &str) -> Result<Rate, RateFault>
         ensures read { IfOk result (λ rate. thousandths_of text.now ≡ Some (5 * rate.steps)) }
         ensures form { (result ≡ Err RateFault.Form) ↔ (thousandths_of text.now ≡ None) }
-        ensures step { (result ≡ Err RateFault.Step) ↔ IsSomeAnd (thousandths_of text.now) (λ thousandths. thousandths % 5 ≢ 0) }
+        ensures step { (result ≡ Err RateFault.Step)
+            ↔ IsSomeAnd (thousandths_of text.now) (λ thousandths. thousandths % 5 ≢ 0) }
     {
         match thousandths(text) {
             None => Err(RateFault::Form),

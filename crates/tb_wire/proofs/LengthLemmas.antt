@@ -37,7 +37,10 @@ digit_is : (c : ℕ) → is_ascii_digit c ≡ true → digit_value c ≡ c - 48
 digit_is c h = grind (arith, h)
 
 -- each of them is a digit
-digit_at : (ds : List ℕ) (i : ℕ) → i < length ds → list_all is_ascii_digit ds ≡ true → is_ascii_digit (get_or ds i 0) ≡ true
+digit_at : (ds : List ℕ) (i : ℕ)
+    → i < length ds
+    → list_all is_ascii_digit ds ≡ true
+    → is_ascii_digit (get_or ds i 0) ≡ true
 digit_at [] i on h = absurd (let bad : ⊥ = omega (arith, on) in bad)
 digit_at (d ∷ ds) zero on h = (both_true (is_ascii_digit d) (list_all is_ascii_digit ds) h).0
 digit_at (d ∷ ds) (suc i) on h =

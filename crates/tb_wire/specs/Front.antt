@@ -70,7 +70,8 @@ unfinished_front there = if nat_lt there most_head then More else Bad 431
 -- or may become one, or begins with one
 pub data IsFrontOf (text : List ℕ) (there : ℕ) (front : Cutting) : Type 0 where
   never_head : NeverHasRequest text → front ≡ Bad 400 → IsFrontOf text there front
-  later_head : HasNoRequest text → ¬ (NeverHasRequest text) → front ≡ unfinished_front there → IsFrontOf text there front
+  later_head : HasNoRequest text → ¬ (NeverHasRequest text) → front ≡ unfinished_front there
+      → IsFrontOf text there front
   whole_head : (h : RequestHead) → (rest : List ℕ) → ReadsRequest text h rest → front ≡ front_after there (head_in h)
       → IsFrontOf text there front
 

@@ -14,12 +14,14 @@ pub fn one_front()
 
 /// A whole request and a fault stay as more bytes come, however the stream is cut into pieces.
 pub fn stays()
-    ensures { (bytes more : List ℕ) (front : Cutting) → IsFront bytes front → front ≢ More → IsFront (bytes ++ more) front }
+    ensures { (bytes more : List ℕ) (front : Cutting) → IsFront bytes front → front ≢ More
+        → IsFront (bytes ++ more) front }
 {}
 
 /// A request has bytes, and no more than are there; its head stands before its body.
 pub fn uses()
-    ensures used { (bytes : List ℕ) (request : HttpRequest) → IsFront bytes (Whole request) → request.used ≤ length bytes }
+    ensures used { (bytes : List ℕ) (request : HttpRequest) → IsFront bytes (Whole request)
+        → request.used ≤ length bytes }
     ensures some { (bytes : List ℕ) (request : HttpRequest) → IsFront bytes (Whole request) → 0 < request.body_start }
     ensures body { (bytes : List ℕ) (request : HttpRequest) → IsFront bytes (Whole request)
         → request.body_start ≤ request.used }

@@ -153,8 +153,8 @@ impl Reply {
     }
 }
 
-/// The head of a reply with a code, the length of its body in bytes, for a method that isn't served the one that is, and
-/// whether the link closes (RFC 9112, section 4).
+/// The head of a reply with a code, the length of its body in bytes, for a method that isn't served the one that is,
+/// and whether the link closes (RFC 9112, section 4).
 pub fn reply_head(code: u16, length: usize, allow: Option<Allow>, close: bool) -> Head
     requires told { is_told code ≡ true }
     ensures { result ≡ head_text code length allow close }

@@ -11,7 +11,8 @@ use tb_units::Ident;
 /// A message as it is posted.
 const POST: &str = "POST /messages HTTP/1.1\r\nAuction-Key: k1\r\nContent-Length: 2\r\n\r\n{}";
 
-/// What stands at the front of each text: of a request its target, how many bytes it uses, and whether it asks to close.
+/// What stands at the front of each text: of a request its target, how many bytes it uses, and whether it asks to
+/// close.
 const FRONTS: [(&str, &str); 24] = [
     ("", "More"),
     ("GET /holdings\r\n", "Bad(400)"),

@@ -1,7 +1,7 @@
 //! Cuts pipelined posts from a buffer, so many times on one thread, and a head that comes byte by byte.
 //!
-//! With no argument it cuts three and prints how many it cut. With a number it cuts so many, and prints how many calls a
-//! second each took.
+//! With no argument it cuts three and prints how many it cut. With a number it cuts so many, and prints how many calls
+//! a second each took.
 #![tactic(auto)]
 
 use std::alloc::{AllocError, Global};

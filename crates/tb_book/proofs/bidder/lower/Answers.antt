@@ -12,8 +12,8 @@ returns-in-Some-clause-competitive c =
       competitive = before.result.0 - c.args.competitive;
       noncompetitive = before.result.1 - c.args.noncompetitive;
     } in
-    lowered-replaced (λ one. one.competitive) c.args.bidder entry c.args.bidders.now.elements c.replace.new.self.elements
-    c.in-Some.place c.args.competitive
+    lowered-replaced (λ one. one.competitive) c.args.bidder entry c.args.bidders.now.elements
+    c.replace.new.self.elements c.in-Some.place c.args.competitive
     (record { apart = c.requires.apart; there = c.in-Some.ensures.found; own = refl; is = c.replace.ensures.elements })
     (omega (arith, before.ensures.competitive, c.requires.competitive))
 
@@ -30,8 +30,8 @@ returns-in-Some-clause-noncompetitive c =
       competitive = before.result.0 - c.args.competitive;
       noncompetitive = before.result.1 - c.args.noncompetitive;
     } in
-    lowered-replaced (λ one. one.noncompetitive) c.args.bidder entry c.args.bidders.now.elements c.replace.new.self.elements
-    c.in-Some.place c.args.noncompetitive
+    lowered-replaced (λ one. one.noncompetitive) c.args.bidder entry c.args.bidders.now.elements
+    c.replace.new.self.elements c.in-Some.place c.args.noncompetitive
     (record { apart = c.requires.apart; there = c.in-Some.ensures.found; own = refl; is = c.replace.ensures.elements })
     (omega (arith, before.ensures.noncompetitive, c.requires.noncompetitive))
 

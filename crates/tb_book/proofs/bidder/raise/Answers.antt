@@ -38,8 +38,8 @@ returns-in-Some-clause-noncompetitive c =
       competitive = before.result.0 + c.args.competitive;
       noncompetitive = before.result.1 + c.args.noncompetitive;
     } in
-    raised-replaced (λ one. one.noncompetitive) c.args.bidder entry c.args.bidders.now.elements c.replace.new.self.elements
-    c.in-Some.place c.args.noncompetitive
+    raised-replaced (λ one. one.noncompetitive) c.args.bidder entry c.args.bidders.now.elements
+    c.replace.new.self.elements c.in-Some.place c.args.noncompetitive
     (record { apart = c.requires.apart; there = c.in-Some.ensures.found; own = refl; is = c.replace.ensures.elements })
     (ap (λ so_far. so_far + c.args.noncompetitive) before.ensures.noncompetitive)
 
@@ -51,8 +51,8 @@ returns-in-None-clause-noncompetitive c =
       competitive = before.result.0 + c.args.competitive;
       noncompetitive = before.result.1 + c.args.noncompetitive;
     } in
-    raised-inserted (λ one. one.noncompetitive) c.args.bidder entry c.args.bidders.now.elements c.insert.new.self.elements
-    c.args.noncompetitive c.insert.ensures.inserted refl (c.in-None.ensures.none.0 refl)
+    raised-inserted (λ one. one.noncompetitive) c.args.bidder entry c.args.bidders.now.elements
+    c.insert.new.self.elements c.args.noncompetitive c.insert.ensures.inserted refl (c.in-None.ensures.none.0 refl)
     (ap (λ so_far. so_far + c.args.noncompetitive) before.ensures.noncompetitive)
 
 pub returns-in-None-clause-apart : goal.returns-in-None-clause-apart

@@ -25,8 +25,10 @@ returns-in-Some-clause-noncompetitive c =
 
 pub returns-in-None-clause-competitive : goal.returns-in-None-clause-competitive
 returns-in-None-clause-competitive c =
-    sym (total-missing (λ one. one.competitive) c.args.bidder c.args.bidders.now.elements (c.in-None.ensures.none.0 refl))
+    sym (total-missing (λ one. one.competitive) c.args.bidder c.args.bidders.now.elements
+    (c.in-None.ensures.none.0 refl))
 
 pub returns-in-None-clause-noncompetitive : goal.returns-in-None-clause-noncompetitive
 returns-in-None-clause-noncompetitive c =
-    sym (total-missing (λ one. one.noncompetitive) c.args.bidder c.args.bidders.now.elements (c.in-None.ensures.none.0 refl))
+    sym (total-missing (λ one. one.noncompetitive) c.args.bidder c.args.bidders.now.elements
+    (c.in-None.ensures.none.0 refl))

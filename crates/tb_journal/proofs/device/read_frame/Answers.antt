@@ -18,10 +18,10 @@ returns-then-count-size-clause-frame g c =
     c.read-2.new.into [] (d c.args.disk.now) c.requires.before
     (head_read (d c.args.disk.now) c.args.place _ c.read.new.into c.in_ok-count.count refl c.in_ok-count.ensures.gives)
     c.in-Some.ensures.found.1
-    (body_read (d c.args.disk.now) (d c.read.new.self) c.args.place c.in-Some.size c.in_ok-count-2.count _ c.read-2.new.into
-    c.in_ok-count.ensures.same.past
-    (omega (arith, length-take c.in-Some.size c.args.into.now.bytes, c.in-Some.ensures.found.3)) c.in_ok-count-2.ensures.gives)
-    c.if-count-size.true
+    (body_read (d c.args.disk.now) (d c.read.new.self) c.args.place c.in-Some.size c.in_ok-count-2.count _
+    c.read-2.new.into c.in_ok-count.ensures.same.past
+    (omega (arith, length-take c.in-Some.size c.args.into.now.bytes, c.in-Some.ensures.found.3))
+    c.in_ok-count-2.ensures.gives) c.if-count-size.true
 
 pub returns-clause-frame : goal.returns-clause-frame
 returns-clause-frame g c =
@@ -30,7 +30,7 @@ returns-clause-frame g c =
     c.in_ok-count-2.count c.read.new.into c.read-2.new.into _ (d c.args.disk.now) c.requires.before
     (head_read (d c.args.disk.now) c.args.place _ c.read.new.into c.in_ok-count.count refl c.in_ok-count.ensures.gives)
     c.in-Some.ensures.found.1
-    (body_read (d c.args.disk.now) (d c.read.new.self) c.args.place c.in-Some.size c.in_ok-count-2.count _ c.read-2.new.into
-    c.in_ok-count.ensures.same.past
-    (omega (arith, length-take c.in-Some.size c.args.into.now.bytes, c.in-Some.ensures.found.3)) c.in_ok-count-2.ensures.gives)
-    c.if-count-size.false (omega arith)
+    (body_read (d c.args.disk.now) (d c.read.new.self) c.args.place c.in-Some.size c.in_ok-count-2.count _
+    c.read-2.new.into c.in_ok-count.ensures.same.past
+    (omega (arith, length-take c.in-Some.size c.args.into.now.bytes, c.in-Some.ensures.found.3))
+    c.in_ok-count-2.ensures.gives) c.if-count-size.false (omega arith)

@@ -36,11 +36,11 @@ pub returns-clause-err : goal.returns-clause-err
 returns-clause-err g c =
     let d = g.D.Disk.disk in
     MatchResult-weaker c.find_gate.result c.find_gate.ensures.err (λ gate h. h)
-    (λ fault refused. find_refused fault c.in_ok-size.size (d c.args.disk.now) (d c.measure.new.disk) (d c.find_gate.new.disk)
-    c.find_gate.ensures.kept c.in_ok-size.ensures.ok refused)
+    (λ fault refused. find_refused fault c.in_ok-size.size (d c.args.disk.now) (d c.measure.new.disk)
+    (d c.find_gate.new.disk) c.find_gate.ensures.kept c.in_ok-size.ensures.ok refused)
 
 pub returns-then-size-clause-ok : goal.returns-then-size-clause-ok
 returns-then-size-clause-ok g c =
     let d = g.D.Disk.disk in
-    find_made c.in_ok-size.size (d c.args.disk.now) (d c.measure.new.disk) (d c.make.new.disk) (omega (arith, c.if-size.true))
-    c.in_ok-size.ensures.ok c.in_ok-make.ensures.ok
+    find_made c.in_ok-size.size (d c.args.disk.now) (d c.measure.new.disk) (d c.make.new.disk)
+    (omega (arith, c.if-size.true)) c.in_ok-size.ensures.ok c.in_ok-make.ensures.ok

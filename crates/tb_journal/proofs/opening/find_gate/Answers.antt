@@ -23,7 +23,8 @@ frames-preserved g c =
     let place : ℕ = c.frames.place in
     let next : ℕ = c.in-Some.next in
     let passed : IfSome old (λ past. PassesFrame place (contents_of past) (Some next)) =
-    subst (λ (past : Option Past). IfSome past (λ past. PassesFrame place (contents_of past) (Some next))) c.frames.invariant.kept
+    subst (λ (past : Option Past). IfSome past (λ past. PassesFrame place (contents_of past) (Some next)))
+    c.frames.invariant.kept
     (subst (λ (found : Option ℕ). IfSome (d c.frames.disk).past (λ past. PassesFrame place (contents_of past) found))
     c.in-Some.is c.in_ok-next.ensures.found) in
     let within : (place < next) × (next ≤ c.args.size) =

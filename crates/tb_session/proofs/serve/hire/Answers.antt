@@ -47,8 +47,8 @@ loop-gates-preserved g c =
       hires = subst (λ l. Hires c.args.shared.now v (view c.split-part.new.pass) c.args.gates.now.items
           c.remove-gate.new.self.items l) (sym c.push_reserved.ensures.items)
           (hires-more c.args.shared.now v (view c.loop-gates.pass) (view c.split-part.new.pass) c.args.gates.now.items
-          c.loop-gates.gates.items c.remove-gate.new.self.items c.loop-gates.workers.items w c.loop-gates.invariant.hires
-          first c.split-part.ensures.kept c.split-part.ensures.given
+          c.loop-gates.gates.items c.remove-gate.new.self.items c.loop-gates.workers.items w
+          c.loop-gates.invariant.hires first c.split-part.ensures.kept c.split-part.ensures.given
           (record { own = c.split-part.ensures.own.1; idle = c.split-part.ensures.idle.1 }) refl);
       capacity = c.remove-gate.ensures.capacity ∙ c.loop-gates.invariant.capacity;
       room = omega (

@@ -29,5 +29,5 @@ loop-place-preserved c =
 pub returns-clause-places : goal.returns-clause-places
 returns-clause-places c =
     All-from_all_within (IsReady c.args.places) c.loop-place.ready
-    (AllWithin-upto (IsReady c.args.places) c.loop-place.ready 0 c.loop-place.place (length c.loop-place.ready) (omega arith)
-    c.loop-place.invariant.done)
+    (AllWithin-upto (IsReady c.args.places) c.loop-place.ready 0 c.loop-place.place (length c.loop-place.ready)
+    (omega arith) c.loop-place.invariant.done)

@@ -11,5 +11,5 @@ returns-in-Whole c =
 -- and none is without room for 2,731
 pub returns : goal.returns
 returns c =
-    absurd (has_room (length c.read_head.new.headers) c.args.text.now (omega (arith, c.in_ok-headers.ensures.len)) c.requires.few
-    c.in-Crowded.ensures.exceeds)
+    absurd (has_room (length c.read_head.new.headers) c.args.text.now (omega (arith, c.in_ok-headers.ensures.len))
+    c.requires.few c.in-Crowded.ensures.exceeds)

@@ -15,7 +15,8 @@ loop-header-preserved c =
 pub returns : goal.returns
 returns c =
     let headers = c.args.headers.now in
-    let all : take c.loop-header.header-index headers ≡ headers = take_all c.loop-header.header-index headers (omega arith) in
+    let all : take c.loop-header.header-index headers ≡ headers =
+    take_all c.loop-header.header-index headers (omega arith) in
     subst (λ (hs : List HeaderSpan).
-    Stands c.args.text.now c.loop-header.standing (values_of c.args.name.now (map (header_bytes c.args.text.now) hs))) all
-    c.loop-header.invariant
+    Stands c.args.text.now c.loop-header.standing (values_of c.args.name.now (map (header_bytes c.args.text.now) hs)))
+    all c.loop-header.invariant

@@ -74,7 +74,8 @@ invariant_of-self c =
             apart = c.raise.ensures.apart;
             competitive = subst (λ amount. IsRaised (λ entry. entry.competitive) line.bidder amount bidders raised)
                 c.competitive.ensures c.raise.ensures.competitive;
-            noncompetitive = subst (λ amount. IsRaised (λ entry. entry.noncompetitive) line.bidder amount bidders raised)
+            noncompetitive = subst
+                (λ amount. IsRaised (λ entry. entry.noncompetitive) line.bidder amount bidders raised)
                 c.noncompetitive.ensures c.raise.ensures.noncompetitive;
           })
           (ap (λ part. noncompetitive + part) c.noncompetitive-2.ensures),
@@ -96,7 +97,8 @@ returns-clause-lines c =
 pub returns-clause-elements : goal.returns-clause-elements
 returns-clause-elements c =
     let lines = c.self.inside.lines.elements in
-    rw (← c.self.view_is) (IsPermutation-inserted c.args.line lines c.insert.new.self.elements c.insert.ensures.inserted)
+    rw (← c.self.view_is)
+    (IsPermutation-inserted c.args.line lines c.insert.new.self.elements c.insert.ensures.inserted)
 
 pub returns-clause-kept : goal.returns-clause-kept
 returns-clause-kept c = (invariant_of-self c).0.kept

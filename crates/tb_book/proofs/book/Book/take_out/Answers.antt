@@ -11,7 +11,8 @@ returns-in_err-bid-clause-none c =
     let none = c.in_err-bid.ensures.none.0 refl in (
       λ _ has.
           let old = subst (λ book. HasBid c.args.bidder c.args.number book.lines) (sym c.self.view_is) has in
-          let key = key-HasBid c.args.bidder c.args.number lines c.self.inside.bids.elements c.self.invariant.0.bids_are old in
+          let key = key-HasBid c.args.bidder c.args.number lines c.self.inside.bids.elements
+          c.self.invariant.0.bids_are old in
           none (key.0, record { within = key.1; same = key.2 }),
       λ _. ap is_some c.from_residual.ensures,
     )
@@ -93,7 +94,8 @@ invariant_of-self-2 c =
                 c.competitive.ensures
                 (subst (λ own. IsRaised (λ entry. entry.competitive) own c.competitive.result lowered bidders)
                 (sym taken.bidder_is) c.lower.ensures.competitive);
-            noncompetitive = subst (λ amount. IsRaised (λ entry. entry.noncompetitive) line.bidder amount lowered bidders)
+            noncompetitive = subst
+                (λ amount. IsRaised (λ entry. entry.noncompetitive) line.bidder amount lowered bidders)
                 c.noncompetitive.ensures
                 (subst (λ own. IsRaised (λ entry. entry.noncompetitive) own c.noncompetitive.result lowered bidders)
                 (sym taken.bidder_is) c.lower.ensures.noncompetitive);

@@ -10,26 +10,27 @@ pub invariant_of-self : goal.invariant_of-self
 invariant_of-self c =
     let placed = sym (c.place_of.ensures c.self.inside.books.items c.self.invariant.2) ∙ c.in-Some.is in
     let changed = changed-back c.args.auction.now c.in-Some.place IsKeptBook c.self.inside.books.items
-    c.deref_mut.result.now c.reserve_at.new.books c.self.inside.books.len c.deref_mut.ensures.value c.deref_mut.ensures.len
-    placed c.reserve_at.ensures.kept in
+    c.deref_mut.result.now c.reserve_at.new.books c.self.inside.books.len c.deref_mut.ensures.value
+    c.deref_mut.ensures.len placed c.reserve_at.ensures.kept in
     (c.self.invariant.0, c.self.invariant.1, c.self.invariant.2 ∙ sym changed.names, c.self.invariant.3)
 
 pub returns-in-Some-clause-places : goal.returns-in-Some-clause-places
 returns-in-Some-clause-places c =
     let placed = sym (c.place_of.ensures c.self.inside.books.items c.self.invariant.2) ∙ c.in-Some.is in
     places-back c.reserve_at.result c.args.auction.now c.in-Some.place c.args.more IsKeptBook c.self.inside.books.items
-    c.deref_mut.result.now c.reserve_at.new.books c.self.inside.books.len c.deref_mut.ensures.value c.deref_mut.ensures.len
-    placed c.reserve_at.ensures.kept c.reserve_at.ensures.places
+    c.deref_mut.result.now c.reserve_at.new.books c.self.inside.books.len c.deref_mut.ensures.value
+    c.deref_mut.ensures.len placed c.reserve_at.ensures.kept c.reserve_at.ensures.places
 
 pub returns-in-Some-clause-books : goal.returns-in-Some-clause-books
 returns-in-Some-clause-books c =
     let placed = sym (c.place_of.ensures c.self.inside.books.items c.self.invariant.2) ∙ c.in-Some.is in
     subst (λ (old : List NamedBook). IsChanged c.args.auction.now IsKeptBook old
-    (take c.self.inside.books.len (c.reserve_at.new.books ++ drop (length c.reserve_at.new.books) c.self.inside.books.items)))
+    (take c.self.inside.books.len
+    (c.reserve_at.new.books ++ drop (length c.reserve_at.new.books) c.self.inside.books.items)))
     (ap (λ (s : Shelved). s.books) c.self.view_is)
     (changed-back c.args.auction.now c.in-Some.place IsKeptBook c.self.inside.books.items
-    c.deref_mut.result.now c.reserve_at.new.books c.self.inside.books.len c.deref_mut.ensures.value c.deref_mut.ensures.len
-    placed c.reserve_at.ensures.kept)
+    c.deref_mut.result.now c.reserve_at.new.books c.self.inside.books.len c.deref_mut.ensures.value
+    c.deref_mut.ensures.len placed c.reserve_at.ensures.kept)
 
 pub returns-in-None-clause-places : goal.returns-in-None-clause-places
 returns-in-None-clause-places c =

@@ -8,9 +8,9 @@ use Rattle.tb_shelf.proofs.shelf.Shelf.take_out.Goals as goal
 pub invariant_of-self : goal.invariant_of-self
 invariant_of-self c =
     let placed = sym (c.place_of.ensures c.self.inside.books.items c.self.invariant.2) ∙ c.in-Some.is in
-    let changed = changed-back c.args.auction.now c.in-Some.place (IsLowered c.args.bidder c.args.number) c.self.inside.books.items
-    c.deref_mut.result.now c.take_at.new.books c.self.inside.books.len c.deref_mut.ensures.value c.deref_mut.ensures.len
-    placed c.take_at.ensures in
+    let changed = changed-back c.args.auction.now c.in-Some.place (IsLowered c.args.bidder c.args.number)
+    c.self.inside.books.items c.deref_mut.result.now c.take_at.new.books c.self.inside.books.len
+    c.deref_mut.ensures.value c.deref_mut.ensures.len placed c.take_at.ensures in
     (c.self.invariant.0, c.self.invariant.1, c.self.invariant.2 ∙ sym changed.names, c.self.invariant.3)
 
 pub returns-in-Some-clause-books : goal.returns-in-Some-clause-books
