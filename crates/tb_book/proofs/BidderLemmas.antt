@@ -10,7 +10,7 @@ use Rattle.tb_blocks.specs.Orders.{HasKey, HasKeyAt, IsInserted}
 use Rattle.tb_units.proofs.ListLemmas.{AllPairs-head, AllPairs-tail}
 use Rattle.tb_book.specs.declared.bidder.Bidder.{Bidder}
 use Rattle.tb_book.specs.Indexes.{AreOfBidders, IsRaised, total_of}
-use Rattle.tb_book.proofs.KeyLemmas.{nat-equal, equal-nat}
+use Rattle.tb_units.proofs.OrderLemmas.{nat-equal, equal-nat}
 
 -- what an entry counts for a bidder
 abbrev pub counts_for : (Bidder → ℕ) → ℕ → Bidder → ℕ

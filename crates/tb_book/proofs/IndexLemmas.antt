@@ -20,7 +20,8 @@ use Rattle.tb_book.specs.declared.bidder.Bidder.{Bidder}
 use Rattle.tb_book.specs.Books.{IsEarlier, AreApart, AreKept, HasBid, IsTakenOut, par_in, most_bid, competitive_of, noncompetitive_of, noncompetitive_in}
 use Rattle.tb_book.specs.Indexes.{rank_of, bid_of, AreBidsOf, AreOfBidders, IsRaised, IsIndexed}
 use Rattle.tb_book.proofs.CallerLemmas.{IsOther-all}
-use Rattle.tb_book.proofs.KeyLemmas.{pair-equal, equal-pair, then-equal, equal-then, nat-equal, equal-nat}
+use Rattle.tb_units.proofs.OrderLemmas.{nat-equal, equal-nat}
+use Rattle.tb_book.proofs.KeyLemmas.{pair-equal, equal-pair, then-equal, equal-then}
 
 -- ---- one list's elements found in the other
 

@@ -4,8 +4,8 @@ use Rattle.std.specs.Ordering.{nat_cmp, ordering_then, is_lt, is_gt}
 use Rattle.std.specs.declared.cmp.Ordering.TheVariants.{Less, Equal, Greater}
 use Rattle.std.specs.List.Sorted.{IsPartitionPoint}
 use Rattle.std.proofs.lemmas.Bool.{true≢false}
-use Rattle.std.proofs.lemmas.Cmp.{ranked, by_ranked}
 use Rattle.tb_units.specs.Same.{same_rate}
+use Rattle.tb_units.proofs.OrderLemmas.{nat-less, nat-equal, less-nat, equal-nat}
 use Rattle.tb_units.specs.declared.rate.Rate.{Rate}
 use Rattle.tb_book.specs.declared.book_line.BookLine.{BookLine}
 use Rattle.tb_book.specs.declared.bid.Bid.{Bid}
@@ -22,26 +22,6 @@ line_order one other =
 -- the order of a bid's key
 abbrev pub bid_order : Bid → Bid → Ordering
 bid_order one other = ordering_then (nat_cmp one.bidder other.bidder) (nat_cmp one.number other.number)
-
--- a number whose order is less is less
-pub nat-less : (one other : ℕ) → nat_cmp one other ≡ Less → one < other
-nat-less one other is = ranked one other Less (sym is)
-
--- numbers of which neither is less are equal
-pub nat-equal : (one other : ℕ) → nat_cmp one other ≡ Equal → one ≡ other
-nat-equal one other is = ranked one other Equal (sym is)
-
--- and the other way round
-pub less-nat : (one other : ℕ) → one < other → nat_cmp one other ≡ Less
-less-nat one other below =
-    by_ranked (one < other) (one ≡ other) (other < one) (nat_cmp one other) (ranked one other (nat_cmp one other) refl)
-    (λ is _. is) (λ _ same. absurd (omega (arith, same, below))) (λ _ above. absurd (omega (arith, above, below)))
-
--- of equal numbers neither is less
-pub equal-nat : (one other : ℕ) → one ≡ other → nat_cmp one other ≡ Equal
-equal-nat one other same =
-    by_ranked (one < other) (one ≡ other) (other < one) (nat_cmp one other) (ranked one other (nat_cmp one other) refl)
-    (λ _ below. absurd (omega (arith, same, below))) (λ is _. is) (λ _ above. absurd (omega (arith, same, above)))
 
 -- two orders, the first before the second
 pub then-less : (first second : Ordering) → ordering_then first second ≡ Less

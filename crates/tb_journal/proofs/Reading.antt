@@ -1,8 +1,6 @@
 -- How far a journal is read.
-use Rattle.std.proofs.Common.{◌≡◌, ◌≢◌, ℕ, zero, suc, ◌+◌, ◌<◌, ◌≤◌, List, [], ◌∷◌, ◌++◌, length, get_or, take, drop, refl, sym, ◌∙◌, ap, arith, append_assoc, length-append, length-take, length-drop, take-append-drop}
+use Rattle.std.proofs.Common.{◌≡◌, ◌≢◌, ℕ, ◌+◌, ◌<◌, ◌≤◌, List, [], ◌∷◌, ◌++◌, length, get_or, take, drop, refl, sym, ◌∙◌, ap, arith, length-append, length-drop, take-append-drop}
 use Rattle.std.proofs.lemmas.List.{drop_at, drop_more, append-nil}
-use Rattle.std.proofs.lemmas.Nat.{be_bytes_4}
-use Rattle.std.specs.Int.{w32, to_be_bytes, from_be_bytes}
 use Rattle.tb_journal.specs.Frames.{header, framed, frames, front, IsPayload, ArePayloads}
 use Rattle.tb_journal.specs.Image.{IsFramed, IsNoFrame, IsDamaged}
 use Rattle.tb_journal.proofs.Gates.{front_push, length-front_push, length-header, ArePayloads-push}
@@ -95,11 +93,3 @@ read_past payloads file place long so_far le = record {
   at = so_far.at;
   broken = tt;
 }
-
--- a front of bytes is bytes
-pub take-bytes : (count : ℕ) (list : List ℕ) → ((index : ℕ) → get_or list index 0 < 256) → (index : ℕ)
-    → get_or (take count list) index 0 < 256
-take-bytes zero list small index = omega arith
-take-bytes (suc count) [] small index = small index
-take-bytes (suc count) (x ∷ list) small zero = small zero
-take-bytes (suc count) (x ∷ list) small (suc index) = take-bytes count list (λ at. small (suc at)) index

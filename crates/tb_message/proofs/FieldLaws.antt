@@ -1,17 +1,17 @@
 -- A field that is read is the field that was spelled, and what was spelled is read again.
-use Rattle.std.proofs.Common.{◌≡◌, ℕ, suc, ◌+◌, ◌-◌, ◌^◌, ◌<◌, ◌≤◌, true, false, cond, ltb, List, [], ◌∷◌, ◌++◌, length}
-use Rattle.std.proofs.Common.{get_or, take, drop, Some, None, refl, sym, ap, subst, arith, inl, inr, ℤ}
+use Rattle.std.proofs.Common.{◌≡◌, ℕ, suc, ◌-◌, ◌^◌, ◌<◌, ◌≤◌, true, false, cond, ltb, List, [], ◌∷◌, ◌++◌, length}
+use Rattle.std.proofs.Common.{take, drop, Some, None, refl, sym, ap, subst, arith, ℤ}
 use Rattle.std.specs.Prelude.{pos, negsuc}
 use Rattle.std.specs.Option.{option_map}
 use mir.Val.{SFits}
 use Rattle.std.specs.Int.{Width, w16, w32, w64, byte_len, from_be_bytes, to_be_bytes, cast_signed, cast_unsigned}
-use Rattle.std.proofs.lemmas.Bool.{cases_lt, ltb-false, le-ltb}
+use Rattle.std.proofs.lemmas.Bool.{ltb-false, le-ltb}
 use Rattle.std.proofs.lemmas.Bool.Decides.{nat_tests}
 use Rattle.std.proofs.lemmas.List.{take_at, drop_at, take-append-drop, length-append, length-take}
-use Rattle.std.proofs.lemmas.List.{get_or-drop, get_or-take, get_or_past}
 use Rattle.std.proofs.lemmas.Int.{of_z-to_z, to_z-of_z, to_z_pos}
 use Rattle.std.proofs.lemmas.Nat.{be_bytes_2, be_bytes_4, be_bytes_8, from_be_bytes-to_be_bytes_2}
 use Rattle.std.proofs.lemmas.Nat.{from_be_bytes-to_be_bytes_4, from_be_bytes-to_be_bytes_8}
+use Rattle.tb_units.proofs.ByteLemmas.{AreBytes, take-bytes, drop-bytes, rest-bytes}
 use Rattle.tb_message.specs.Forms.{Form, name, cusip, amount, number, position, rate, day}
 use Rattle.tb_message.specs.Forms.{minute, moment, Part, text, whole, signed, is_of}
 use Rattle.tb_message.specs.Spelling.{spelled}
@@ -20,38 +20,18 @@ use Rattle.tb_message.proofs.Steps.{from_map, from_then, from_test}
 
 -- ---- bytes
 
--- each is a byte
-abbrev pub IsBytes : List ℕ → Type 0
-IsBytes bytes = (i : ℕ) → get_or bytes i 0 < 256
-
--- so are those behind the first so many
-IsBytes-drop : (n : ℕ) (bytes : List ℕ) → IsBytes bytes → IsBytes (drop n bytes)
-IsBytes-drop n bytes h i = rw get_or-drop (h (n + i))
-
--- and the first so many
-IsBytes-take : (n : ℕ) (bytes : List ℕ) → IsBytes bytes → IsBytes (take n bytes)
-IsBytes-take n bytes h i =
-    elim (cases_lt i n) [
-      | inl lt ↦ rw (get_or-take n bytes i 0 lt) (h i)
-      | inr le ↦ rw (get_or_past (take n bytes) i 0 (omega (arith, length-take n bytes))) (omega arith)
-    ]
-
--- and those behind the first
-IsBytes-rest : (b : ℕ) (bytes : List ℕ) → IsBytes (b ∷ bytes) → IsBytes bytes
-IsBytes-rest b bytes h i = h (suc i)
-
 -- ---- the front
 
 -- the bytes are a front of so many and what follows it
 record IsFront (size : ℕ) (bytes : List ℕ) (x : List ℕ × List ℕ) : Type 0 where
   joined : bytes ≡ x.0 ++ x.1
   size_is : length x.0 ≡ size
-  front : IsBytes x.0
-  rest : IsBytes x.1
+  front : AreBytes x.0
+  rest : AreBytes x.1
 
 -- what is read as the front is the front
 front_is : (size : ℕ) (bytes : List ℕ) (x : List ℕ × List ℕ)
-    → IsBytes bytes
+    → AreBytes bytes
     → front_at size bytes ≡ Some x
     → IsFront size bytes x
 front_is size bytes x fits e =
@@ -61,8 +41,8 @@ front_is size bytes x fits e =
       | false ↦ λ long e. subst (IsFront size bytes) (pair_is size bytes x e) (record {
         joined = sym (take-append-drop size bytes);
         size_is = (let le : size ≤ length bytes = ltb-false _ _ long in omega (arith, length-take size bytes));
-        front = IsBytes-take size bytes fits;
-        rest = IsBytes-drop size bytes fits;
+        front = take-bytes size bytes fits;
+        rest = drop-bytes size bytes fits;
       })
     ] refl e
   where
@@ -84,7 +64,7 @@ front_again size front rest len =
 
 -- its bytes are so many, and are those of the number that they spell
 record IsWide (w : Width) : Type 0 where
-  back : (bytes : List ℕ) → length bytes ≡ byte_len w → IsBytes bytes → to_be_bytes w (from_be_bytes w bytes) ≡ bytes
+  back : (bytes : List ℕ) → length bytes ≡ byte_len w → AreBytes bytes → to_be_bytes w (from_be_bytes w bytes) ≡ bytes
   len : (n : ℕ) → length (to_be_bytes w n) ≡ byte_len w
 
 -- two bytes
@@ -104,7 +84,7 @@ wide64 = record { back = λ bytes len fits. be_bytes_8 bytes _ len fits refl; le
 -- the bytes are the spelling of what was read, and what follows
 pub record Takes (spelling rest bytes : List ℕ) : Type 0 where
   pub joined : bytes ≡ spelling ++ rest
-  pub rest_fits : IsBytes rest
+  pub rest_fits : AreBytes rest
 
 -- the bytes of a number are the spelling of that number
 front_takes : (w : Width) (bytes : List ℕ) (front : List ℕ × List ℕ)
@@ -118,7 +98,7 @@ front_takes w bytes front wide is =
 whole_takes : (w : Width) (spell : Part → List ℕ) (bytes : List ℕ) (x : Part × List ℕ)
     → IsWide w
     → ((n : ℕ) → spell (whole n) ≡ to_be_bytes w n)
-    → IsBytes bytes
+    → AreBytes bytes
     → whole_at w bytes ≡ Some x
     → Takes (spell x.0) x.1 bytes
 whole_takes w spell bytes x wide spells fits e =
@@ -131,7 +111,7 @@ whole_takes w spell bytes x wide spells fits e =
 -- and a text of so many bytes
 text_takes : (size : ℕ) (spell : Part → List ℕ) (bytes : List ℕ) (x : Part × List ℕ)
     → ((t : List ℕ) → spell (text t) ≡ t)
-    → IsBytes bytes
+    → AreBytes bytes
     → option_map (λ front. (text front.0, front.1)) (front_at size bytes) ≡ Some x
     → Takes (spell x.0) x.1 bytes
 text_takes size spell bytes x spells fits e =
@@ -143,7 +123,7 @@ text_takes size spell bytes x spells fits e =
 
 -- and a name, behind its length
 name_takes : (size : ℕ) (bytes : List ℕ) (x : Part × List ℕ)
-    → IsBytes (size ∷ bytes)
+    → AreBytes (size ∷ bytes)
     → field_at name (size ∷ bytes) ≡ Some x
     → Takes (spelled name x.0) x.1 (size ∷ bytes)
 unfolding spelled
@@ -151,12 +131,12 @@ name_takes size bytes x fits e =
     from_map (λ (x : Part × List ℕ). Takes (spelled name x.0) x.1 (size ∷ bytes)) (λ front. (text front.0, front.1))
     (front_at size bytes) x e
     (λ front given.
-    let is = front_is size bytes front (IsBytes-rest size bytes fits) given in
+    let is = front_is size bytes front (rest-bytes size bytes fits) given in
     record { joined = rw (is.size_is) (ap (λ (b : List ℕ). size ∷ b) is.joined); rest_fits = is.rest })
 
 -- and a position, in two's complement
 position_takes : (bytes : List ℕ) (x : Part × List ℕ)
-    → IsBytes bytes
+    → AreBytes bytes
     → field_at position bytes ≡ Some x
     → Takes (spelled position x.0) x.1 bytes
 unfolding spelled
@@ -173,7 +153,7 @@ position_takes bytes x fits e =
 
 -- whatever the form
 pub field_takes : (form : Form) (bytes : List ℕ) (x : Part × List ℕ)
-    → IsBytes bytes
+    → AreBytes bytes
     → field_at form bytes ≡ Some x
     → Takes (spelled form x.0) x.1 bytes
 unfolding spelled
@@ -247,7 +227,7 @@ field_again form part rest fits = absurd cc
 
 -- what is read was spelled, and is in its range
 pub part_takes : (form : Form) (bytes : List ℕ) (x : Part × List ℕ)
-    → IsBytes bytes
+    → AreBytes bytes
     → part_at form bytes ≡ Some x
     → Takes (spelled form x.0) x.1 bytes × (is_of form x.0 ≡ true)
 unfolding part_at

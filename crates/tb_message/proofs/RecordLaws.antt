@@ -20,7 +20,8 @@ use Rattle.tb_message.specs.Spelling.{spelled, spelled_all, AreOf, head_forms, h
 use Rattle.tb_message.specs.Reading.{part_at, parts_at, message_at, tagged_at, entry_at}
 use Rattle.tb_message.proofs.Steps.{from_map, from_then, some_is}
 use Rattle.tb_message.proofs.Same.{IsSame, entries}
-use Rattle.tb_message.proofs.FieldLaws.{IsBytes, Takes, part_takes, part_again}
+use Rattle.tb_units.proofs.ByteLemmas.{AreBytes}
+use Rattle.tb_message.proofs.FieldLaws.{Takes, part_takes, part_again}
 
 -- ---- fields one after another
 
@@ -31,7 +32,7 @@ pub record Reads (forms : List Form) (bytes : List ℕ) (x : List Part × List �
 
 -- parts that are read were spelled
 pub parts_take : (forms : List Form) (bytes : List ℕ) (x : List Part × List ℕ)
-    → IsBytes bytes
+    → AreBytes bytes
     → parts_at forms bytes ≡ Some x
     → Reads forms bytes x
 parts_take [] bytes x fits e =
@@ -116,7 +117,7 @@ record ReadsTagged (bytes : List ℕ) (x : Kind × List Part × List ℕ) : Type
 
 -- a body that is read was spelled
 tagged_takes : (bytes : List ℕ) (x : Kind × List Part × List ℕ)
-    → IsBytes bytes
+    → AreBytes bytes
     → tagged_at bytes ≡ Some x
     → ReadsTagged bytes x
 tagged_takes [] x fits e = absurd cc
@@ -132,7 +133,7 @@ tagged_takes (tag ∷ bytes) x fits e =
     }))
 
 -- an entry that is read was spelled
-pub entry_takes : (bytes : List ℕ) (x : Read) → IsBytes bytes → entry_at bytes ≡ Some x → ReadsEntry bytes x
+pub entry_takes : (bytes : List ℕ) (x : Read) → AreBytes bytes → entry_at bytes ≡ Some x → ReadsEntry bytes x
 entry_takes bytes x fits e =
     from_then (ReadsEntry bytes) (λ head. option_map (λ body. (head.0, body.0, body.1, body.2)) (tagged_at head.1))
     (parts_at head_forms bytes) x e
@@ -180,7 +181,7 @@ pub record Taken (bytes : List ℕ) (entry : Entry) (rest : List ℕ) : Type 0 w
 
 -- an entry is taken where its spelling begins the bytes
 pub taken : (bytes : List ℕ) (entry : Entry) (rest : List ℕ)
-    → IsBytes bytes
+    → AreBytes bytes
     → Some (read_of entry rest) ≡ entry_at bytes
     → Taken bytes entry rest
 taken bytes entry rest fits e =

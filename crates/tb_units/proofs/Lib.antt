@@ -1,5 +1,8 @@
 pub mod NumberLemmas
 pub mod NameLemmas
+pub mod OrderLemmas
+pub mod ByteLemmas
+pub mod WordLemmas
 pub mod RateLemmas
 pub mod ShortLemmas
 pub mod ListLemmas

@@ -1,6 +1,7 @@
 pub mod Decimals
 pub mod Rates
 pub mod Names
+pub mod Words
 pub mod Padding
 pub mod Years
 pub mod LineOrder

@@ -12,6 +12,7 @@ ghost use Rattle.std.proofs.lemmas.Slice.Eq.{bytes_eq-Decides};
 ghost use Rattle.tb_units.specs.Names.{is_name, name_of};
 ghost use Rattle.tb_units.specs.Names as spelled;
 
+use crate::padded;
 use std::cmp::Ordering;
 use std::hash::{Hash, Hasher};
 use std::marker::Model;
@@ -84,7 +85,7 @@ impl PartialEq for Ident {
     ghost laws = { Cmp.partial_equiv_from_equiv nat_list_eq_equiv };
 
     fn eq(&self, other: &Ident) -> bool {
-        self.bytes() == other.bytes()
+        self.bytes == other.bytes
     }
 }
 
@@ -113,7 +114,7 @@ impl Ord for Ident {
     ghost matches_eq = { texts_ties };
 
     fn cmp(&self, other: &Ident) -> Ordering {
-        self.bytes().cmp(other.bytes())
+        padded::order(&self.bytes, &other.bytes)
     }
 }
 

@@ -10,6 +10,7 @@ mod lines;
 mod memory;
 mod moment;
 mod number;
+mod padded;
 mod percent;
 mod price;
 mod rate;

@@ -98,6 +98,13 @@ fn names_are_in_order_of_their_bytes(rt: HostRuntime) {
         ("0", "a"),
         ("a-", "a0"),
         ("a0", "a_"),
+        ("bidder-0", "bidder-00"),
+        ("bidder-of-1", "bidder-of-2"),
+        ("submitter-number-1", "submitter-number-2"),
+        (
+            "a-name-that-has-all-32-bytes---0",
+            "a-name-that-has-all-32-bytes---1",
+        ),
     ] {
         assert!(rt; name(&rt, one) < name(&rt, other), "{one} and {other}");
         assert!(rt; name(&rt, one) != name(&rt, other), "{one} and {other}");

@@ -1,7 +1,7 @@
 -- The bidder's only entry says what it has.
 use Rattle.std.proofs.Common.{get_or, ap, sym, refl, ◌∙◌}
 use Rattle.tb_book.specs.declared.bidder.Bidder.{Bidder}
-use Rattle.tb_book.proofs.KeyLemmas.{nat-equal}
+use Rattle.tb_units.proofs.OrderLemmas.{nat-equal}
 use Rattle.tb_book.proofs.BidderLemmas.{total-only, total-missing}
 use Rattle.tb_book.proofs.bidder.totals_of.Goals as goal
 

@@ -1,7 +1,7 @@
 -- The four bytes are the spelling of the length.
-use Rattle.std.proofs.Common.{◌≡◌, ◌<◌, arith, ap, sym, ◌∙◌, ℕ, List, get_or, length, subst, length-take}
+use Rattle.std.proofs.Common.{◌<◌, arith, sym, ◌∙◌, ℕ, List, get_or, subst}
 use Rattle.std.proofs.lemmas.Nat.{be_bytes_4}
-use Rattle.tb_journal.proofs.Reading.{take-bytes}
+use Rattle.tb_units.proofs.ByteLemmas.{take-bytes}
 use Rattle.tb_journal.proofs.frames.payload_size.Goals as goal
 
 pub returns-clause-spelled : goal.returns-clause-spelled
