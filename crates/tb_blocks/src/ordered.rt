@@ -1,9 +1,9 @@
 //! A list in the order of its elements' keys.
-ghost use Rattle.std.specs.Prelude.{◌≡◌, ℕ, ◌+◌, ◌<◌, ◌≤◌, ◌↔◌, [], length, set, OnOk, IsOk, IfSome, IfNone, IsNone, slice_index_or};
+ghost use Rattle.std.specs.Prelude.{◌≡◌, ℕ, ◌+◌, ◌<◌, ◌≤◌, ◌↔◌, true, false, [], length, set, OnOk, OnErr, IsOk, IfOk, IfErr, IfSome, IfNone, IsNone, slice_index_or};
 ghost use Rattle.std.specs.List.{HoldsAt};
 ghost use Rattle.std.specs.declared.cmp.Ordering.TheVariants.{Equal};
 ghost use Rattle.tb_blocks.specs.Lists.{IsRun};
-ghost use Rattle.tb_blocks.specs.Orders.{AreOrdered, HasKey, HasKeyAt, IsInserted, IsPlaceOf, IsRemoved};
+ghost use Rattle.tb_blocks.specs.Orders.{AreOrdered, HasKey, HasKeyAt, IsInserted, IsPlaceOf, IsRemoved, PartsAt};
 
 use crate::blocks::Blocks;
 use crate::search::{Keyed, has_key};
@@ -90,16 +90,26 @@ impl<T: Keyed + Drop> Ordered<T> {
         self.list.place_of(key)
     }
 
+    // The place of the element with the key. `Err` has where the key belongs, where there is no such element.
+    fn seek(&self, key: &T::Key) -> Result<usize, usize>
+        ensures found { IfOk result (λ place. HasKeyAt T.Key.cmp T.key_of key.now self.now.elements place) }
+        ensures none { OnErr result (¬ (HasKey T.Key.cmp T.key_of key.now self.now.elements)) }
+        ensures within { IfErr result (λ place. place ≤ length self.now.elements) }
+        ensures place { IfErr result (λ place. PartsAt T.Key.cmp T.key_of key.now self.now.elements place) }
+    {
+        let place = self.list.place_of(key);
+        if place < self.list.len() && has_key(self.list.at(place), key) {
+            return Ok(place);
+        }
+        Err(place)
+    }
+
     /// The place of the element with the key. `None` where there is no such element.
     pub fn find(&self, key: &T::Key) -> Option<usize>
         ensures none { IsNone result ↔ (¬ (HasKey T.Key.cmp T.key_of key.now self.now.elements)) }
         ensures found { IfSome result (λ place. HasKeyAt T.Key.cmp T.key_of key.now self.now.elements place) }
     {
-        let place = self.list.place_of(key);
-        if place < self.list.len() && has_key(self.list.at(place), key) {
-            return Some(place);
-        }
-        None
+        self.seek(key).ok()
     }
 
     /// Puts in an element whose key no other has, which can't fail.
@@ -113,6 +123,25 @@ impl<T: Keyed + Drop> Ordered<T> {
         let key = element.key();
         let place = self.list.place_of(&key);
         self.list.insert(place, element);
+    }
+
+    /// Puts in an element where no other has its key, which can't fail, and tells whether it did.
+    pub fn add(&mut self, element: T) -> bool
+        requires room { 0 < self.old.spare }
+        ensures there { (result ≡ false) ↔ HasKey T.Key.cmp T.key_of (T.key_of element) self.old.elements }
+        ensures inserted { result ≡ true → IsInserted element self.old.elements self.new.elements }
+        ensures unchanged { result ≡ false → self.new ≡ self.old }
+        ensures ordered { AreOrdered T.Key.cmp T.key_of self.new.elements }
+        ensures spare { self.old.spare ≤ self.new.spare + 1 }
+    {
+        let key = element.key();
+        match self.seek(&key) {
+            Ok(_) => false,
+            Err(place) => {
+                self.list.insert(place, element);
+                true
+            }
+        }
     }
 
     /// Takes out the element with the key. `None` where there is no such element. As many adds are sure as before.

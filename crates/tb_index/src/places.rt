@@ -39,9 +39,7 @@ pub fn add_place<K: Ord + Copy + Drop>(places: &mut Places<K>, key: K, place: us
         → ArePlaces K.cmp (keys ++ key ∷ []) places.new.elements }
     ensures spare { places.old.spare ≤ places.new.spare + 1 }
 {
-    if places.find(&key).is_none() {
-        places.insert(Place { key, place });
-    }
+    let _ = places.add(Place { key, place });
 }
 
 /// Takes the key off the end of the list, which is the place.

@@ -1,21 +1,22 @@
 -- A new key has the end as its place, and one that is kept stays where it stood.
-use Rattle.std.proofs.Common.{rules}
-use Rattle.tb_blocks.specs.Orders.{HasKey, HasKeyAt}
-use Rattle.tb_index.proofs.KeyLemmas.{some-value}
+use Rattle.std.proofs.Common.{true, false, inl, inr, sym, ◌∙◌}
+use Rattle.std.proofs.lemmas.Bool.{true≢false, cases_Bool}
+use Rattle.tb_blocks.specs.Orders.{HasKey}
 use Rattle.tb_index.proofs.PlaceLemmas.{key_in, ArePlaces-new, ArePlaces-known}
 use Rattle.tb_index.proofs.places.add_place.Goals as goal
 
-pub returns-then-is_none-clause-places : goal.returns-then-is_none-clause-places
-returns-then-is_none-clause-places g c keys long are =
-    let lacks : ¬ (HasKey g.K.Ord.cmp key_in c.args.key c.args.places.now.elements) =
-    c.find.ensures.none.0 (search rules) in
-    let is = c.insert.ensures.inserted.is in
-    rw (is, ← long)
-    (ArePlaces-new g.K.Ord.cmp keys c.args.places.now.elements c.args.key c.insert.ensures.inserted.place
-    g.met.K.Ord.total are lacks c.insert.ensures.inserted.within (rw (is, ← long) at c.insert.ensures.ordered))
-
-pub returns-else-is_none-clause-places : goal.returns-else-is_none-clause-places
-returns-else-is_none-clause-places g c keys long are =
-    ArePlaces-known g.K.Ord.cmp keys c.args.places.now.elements c.args.key g.met.K.Ord.total are
-    (some-value (λ at. HasKeyAt g.K.Ord.cmp key_in c.args.key c.args.places.now.elements at) c.find.result
-    (search rules) c.find.ensures.found)
+pub returns-clause-places : goal.returns-clause-places
+returns-clause-places g c keys long are =
+    let places = c.args.places.now.elements in
+    elim (cases_Bool c.add.result) [
+      | inl added ↦
+          let inserted = c.add.ensures.inserted added in
+          let lacks : ¬ (HasKey g.K.Ord.cmp key_in c.args.key places) =
+          λ has. true≢false (sym added ∙ c.add.ensures.there.1 has) in
+          rw (inserted.is, ← long)
+          (ArePlaces-new g.K.Ord.cmp keys places c.args.key inserted.place g.met.K.Ord.total are lacks inserted.within
+          (rw (inserted.is, ← long) at c.add.ensures.ordered))
+      | inr kept ↦
+          rw (c.add.ensures.unchanged kept)
+          (ArePlaces-known g.K.Ord.cmp keys places c.args.key g.met.K.Ord.total are (c.add.ensures.there.0 kept))
+    ]

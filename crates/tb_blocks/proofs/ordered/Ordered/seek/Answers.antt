@@ -1,12 +1,12 @@
 -- The element at the key's place has the key, or none has.
-use Rattle.std.proofs.Common.{◌≡◌, ◌<◌, length, get_or, arith, ap, ◌∙◌, refl}
+use Rattle.std.proofs.Common.{◌≡◌, ◌<◌, length, get_or, arith, ap, ◌∙◌}
 use Rattle.std.specs.Ordering.{is_eq}
 use Rattle.std.specs.declared.cmp.Ordering.TheVariants.{Equal}
 use Rattle.std.proofs.lemmas.Bool.{false≢true}
 use Rattle.std.proofs.lemmas.List.{get_or_default}
 use Rattle.tb_blocks.proofs.OrderLemmas.{partitioned-order, none-has}
-use Rattle.tb_blocks.proofs.ordered.Ordered.find.Goals as goal
-use Rattle.tb_blocks.proofs.ordered.Ordered.find.Goals.{else-place-len-via-then-place-len+else-has_key, else-place-len-via-else-place-len}
+use Rattle.tb_blocks.proofs.ordered.Ordered.seek.Goals as goal
+use Rattle.tb_blocks.proofs.ordered.Ordered.seek.Goals.{else-place-len-via-then-place-len+else-has_key, else-place-len-via-else-place-len}
 
 pub returns-clause-none : goal.returns-clause-none
 returns-clause-none g c =
@@ -29,4 +29,4 @@ returns-clause-none g c =
     ] in
     let none = none-has compare key_of key elements place g.met.T.Key.Ord.total c.self.invariant parts apart in
     let is : c.self.inside.list.elements ≡ c.args.self.now.elements = λ i. (c.self.view_is i).elements in
-    rw (← is) (λ _. none, λ _. refl)
+    rw (← is) none
