@@ -11,8 +11,6 @@ mod rates;
 mod recognised;
 mod recognising;
 mod sorted_lines;
-#[cfg(test)]
-mod tests;
 mod uncounted;
 
 pub use awarding::award;

@@ -5,8 +5,6 @@ mod bid;
 mod bidder;
 mod book;
 mod book_line;
-#[cfg(test)]
-mod tests;
 
 pub use book::Book;
 pub use book_line::BookLine;

@@ -9,8 +9,6 @@ mod laws;
 mod log;
 mod memory_disk;
 mod note;
-#[cfg(test)]
-mod tests;
 
 pub use disk::Disk;
 pub use file_disk::FileDisk;

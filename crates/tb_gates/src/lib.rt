@@ -10,8 +10,6 @@ mod list_gate;
 mod pair_link;
 mod system;
 mod tcp;
-#[cfg(test)]
-mod tests;
 
 pub use clock::Clock;
 pub use gate::Gate;

@@ -6,8 +6,6 @@ mod fault;
 mod frames;
 mod journal;
 mod opening;
-#[cfg(test)]
-mod tests;
 
 pub use fault::{DiskFault, JournalFault};
 pub use frames::Window;

@@ -8,8 +8,6 @@ mod memory_source;
 mod sink;
 mod source;
 mod std_streams;
-#[cfg(test)]
-mod tests;
 
 pub use faults::Faults;
 pub use memory_sink::TextSink;

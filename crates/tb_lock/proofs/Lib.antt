@@ -13,5 +13,4 @@ pub mod SeenLemmas
 pub mod ShareLemmas
 pub mod StepLemmas
 pub mod TakeLemmas
-pub mod TallyLemmas
 pub mod ViewLemmas

@@ -4,6 +4,5 @@ pub mod Meanings
 pub mod Passes
 pub mod Rule
 pub mod Steps
-pub mod Tally
 pub mod Turns
 pub mod Views

@@ -7,9 +7,6 @@ mod lock;
 mod pass;
 mod rule;
 mod steps;
-mod tally;
-#[cfg(test)]
-mod tests;
 mod turn;
 mod view;
 

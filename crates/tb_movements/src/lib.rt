@@ -4,8 +4,6 @@
 mod award;
 mod calls;
 mod laws;
-#[cfg(test)]
-mod tests;
 
 pub use award::Award;
 pub use calls::{credit_all, empty_book, pledge, redeem, release, reserve, transfer};

@@ -5,8 +5,6 @@ mod investing;
 mod laws;
 mod paying;
 mod pricing;
-#[cfg(test)]
-mod tests;
 mod yearly;
 
 pub use investing::investment;

@@ -6,8 +6,6 @@ mod lists;
 mod printable;
 mod results;
 mod terms;
-#[cfg(test)]
-mod tests;
 mod writing;
 
 pub use printable::readings_are_printable;

@@ -6,8 +6,6 @@ mod awarding;
 mod cutting;
 mod laws;
 mod publishing;
-#[cfg(test)]
-mod tests;
 
 pub use amounts::award_all;
 pub use awarding::awards;

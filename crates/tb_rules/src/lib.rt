@@ -3,8 +3,6 @@
 #![tactic(auto)]
 
 mod own;
-#[cfg(test)]
-mod tests;
 mod verdicts;
 
 pub use own::Own;

@@ -5,8 +5,6 @@ mod finding;
 mod named;
 mod preparing;
 mod shelf;
-#[cfg(test)]
-mod tests;
 
 pub use named::NamedBook;
 pub use shelf::Shelf;

@@ -4,7 +4,5 @@
 mod announcing;
 mod running;
 mod stating;
-#[cfg(test)]
-mod tests;
 
 pub use running::trial;

@@ -17,8 +17,6 @@ mod rate;
 mod short;
 mod steps;
 mod term;
-#[cfg(test)]
-mod tests;
 mod year;
 
 pub use amount::Dollars;

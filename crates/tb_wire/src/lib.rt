@@ -9,13 +9,9 @@ mod keys;
 mod laws;
 mod paths;
 mod phrases;
-#[cfg(test)]
-mod recorded;
 mod refusals;
 mod replies;
 mod targets;
-#[cfg(test)]
-mod tests;
 
 pub use cutting::{Cutting, HttpRequest, Target};
 pub use fronts::next_request;

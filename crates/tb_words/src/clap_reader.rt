@@ -11,10 +11,7 @@ use tb_message::{Key, Query};
 use tb_units::{Ident, OutOfMemory, read_within};
 
 /// The command that `clap` takes the words for, if it does and the values are in their ranges.
-pub(crate) fn taken_by_clap(
-    alloc: Global,
-    words: &[String],
-) -> Result<Option<Command>, OutOfMemory> {
+pub fn taken_by_clap(alloc: Global, words: &[String]) -> Result<Option<Command>, OutOfMemory> {
     match host(alloc)?.try_get_matches_from(words) {
         Ok(matches) => Ok(said(&matches)),
         Err(error) if error.kind() == ErrorKind::OutOfMemory => Err(OutOfMemory),

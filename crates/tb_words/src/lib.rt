@@ -7,10 +7,10 @@ mod items;
 mod laws;
 mod plain;
 mod shape;
-#[cfg(test)]
-mod tests;
 mod words;
 
+pub use clap_reader::taken_by_clap;
 pub use command::{Command, WordsFault};
 pub use laws::one_command;
+pub use plain::plain_command;
 pub use words::read_words;

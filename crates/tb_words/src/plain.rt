@@ -14,7 +14,7 @@ use tb_terms::Cusip;
 use tb_units::{Ident, read_within};
 
 /// The command that the words are, if they are one.
-pub(crate) fn plain_command(words: &[String]) -> Option<Command>
+pub fn plain_command(words: &[String]) -> Option<Command>
     ensures command { IfSome result (λ command. AreWordsOf command (map string_bytes words.now)) }
     ensures none { IfNone result ((command : Command) → ¬ (AreWordsOf command (map string_bytes words.now))) }
 {

@@ -1,6 +1,0 @@
--- the bids so far are of so many bidders
-use Rattle.std.proofs.Common.{◌<◌, All}
-use Rattle.tb_award.proofs.tests.bids_of.Given as goal
-
-abbrev pub invariant-loop-steps : goal.invariant-loop-steps
-invariant-loop-steps g l = All (λ line. line.bidder < l.bidders) l.bids.items

@@ -1,5 +1,0 @@
--- the ledger of the steps is that of the blank
-use Rattle.tb_award.proofs.tests.recognised_of_one.Given as goal
-
-abbrev pub ghosts-recognised_by : goal.ghosts-recognised_by
-ghosts-recognised_by a = record { name = a.blank.name; parts = a.blank.parts }

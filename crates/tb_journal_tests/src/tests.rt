@@ -1,0 +1,334 @@
+ghost use Rattle.std.specs.Prelude.{◌≡◌, None};
+ghost use Rattle.tb_journal.specs.Places.{StandsAt};
+
+use std::alloc::Global;
+use std::process::Abort;
+use std::test::Fail;
+use tb_disk::{Disk, MemoryDisk};
+use tb_journal::*;
+
+const HEADER: &[u8] = b"TBHOSTJOURNAL001";
+
+const ROOM: u64 = 1000;
+
+const LOG_ROOM: u64 = 10_000;
+
+// A disk in memory whose calls with these numbers fail.
+fn disk_of(
+    rt: &impl Abort,
+    alloc: Global,
+    contents: &[u8],
+    fails: Vec<u64>,
+    torn: u8,
+) -> Result<MemoryDisk, Fail> {
+    assert!(rt; contents.len() < 1000);
+    Ok(MemoryDisk::new(alloc, contents, ROOM, LOG_ROOM, fails, torn)?)
+}
+
+fn add(
+    rt: &impl Abort,
+    journal: &mut Journal<MemoryDisk>,
+    payload: &[u8],
+) -> Result<(), DiskFault> {
+    assert!(rt; !journal.unsure() && journal.gate() < 1000);
+    assert!(rt; !payload.is_empty() && payload.len() <= 32_768);
+    journal.append(payload)
+}
+
+fn settle(rt: &impl Abort, journal: &mut Journal<MemoryDisk>) -> Result<bool, DiskFault> {
+    assert!(rt; journal.unsure());
+    journal.resolve()
+}
+
+// The payloads of a journal, one after another, each with its place.
+fn payloads_of<D: Disk>(
+    rt: &impl Abort,
+    alloc: Global,
+    journal: &mut Journal<D>,
+) -> Result<Vec<u8>, Fail>
+    requires sure { journal.old.doubt ≡ None }
+    requires first { StandsAt (D.disk journal.old.disk) journal.old.gate 16 }
+{
+    let mut text = Vec::new(alloc);
+    let mut window = Window { bytes: [0; 32768] };
+    let mut place = 16;
+    'frames: for _ in 0..10 {
+        let Ok(found) = journal.next_frame(place, &mut window) else {
+            assert!(rt; false, "the disk failed");
+            return Ok(text);
+        };
+        let Some((size, behind)) = found else {
+            return Ok(text);
+        };
+        text.push((place % 256) as u8)?;
+        text.extend_from_slice(&window.bytes[..size])?;
+        place = behind;
+    }
+    assert!(rt; false, "no end");
+    Ok(text)
+}
+
+// The payloads that a file stands for.
+fn payloads_in(rt: &impl Abort, alloc: Global, file: &[u8]) -> Result<Vec<u8>, Fail> {
+    let disk = disk_of(rt, alloc, file, Vec::new(alloc), 0)?;
+    match Journal::open(alloc, disk) {
+        Ok(mut journal) => payloads_of(rt, alloc, &mut journal),
+        Err((_disk, fault)) => {
+            assert!(rt; false, "{fault:?}");
+            Ok(Vec::new(alloc))
+        }
+    }
+}
+
+#[test]
+fn files_are_opened(rt: HostRuntime) -> Result<(), Fail> {
+    let alloc = rt.alloc();
+    let whole = b"TBHOSTJOURNAL001\x01\0\0\0\x03abc\x01\0\0\0\x01d\0rest";
+    let empty = b"TBHOSTJOURNAL001\0";
+    for (file, found, after) in [
+        (b"".as_slice(), b"".as_slice(), empty.as_slice()),
+        (b"seventeen bytes..", b"", empty),
+        (b"TBHOSTJOURNAL001\x07x", b"", b"TBHOSTJOURNAL001\x07x"),
+        (whole, b"\x10abc\x18d", whole),
+    ] {
+        let disk = disk_of(&rt, alloc, file, Vec::new(alloc), 0)?;
+        match Journal::open(alloc, disk) {
+            Ok(journal) => {
+                assert_eq!(rt; journal.into_disk().contents(), after);
+            }
+            Err((_disk, fault)) => assert!(rt; false, "{fault:?}"),
+        }
+        assert_eq!(rt; payloads_in(&rt, alloc, file)?.as_slice(), found);
+    }
+    Ok(())
+}
+
+#[test]
+fn other_files_are_refused(rt: HostRuntime) -> Result<(), Fail> {
+    let alloc = rt.alloc();
+    for (file, want) in [
+        (
+            b"aaaaaaaaaaaaaaaaaa".as_slice(),
+            JournalFault::NotAJournal([b'a'; 16]),
+        ),
+        (
+            b"TBHOSTJOURNAL001\x01\0\0\0\x03ab",
+            JournalFault::Damaged(16),
+        ),
+        (b"TBHOSTJOURNAL001\x01\0\0\0", JournalFault::Damaged(16)),
+        (b"TBHOSTJOURNAL001\x01\0\0\0\0\0", JournalFault::Damaged(16)),
+        (
+            b"TBHOSTJOURNAL001\x01\0\0\x80\x01abc",
+            JournalFault::Damaged(16),
+        ),
+        (
+            b"TBHOSTJOURNAL001\x01\0\0\0\x01a",
+            JournalFault::Damaged(22),
+        ),
+        (
+            b"TBHOSTJOURNAL001\x01\0\0\0\x01a\x01",
+            JournalFault::Damaged(22),
+        ),
+    ] {
+        let disk = disk_of(&rt, alloc, file, Vec::new(alloc), 0)?;
+        match Journal::open(alloc, disk) {
+            Ok(_opened) => assert!(rt; false, "it was opened"),
+            Err((disk, fault)) => {
+                assert_eq!(rt; fault, want);
+                assert_eq!(rt; disk.contents(), file);
+            }
+        }
+    }
+    Ok(())
+}
+
+// One payload of 33 bytes, byte by byte, and the same file cut within its frame.
+#[test]
+fn a_journal_has_the_bytes_of_its_format(rt: HostRuntime) -> Result<(), Fail> {
+    let alloc = rt.alloc();
+    let payload = b"\x08operator\0\0\0\0\0\0\0\x01\x67\x28\x62\xe0\x01\x07dealer1\x02k1".as_slice();
+    let file = b"TBHOSTJOURNAL001\
+        \x01\0\0\0\x21\x08operator\0\0\0\0\0\0\0\x01\x67\x28\x62\xe0\x01\x07dealer1\x02k1\
+        \0"
+        .as_slice();
+    assert_eq!(rt; file.len(), 55);
+    let disk = disk_of(&rt, alloc, b"", Vec::new(alloc), 0)?;
+    let Ok(mut journal) = Journal::open(alloc, disk) else {
+        return Ok(assert!(rt; false, "not opened"));
+    };
+    assert_eq!(rt; add(&rt, &mut journal, payload), Ok(()));
+    assert_eq!(rt; journal.into_disk().contents(), file);
+    let mut found = vec![in alloc; 16]?;
+    found.extend_from_slice(payload)?;
+    assert_eq!(rt; payloads_in(&rt, alloc, file)?.as_slice(), found.as_slice());
+    let cut = disk_of(&rt, alloc, &file[..40], Vec::new(alloc), 0)?;
+    match Journal::open(alloc, cut) {
+        Ok(_opened) => assert!(rt; false, "it was opened"),
+        Err((_disk, fault)) => assert_eq!(rt; fault, JournalFault::Damaged(16)),
+    }
+    Ok(())
+}
+
+// Opening an empty disk takes the calls 0 to 3: a sync, the length, a write and a sync. Those of the first append are 4
+// to 7, and then come a sync and a read of `resolve`.
+#[test]
+fn a_payload_in_doubt_is_settled(rt: HostRuntime) -> Result<(), Fail> {
+    let alloc = rt.alloc();
+    // The calls that fail, the byte that a failed write leaves, whether `resolve` fails once, and whether the payload
+    // counts.
+    for (first, second, torn, again, want) in [
+        (7, 99, 0, false, true),
+        (7, 8, 0, true, true),
+        (6, 99, 1, false, true),
+        (6, 99, 7, false, false),
+        (6, 8, 7, true, false),
+        (5, 99, 0, false, false),
+        (4, 99, 0, false, false),
+    ] {
+        let disk = disk_of(&rt, alloc, b"", vec![in alloc; first, second]?, torn)?;
+        let Ok(mut journal) = Journal::open(alloc, disk) else {
+            return Ok(assert!(rt; false, "not opened"));
+        };
+        assert_eq!(rt;
+            add(&rt, &mut journal, b"abc"),
+            Err(DiskFault),
+            "call {first}"
+        );
+        if again {
+            assert_eq!(rt; settle(&rt, &mut journal), Err(DiskFault), "call {second}");
+        }
+        assert_eq!(rt; settle(&rt, &mut journal), Ok(want), "call {first}");
+        assert_eq!(rt; add(&rt, &mut journal, b"d"), Ok(()), "call {first}");
+        let found = payloads_in(&rt, alloc, journal.into_disk().contents())?;
+        let want = if want {
+            b"\x10abc\x18d".as_slice()
+        } else {
+            b"\x10d"
+        };
+        assert_eq!(rt; found.as_slice(), want, "call {first}");
+    }
+    Ok(())
+}
+
+// Whether the payload is known to count.
+fn counts(rt: &impl Abort, journal: &mut Journal<MemoryDisk>, payload: &[u8]) -> bool {
+    if journal.unsure() {
+        return false;
+    }
+    if add(rt, journal, payload).is_ok() {
+        return true;
+    }
+    match settle(rt, journal) {
+        Ok(counts) => counts,
+        Err(DiskFault) => settle(rt, journal) == Ok(true),
+    }
+}
+
+fn keeps_what_counts(rt: &impl Abort, alloc: Global, fails: Vec<u64>) -> Result<(), Fail> {
+    let disk = disk_of(rt, alloc, b"", fails, 7)?;
+    match Journal::open(alloc, disk) {
+        Ok(mut journal) => {
+            let mut want = Vec::new(alloc);
+            for payload in [b"abc".as_slice(), b"de"] {
+                let place = (journal.gate() % 256) as u8;
+                if counts(rt, &mut journal, payload) {
+                    want.push(place)?;
+                    want.extend_from_slice(payload)?;
+                }
+            }
+            let unsure = journal.unsure();
+            let found = payloads_in(rt, alloc, journal.into_disk().contents())?;
+            assert!(rt; found.as_slice().starts_with(want.as_slice()));
+            assert!(rt; unsure || found.len() == want.len());
+        }
+        Err((disk, fault)) => {
+            assert_eq!(rt; fault, JournalFault::DiskFault);
+            assert_eq!(rt; payloads_in(rt, alloc, disk.contents())?.len(), 0);
+        }
+    }
+    Ok(())
+}
+
+#[test]
+fn any_call_may_fail(rt: HostRuntime) -> Result<(), Fail> {
+    let alloc = rt.alloc();
+    for call in 0..20 {
+        keeps_what_counts(&rt, alloc, vec![in alloc; call]?)?;
+        let mut rest = Vec::new(alloc);
+        for later in call..30 {
+            rest.push(later)?;
+        }
+        keeps_what_counts(&rt, alloc, rest)?;
+    }
+    Ok(())
+}
+
+// The block behind the gate: a length, two bytes of payload and a closed gate.
+const BLOCK: &[u8] = b"\0\0\0\x02ab\0";
+
+#[test]
+fn a_crash_leaves_the_old_list_or_the_new(rt: HostRuntime) -> Result<(), Fail> {
+    let alloc = rt.alloc();
+    let disk = disk_of(&rt, alloc, HEADER, Vec::new(alloc), 0)?;
+    let Ok(mut journal) = Journal::open(alloc, disk) else {
+        return Ok(assert!(rt; false, "not opened"));
+    };
+    assert_eq!(rt; add(&rt, &mut journal, b"ab"), Ok(()));
+    let after = journal.into_disk().contents().to_vec(alloc)?;
+    let mut file = HEADER.to_vec(alloc)?;
+    file.push(1)?;
+    file.extend_from_slice(BLOCK)?;
+    assert_eq!(rt; after, file, "after the fourth call");
+    assert_eq!(rt;
+        payloads_in(&rt, alloc, &file)?.as_slice(),
+        b"\x10ab".as_slice()
+    );
+    // While the gate byte is written it may be any byte. 0 is what stands there after the second call.
+    for gate in 0..=255 {
+        let mut file = HEADER.to_vec(alloc)?;
+        file.push(gate)?;
+        file.extend_from_slice(BLOCK)?;
+        let want = if gate == 1 { 3 } else { 0 };
+        assert_eq!(rt; payloads_in(&rt, alloc, &file)?.len(), want, "gate {gate}");
+    }
+    // While the block is written, any bytes stand behind the closed gate, up to its end.
+    for (size, images) in [1u32, 3, 9, 27, 81, 243, 729, 2187].iter().enumerate() {
+        for image in 0..*images {
+            let mut file = HEADER.to_vec(alloc)?;
+            file.push(0)?;
+            let mut digits = image;
+            for _ in 0..size {
+                file.push((digits % 3) as u8)?;
+                digits /= 3;
+            }
+            assert_eq!(rt; payloads_in(&rt, alloc, &file)?.len(), 0, "image {image}");
+        }
+    }
+    Ok(())
+}
+
+fn longest_payload(alloc: Global) -> Result<Vec<u8>, Fail> {
+    let mut payload = Vec::new(alloc);
+    for _ in 0..32_768 {
+        payload.push(b'p')?;
+    }
+    Ok(payload)
+}
+
+#[test]
+fn the_longest_payload_is_kept(rt: HostRuntime) -> Result<(), Fail> {
+    let alloc = rt.alloc();
+    let payload = longest_payload(alloc)?;
+    let disk = MemoryDisk::new(alloc, b"", 40_000, 80_000, Vec::new(alloc), 0)?;
+    let Ok(mut journal) = Journal::open(alloc, disk) else {
+        return Ok(assert!(rt; false, "not opened"));
+    };
+    assert_eq!(rt; add(&rt, &mut journal, &payload), Ok(()));
+    let Ok(mut journal) = Journal::open(alloc, journal.into_disk()) else {
+        return Ok(assert!(rt; false, "not opened again"));
+    };
+    let mut want = vec![in alloc; 16]?;
+    want.extend_from_slice(&payload)?;
+    assert_eq!(rt; payloads_of(&rt, alloc, &mut journal)?, want);
+    Ok(())
+}

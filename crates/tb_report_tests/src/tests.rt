@@ -1,0 +1,241 @@
+//! Tests of texts, as the formats spell them.
+ghost use Rattle.std.specs.Prelude.{◌≡◌, ◌<◌};
+ghost use Rattle.tb_report.specs.Readings.{IsPrintable};
+
+use std::alloc::Global;
+use std::process::Abort;
+use tb_award::Cut;
+use tb_history::{
+    AwardLine, Awards, BidLine, Bids, Figures, HoldingLine, Holdings, Listing, PaidLine, Reading,
+    Redemption, Results,
+};
+use tb_price::Investment;
+use tb_report::{line_count, text};
+use tb_terms::{Announcement, Cusip};
+use tb_units::{Cents, Day, Dollars, Ident, OutOfMemory, Percent, Price, Rate};
+
+const TERMS: &str = "auction bill13
+cusip 912797AA5
+offering 76000000000
+minimum 100
+ceiling 10000000
+floor 1000000000
+threshold 26600000000
+date 2024-11-04
+nc_close 11:00
+c_close 11:30
+issue 2024-11-07
+maturity 2025-02-06
+";
+
+const RESULTS: &str = "auction bill13
+cusip 912797AA5
+issue 2024-11-07
+maturity 2025-02-06
+days 91
+offering 76000000000
+noncompetitive 0
+competitive 20000000000
+total 20000000000
+high 4.270
+allotted 100.00
+median 4.270
+low 4.270
+price 98.920639
+investment 4.377
+bids at lower rates were accepted in full
+";
+
+const NO_AWARDS: &str = "auction bill13
+cusip 912797AA5
+issue 2024-11-07
+maturity 2025-02-06
+days 91
+offering 76000000000
+noncompetitive 1200
+no awards
+";
+
+fn name(rt: &impl Abort, text: &str) -> Ident {
+    Ident::read(text).expect(rt, "no name")
+}
+
+fn announced(rt: &impl Abort) -> Announcement
+    ensures nc_close { result.nc_close ≡ 660 }
+    ensures c_close { result.c_close ≡ 690 }
+    ensures dates { result.issue.number < result.maturity.number }
+{
+    Announcement {
+        auction: name(rt, "bill13"),
+        cusip: Cusip {
+            bytes: *b"912797AA5",
+        },
+        offering: Dollars {
+            value: 76_000_000_000,
+        },
+        minimum: Dollars { value: 100 },
+        nc_ceiling: Dollars { value: 10_000_000 },
+        competitive_floor: Dollars {
+            value: 1_000_000_000,
+        },
+        nlp_threshold: Dollars {
+            value: 26_600_000_000,
+        },
+        auction_date: Day { number: 20_031 },
+        nc_close: 660,
+        c_close: 690,
+        issue: Day { number: 20_034 },
+        maturity: Day { number: 20_125 },
+    }
+}
+
+fn figures() -> Figures {
+    let rate = Rate { steps: 854 };
+    let bid = Dollars {
+        value: 20_000_000_000,
+    };
+    Figures {
+        cut: Cut {
+            stop: rate,
+            percent: Percent { hundredths: 10_000 },
+            price: Price {
+                millionths: 98_920_639,
+            },
+            below: Dollars { value: 0 },
+            at_stop: bid,
+            sought: Dollars {
+                value: 76_000_000_000,
+            },
+        },
+        competitive: bid,
+        median: rate,
+        low: rate,
+        investment: Investment { thousandths: 4_377 },
+    }
+}
+
+fn tells(rt: &impl Abort, alloc: Global, reading: &Reading, wanted: &str) -> Result<(), OutOfMemory>
+    requires { IsPrintable reading.now }
+{
+    let found = text(alloc, reading)?;
+    assert_eq!(rt; found.as_slice(), wanted.as_bytes(), "{wanted}");
+    assert_eq!(rt;
+        line_count(reading),
+        wanted.lines().count() as u128,
+        "{wanted}"
+    );
+    Ok(())
+}
+
+#[test]
+fn terms_are_told_line_by_line(rt: HostRuntime) -> Result<(), OutOfMemory> {
+    tells(&rt, rt.alloc(), &Reading::Terms(announced(&rt)), TERMS)
+}
+
+#[test]
+fn results_have_sixteen_lines(rt: HostRuntime) -> Result<(), OutOfMemory> {
+    let results = Results {
+        terms: announced(&rt),
+        noncompetitive: Dollars { value: 0 },
+        figures: Some(figures()),
+    };
+    tells(&rt, rt.alloc(), &Reading::Results(results), RESULTS)
+}
+
+#[test]
+fn results_without_awards_say_so(rt: HostRuntime) -> Result<(), OutOfMemory> {
+    let results = Results {
+        terms: announced(&rt),
+        noncompetitive: Dollars { value: 1200 },
+        figures: None,
+    };
+    tells(&rt, rt.alloc(), &Reading::Results(results), NO_AWARDS)
+}
+
+#[test]
+fn awards_have_a_line_for_each_bidder(rt: HostRuntime) -> Result<(), OutOfMemory> {
+    let mut awards: Awards = Listing::new(rt.alloc());
+    awards.push(AwardLine {
+        bidder: name(&rt, "fund1"),
+        amount: Dollars {
+            value: 20_000_000_000,
+        },
+        payment: Cents {
+            value: 1_978_412_780_000,
+        },
+    })?;
+    awards.push(AwardLine {
+        bidder: name(&rt, "fund2"),
+        amount: Dollars { value: 0 },
+        payment: Cents { value: 0 },
+    })?;
+    let wanted = "fund1 20000000000 19784127800.00\nfund2 0 0.00\n";
+    tells(&rt, rt.alloc(), &Reading::Awards(awards), wanted)
+}
+
+#[test]
+fn bids_are_live_or_cancelled(rt: HostRuntime) -> Result<(), OutOfMemory> {
+    let mut bids: Bids = Listing::new(rt.alloc());
+    bids.push(BidLine {
+        number: 1,
+        bidder: name(&rt, "fund1"),
+        rate: Some(Rate { steps: 854 }),
+        amount: Dollars {
+            value: 20_000_000_000,
+        },
+        live: true,
+    })?;
+    bids.push(BidLine {
+        number: 1_000_000_000_000_000,
+        bidder: name(&rt, "fund2"),
+        rate: None,
+        amount: Dollars { value: 100 },
+        live: false,
+    })?;
+    let wanted = "1 fund1 4.270 20000000000 live\n1000000000000000 fund2 n 100 cancelled\n";
+    tells(&rt, rt.alloc(), &Reading::Bids(bids), wanted)
+}
+
+#[test]
+fn holdings_are_held_pledged_and_free(rt: HostRuntime) -> Result<(), OutOfMemory> {
+    let mut holdings: Holdings = Listing::new(rt.alloc());
+    tells(
+        &rt,
+        rt.alloc(),
+        &Reading::Holdings(Listing::new(rt.alloc())),
+        "",
+    )?;
+    holdings.push(HoldingLine {
+        cusip: Cusip {
+            bytes: *b"912797AB3",
+        },
+        held: Dollars { value: 600 },
+        pledged: Dollars { value: 500 },
+        free: Dollars { value: 100 },
+    })?;
+    tells(
+        &rt,
+        rt.alloc(),
+        &Reading::Holdings(holdings),
+        "912797AB3 600 500 100\n",
+    )
+}
+
+#[test]
+fn payments_of_a_redemption_have_a_total(rt: HostRuntime) -> Result<(), OutOfMemory> {
+    let mut paid: Redemption = Listing::new(rt.alloc());
+    paid.push(PaidLine {
+        holder: name(&rt, "dealer1"),
+        paid: Dollars { value: 200 },
+    })?;
+    paid.push(PaidLine {
+        holder: name(&rt, "dealer2"),
+        paid: Dollars { value: 800 },
+    })?;
+    tells(
+        &rt,
+        rt.alloc(),
+        &Reading::Redemption(paid),
+        "dealer1 200\ndealer2 800\ntotal 1000\n",
+    )
+}
