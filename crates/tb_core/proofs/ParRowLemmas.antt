@@ -27,11 +27,10 @@ use Rattle.tb_message.specs.declared.message.Entry.{Entry}
 use Rattle.tb_message.specs.declared.message.Message.{Message}
 use Rattle.tb_message.specs.declared.message.Message.TheVariants as message
 use Rattle.tb_history.specs.declared.accounts.Mark.{Mark}
-use Rattle.tb_history.specs.Entries.{is_same, is_operators, entered_by}
-use Rattle.tb_history.specs.Roster.{registrations, announcements, redemptions, holidays, is_caller, is_registered, is_redeemed, is_of_bill, bill_of, unsettled_of}
+use Rattle.tb_history.specs.Entries.{is_same, entered_by}
+use Rattle.tb_history.specs.Roster.{registrations, announcements, redemptions, holidays, is_registered, is_redeemed, is_of_bill, bill_of, unsettled_of}
 use Rattle.tb_history.specs.Holdings.{free_of, open_marks, mark_of, left_of}
 use Rattle.tb_history.specs.Tables.{rows_of, transfer_rows, par_rows, mark_rows, left_in, release_rows, unsettled_rows, redeem_rows}
-use Rattle.tb_history.specs.Verdict.{is_permitted}
 use Rattle.tb_history.specs.Legal.{IsLegal, Follows}
 use Rattle.tb_history.specs.Moves.{Numbering, as_moved, has_bill, participants_of, AreNumbered}
 use Rattle.tb_history.proofs.GrowthLemmas.{holidays-snoc}
@@ -39,7 +38,7 @@ use Rattle.tb_history.proofs.AcceptedLemmas.{IsClear, accepted-passes}
 use Rattle.tb_history.proofs.LegalLemmas.{by_entries}
 use Rattle.tb_history.proofs.ClosedLemmas.{IsInOrder, IsLegal-in_order, found-in, dates_of}
 use Rattle.tb_history.proofs.PassLemmas.{AreTold, found_any, free-told, opens-told, mark-told, left-told, known-mark}
-use Rattle.tb_history.proofs.ToldLemmas.{IsLegal-told, sender-registered}
+use Rattle.tb_history.proofs.ToldLemmas.{IsLegal-told}
 use Rattle.tb_history.proofs.ConservedLemmas.{places-numbered}
 use Rattle.tb_core.specs.declared.tables.Tables.{Tables}
 use Rattle.tb_core.specs.Auctions.{announced_in, announcement_in}
@@ -246,14 +245,6 @@ pub due_rows : (unsettled : Option Announcement) (payment : Day) (number seconds
     → refusal_in (unsettled_rows unsettled ++ (refusal.NotDue payment, nat_lt seconds (start_of payment.number)) ∷ [])
     ≡ refusal_in (unsettled_rows unsettled ++ (refusal.NotDue (day_of number), nat_lt seconds (start_of number)) ∷ [])
 due_rows unsettled payment number seconds is = rw (is, day_of-number payment) refl
-
--- whoever sends what isn't the operator's is registered
-pub caller_registered : (h : List Entry) (sender : List ℕ) (m : Message)
-    → is_caller (registrations h) sender ≡ true
-    → is_permitted sender m ≡ true
-    → is_operators m ≡ false
-    → is_registered (registrations h) sender ≡ true
-caller_registered h sender m caller permitted others = sender-registered h sender m caller permitted others
 
 -- a holiday is one more, of few
 holidays-few : (h : List Entry) (s : List ℕ) (moment : Moment) (m : Message)

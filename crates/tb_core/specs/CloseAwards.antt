@@ -14,8 +14,7 @@ use Rattle.tb_history.specs.Holdings.{bidding_in}
 use Rattle.tb_history.specs.Readings.{AreRecognisedOf, OfAnnounced}
 
 -- where the bids reach what is sought, the awards come to no less and to little more; where they fall short, all that
--- is
--- recognised is awarded
+-- is recognised is awarded
 pub record HasCloseAwards (bidding : Bidding) (figures : Figures) : Type 0 where
   pub recognised : List RateLine
   pub awards : List RateLine

@@ -65,8 +65,7 @@ pub record HasRows (room : ℕ) (tables : Tables) : Type 0 where
   pub calendar : room ≤ tables.calendar.spare
 
 -- so many messages may move par, where there are so many bidders: a settlement may open an account for each, and each
--- message
--- may enrol one more
+-- message may enrol one more
 pub record HasAccountRoom (room bidders : ℕ) (book : Book) : Type 0 where
   pub accounts : room * (bidders + room) ≤ book.spare_accounts
   pub marks : room ≤ book.spare_marks

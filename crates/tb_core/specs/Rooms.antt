@@ -36,9 +36,8 @@ pub record HasRoomAhead (shelf : Shelved) (lasts : ℕ) (messages : List Message
   pub settling : list_any settles messages ≡ true → length messages ≤ lasts
 
 -- There is room to apply the messages in order, or those of them that are accepted: each takes at most one place of
--- each
--- table and of one book; a book stands ready for each announcement, with a place for each message; and a settlement
--- finds its room.
+-- each table and of one book; a book stands ready for each announcement, with a place for each message; and a
+-- settlement finds its room.
 pub record Fits (room : Room) (messages : List Message) : Type 0 where
   pub rows : length messages ≤ room.messages
   pub ahead : HasRoomAhead room.shelf room.settling messages

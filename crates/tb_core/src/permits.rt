@@ -1,6 +1,5 @@
 //! Who may send a message, and what a repeated one is told.
 ghost use Rattle.std.specs.Prelude.{◌≡◌};
-ghost use Rattle.tb_history.specs.Entries as kinds;
 ghost use Rattle.tb_history.specs.Verdict as verdicts;
 
 use crate::names::is_operator;
@@ -8,8 +7,9 @@ use tb_message::{Entry, Message, Verdict};
 use tb_terms::Refusal;
 use tb_units::Ident;
 
-fn is_operators(message: &Message) -> bool
-    ensures { result ≡ kinds.is_operators message.now }
+/// Whether the sender is of the party that may send messages of this kind.
+pub fn is_permitted(submitter: &Ident, message: &Message) -> bool
+    ensures { result ≡ verdicts.is_permitted submitter.now message.now }
 {
     match message {
         Message::Register { .. }
@@ -18,24 +18,13 @@ fn is_operators(message: &Message) -> bool
         | Message::Announce { .. }
         | Message::Publish { .. }
         | Message::Settle { .. }
-        | Message::Redeem { .. } => true,
+        | Message::Redeem { .. } => is_operator(submitter),
         Message::Bid { .. }
         | Message::Cancel { .. }
         | Message::Position { .. }
         | Message::Transfer { .. }
         | Message::Pledge { .. }
-        | Message::Release { .. } => false,
-    }
-}
-
-/// Whether the kind of the message is its sender's.
-pub fn is_permitted(submitter: &Ident, message: &Message) -> bool
-    ensures { result ≡ verdicts.is_permitted submitter.now message.now }
-{
-    if is_operator(submitter) {
-        is_operators(message)
-    } else {
-        !is_operators(message)
+        | Message::Release { .. } => !is_operator(submitter),
     }
 }
 

@@ -9,7 +9,7 @@ ghost use Rattle.tb_core.specs.Auctions.{announcement_in};
 use crate::names::is_operator;
 use tb_message::Query;
 use tb_terms::{Refusal, Terms};
-use tb_units::{Ident, OutOfMemory};
+use tb_units::Ident;
 
 /// Why a query has no reading.
 #[derive(Clone, Copy, Debug, PartialEq, Eq)]
@@ -18,12 +18,6 @@ pub enum QueryRefused {
     Refused(Refusal),
     /// There was no memory for the reading.
     OutOfMemory,
-}
-
-impl From<OutOfMemory> for QueryRefused {
-    fn from(_error: OutOfMemory) -> QueryRefused {
-        QueryRefused::OutOfMemory
-    }
 }
 
 /// Whether a query of this kind is told to the caller.

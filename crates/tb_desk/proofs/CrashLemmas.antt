@@ -1,5 +1,5 @@
 -- What each crash since the opening left, and the groups that it may have left behind a beginning of the history.
-use Rattle.std.proofs.Common.{◌≡◌, ◌⊎◌, inl, inr, ℕ, ◌+◌, ◌≤◌, List, [], ◌∷◌, ◌++◌, length, take, None, refl, ap, sym, ◌∙◌, subst, arith, append-nil, length-append}
+use Rattle.std.proofs.Common.{◌≡◌, ◌⊎◌, inl, inr, ℕ, ◌+◌, ◌≤◌, List, [], ◌∷◌, ◌++◌, length, take, Some, None, refl, ap, sym, ◌∙◌, subst, arith, append-nil, length-append}
 use Rattle.std.specs.Prelude.{Contains}
 use Rattle.std.specs.List.{All}
 use Rattle.std.proofs.lemmas.Bool.{cases_lt}
@@ -9,10 +9,12 @@ use Rattle.tb_link.specs.Counts.{last_count}
 use Rattle.tb_disk.specs.Disks.{DiskState}
 use Rattle.tb_message.specs.declared.message.Entry.{Entry}
 use Rattle.tb_message.specs.declared.message.Message.{Message}
+use Rattle.tb_message.specs.declared.verdict.Verdict.{Verdict}
 use Rattle.tb_history.specs.Legal.{IsLegal, running}
 use Rattle.tb_desk.specs.Stands.{StandsForHistory, StandsForEither, CrashesLeave}
 use Rattle.tb_desk.specs.Turn.{Held, Asked, Replies, IsTurn, IsOneOf, group}
-use Rattle.tb_desk.specs.Desks.{CountsFault, CrashesSince, IsBeginning, IsBeginningOr, IsOneGroup, PlacedGroup, WasAccepted, with_group}
+use Rattle.tb_desk.specs.Desks.{CountsFault, CrashesSince, doubted_by, IsBeginning, IsBeginningOr, IsOneGroup, PlacedGroup, WasAccepted, with_group}
+use Rattle.tb_desk.proofs.AnswerLemmas.{turn-sure}
 use Rattle.tb_desk.proofs.JudgeLemmas.{group_on-all, group_on-length}
 use Rattle.tb_desk.proofs.TurnLemmas.{CrashesLeave-weaker, CrashesLeave-both, Grows, Grows-not, Grows-turn, length-grows}
 
@@ -137,88 +139,102 @@ pub record TakesTurn (gate : ℕ) (disk : DiskState) (asked : Asked) (held after
   pub now_limited : now ≤ last_count
 
 -- the group in doubt, at its place
-abbrev doubted : Held → PlacedGroup
-doubted held = record { before = length held.history; group = held.doubt }
+abbrev in_doubt : Held → PlacedGroup
+in_doubt held = record { before = length held.history; group = held.doubt }
 
--- what a turn adds to the groups that a crash may have left: the one that it leaves in doubt, if it leaves a new one
+-- what a turn adds to the groups that a crash may have left: the one that it leaves in doubt, after a fault
 record Gains (after : Held) (recovered faults now : ℕ) (old gained : List PlacedGroup) : Type 0 where
   pub each : All (WasAccepted after.history recovered) gained
-  pub now_in : 1 ≤ length after.doubt → Contains (old ++ gained) (doubted after)
+  pub now_in : 1 ≤ length after.doubt → Contains (old ++ gained) (in_doubt after)
   pub few : (faults + length gained ≤ now) ⊎ (now ≡ last_count)
 
--- it adds at most one, and then met a fault
+-- one more call has met a fault, unless the count stands at its last value
+one-more : (faults now : ℕ) → CountsFault None faults now → (faults + 1 ≤ now) ⊎ (now ≡ last_count)
+one-more faults now counted = elim (cases_lt faults last_count) [
+  | inl more ↦ inl (omega (arith, counted, more))
+  | inr end_ ↦ inr (omega (arith, counted, end_))
+]
+
+-- after verdicts it adds none, since nothing is in doubt
+gained-verdicts : (after : Held) (verdicts : List Verdict) (recovered faults now : ℕ) (old : List PlacedGroup)
+    → after.doubt ≡ []
+    → CountsFault (Some verdicts) faults now
+    → Gains after recovered faults now old (doubted_by (Some verdicts) after)
+gained-verdicts after verdicts recovered faults now old sure counts = record {
+  each = All-nil (WasAccepted after.history recovered);
+  now_in = λ some. absurd (omega (arith, some, ap length sure));
+  few = inl (omega (arith, counts));
+}
+
+-- after a fault it adds the group in doubt, which was accepted
+gained-fault : (after : Held) (recovered faults now : ℕ) (old : List PlacedGroup)
+    → WasAccepted after.history recovered (in_doubt after)
+    → CountsFault None faults now
+    → Gains after recovered faults now old (doubted_by None after)
+gained-fault after recovered faults now old accepted counts = record {
+  each = All-cons (WasAccepted after.history recovered) (in_doubt after) [] accepted
+      (All-nil (WasAccepted after.history recovered));
+  now_in = λ some. Contains-push old (in_doubt after);
+  few = one-more faults now counts;
+}
+
+-- the group in doubt was accepted behind the history
+accepted-now : (after : Held) (recovered : ℕ)
+    → IsOneGroup after.doubt
+    → IsLegal (after.history ++ after.doubt)
+    → recovered ≤ length after.history
+    → WasAccepted after.history recovered (in_doubt after)
+accepted-now after recovered one accepted still = record {
+  one = one;
+  enough = still;
+  within = omega arith;
+  accepted = subst (λ (first : List Entry). IsLegal (first ++ after.doubt))
+      (sym (take-whole after.history after.history (Grows-not after.history after.history refl))) accepted;
+}
+
+-- so a turn adds what its replies tell
 gained_by : (gate : ℕ) (disk : DiskState) (asked : Asked) (held after : Held) (replies : Replies) (at : List Entry)
     (recovered faults now : ℕ) (old : List PlacedGroup)
     → TakesTurn gate disk asked held after replies at recovered faults now
     → recovered ≤ length after.history
-    → (1 ≤ length held.doubt → Contains old (doubted held))
-    → IsTurn gate disk asked held after replies at
-    → (gained : List PlacedGroup) × Gains after recovered faults now old gained
-gained_by gate disk asked held after replies at recovered faults now old takes still among (inl stuck) = (
-  [],
-  record {
-    each = All-nil (WasAccepted after.history recovered);
-    now_in = λ some. Contains-append_left old [] (doubted after)
-        (subst (λ (state : Held). 1 ≤ length state.doubt → Contains old (doubted state)) (sym stuck.0.same) among some);
-    few = inl (omega (
-      arith,
-      takes.limited,
-      subst (λ (told : Replies). CountsFault told faults now) stuck.0.failed
-          takes.counts,
-    ));
-  },
-)
-gained_by gate disk asked held after replies at recovered faults now old takes still among (inr (is, inl answered)) = (
-  [],
-  record {
-    each = All-nil (WasAccepted after.history recovered);
-    now_in = λ some. absurd (omega (arith, some, ap length answered.sure));
-    few = inl (omega (arith, subst (λ (told : Replies). CountsFault told faults now) answered.given takes.counts));
-  },
-)
-gained_by gate disk asked held after replies at recovered faults now old takes still among (inr (is, inr left)) = (
-  doubted after ∷ [],
-  record {
-    each = All-cons (WasAccepted after.history recovered) (doubted after) [] (record {
-      one = subst IsOneGroup (sym left.unsure) (IsOneGroup-on at asked takes.few);
-      enough = still;
-      within = omega arith;
-      accepted = subst (λ (first : List Entry). IsLegal (first ++ after.doubt))
-          (sym (take-whole after.history after.history (Grows-not after.history after.history refl))) takes.accepted;
-    }) (All-nil (WasAccepted after.history recovered));
-    now_in = λ some. Contains-push old (doubted after);
-    few = least (subst (λ (told : Replies). CountsFault told faults now) left.failed takes.counts);
-  },
-)
+    → All (WasAccepted held.history recovered) old
+    → (1 ≤ length held.doubt → Contains old (in_doubt held))
+    → Gains after recovered faults now old (doubted_by replies after)
+gained_by gate disk asked held after (Some verdicts) at recovered faults now old takes still each among =
+    gained-verdicts after verdicts recovered faults now old
+    (turn-sure gate disk asked held after (Some verdicts) at takes.turn (λ is. absurd (cc))) takes.counts
+gained_by gate disk asked held after None at recovered faults now old takes still each among =
+    gained-fault after recovered faults now old
+    (accepted-now after recovered (one-group takes.turn) takes.accepted still) takes.counts
   where
-    -- one more call has met a fault, unless the count stands at its last value
-    least : CountsFault None faults now → (faults + 1 ≤ now) ⊎ (now ≡ last_count)
-    least counted = elim (cases_lt faults last_count) [
-      | inl more ↦ inl (omega (arith, counted, more))
-      | inr end_ ↦ inr (omega (arith, counted, end_))
-    ]
+    one-group : IsTurn gate disk asked held after None at → IsOneGroup after.doubt
+    one-group (inl stuck) =
+        subst (λ (state : Held). IsOneGroup state.doubt) (sym stuck.0.same)
+        (All-contains (WasAccepted held.history recovered) old (in_doubt held) each (among stuck.0.unsure)).one
+    one-group (inr (is, inl answered)) = let wrong = answered.given in absurd (cc)
+    one-group (inr (is, inr left)) = subst IsOneGroup (sym left.unsure) (IsOneGroup-on at asked takes.few)
 
 -- every crash since the opening, after a turn
 pub CrashesSince-turn : (gate : ℕ) (asked : Asked) (held after : Held) (replies : Replies) (at : List Entry)
-    (recovered faults now : ℕ) (opened old new : DiskState)
+    (recovered faults now : ℕ) (opened old new : DiskState) (doubted : List PlacedGroup)
     → TakesTurn gate old asked held after replies at recovered faults now
     → CrashesLeave (IsOneOf held after) old new
-    → CrashesSince opened old held.history held.doubt recovered faults
-    → CrashesSince opened new after.history after.doubt recovered now
-CrashesSince-turn gate asked held after replies at recovered faults now opened old new takes crash since = record {
-  groups = all;
-  each = All-append (WasAccepted after.history recovered) since.groups gained.0
-      (All-weaker (WasAccepted held.history recovered) (WasAccepted after.history recovered)
-      (λ placed was. WasAccepted-grows held.history after.history recovered placed grows was) since.groups since.each)
-      gained.1.each;
-  now = gained.1.now_in;
-  few = fewer since.few gained.1.few;
-  leaves = CrashesLeave-both Left opened old new
-      (CrashesLeave-weaker (IsBeginningOr since.groups held.history recovered) Left opened old
-      (λ file is. IsBeginningOr-grows held.history after.history recovered since.groups gained.0 file grows since.each
-      is) since.leaves)
-      (CrashesLeave-weaker (IsOneOf held after) Left old new left crash);
-}
+    → CrashesSince opened old held.history held.doubt recovered faults doubted
+    → CrashesSince opened new after.history after.doubt recovered now (doubted ++ doubted_by replies after)
+CrashesSince-turn gate asked held after replies at recovered faults now opened old new doubted takes crash since =
+    record {
+      each = All-append (WasAccepted after.history recovered) doubted gained
+          (All-weaker (WasAccepted held.history recovered) (WasAccepted after.history recovered)
+          (λ placed was. WasAccepted-grows held.history after.history recovered placed grows was) doubted since.each)
+          gains.each;
+      now = gains.now_in;
+      few = fewer since.few gains.few;
+      leaves = CrashesLeave-both Left opened old new
+          (CrashesLeave-weaker (IsBeginningOr doubted held.history recovered) Left opened old
+          (λ file is. IsBeginningOr-grows held.history after.history recovered doubted gained file grows since.each
+          is) since.leaves)
+          (CrashesLeave-weaker (IsOneOf held after) Left old new left crash);
+    }
   where
     grows : Grows held.history after.history
     grows = Grows-turn gate old asked held after replies at takes.turn
@@ -226,12 +242,14 @@ CrashesSince-turn gate asked held after replies at recovered faults now opened o
     still : recovered ≤ length after.history
     still = omega (arith, takes.recovers, length-grows held.history after.history grows)
 
-    gained : (gained : List PlacedGroup) × Gains after recovered faults now since.groups gained
-    gained = gained_by gate old asked held after replies at recovered faults now since.groups takes still since.now
-        takes.turn
+    gained : List PlacedGroup
+    gained = doubted_by replies after
+
+    gains : Gains after recovered faults now doubted gained
+    gains = gained_by gate old asked held after replies at recovered faults now doubted takes still since.each since.now
 
     all : List PlacedGroup
-    all = since.groups ++ gained.0
+    all = doubted ++ gained
 
     Left : List ℕ → Type 0
     Left = IsBeginningOr all after.history recovered
@@ -240,16 +258,16 @@ CrashesSince-turn gate asked held after replies at recovered faults now opened o
     left : (file : List ℕ) → IsOneOf held after file → Left file
     left file (inl before) =
         IsBeginningOr-either held.history held.doubt after.history recovered all file grows takes.recovers
-        (λ some. Contains-append_left since.groups gained.0 (doubted held) (since.now some)) before
+        (λ some. Contains-append_left doubted gained (in_doubt held) (since.now some)) before
     left file (inr behind) =
         IsBeginningOr-either after.history after.doubt after.history recovered all file
-        (Grows-not after.history after.history refl) still gained.1.now_in behind
+        (Grows-not after.history after.history refl) still gains.now_in behind
 
     -- there are no more of them than calls that met a fault
-    fewer : (length since.groups ≤ faults) ⊎ (faults ≡ last_count)
-        → (faults + length gained.0 ≤ now) ⊎ (now ≡ last_count)
+    fewer : (length doubted ≤ faults) ⊎ (faults ≡ last_count)
+        → (faults + length gained ≤ now) ⊎ (now ≡ last_count)
         → (length all ≤ now) ⊎ (now ≡ last_count)
-    fewer (inl was) (inl is) = inl (omega (arith, was, is, length-append since.groups gained.0))
+    fewer (inl was) (inl is) = inl (omega (arith, was, is, length-append doubted gained))
     fewer (inr last) (inl is) = inr (omega (arith, last, is, takes.now_limited))
     fewer was (inr last) = inr last
 
@@ -257,9 +275,8 @@ CrashesSince-turn gate asked held after replies at recovered faults now opened o
 pub CrashesSince-opened : (disk : DiskState) (history : List Entry) (recovered : ℕ)
     → recovered ≡ length history
     → CrashesLeave (StandsForEither history []) disk disk
-    → CrashesSince disk disk history [] recovered 0
+    → CrashesSince disk disk history [] recovered 0 []
 CrashesSince-opened disk history recovered all leaves = record {
-  groups = [];
   each = All-nil (WasAccepted history recovered);
   now = λ some. absurd (omega (arith, some));
   few = inl (omega arith);

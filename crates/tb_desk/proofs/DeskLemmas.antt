@@ -1,5 +1,5 @@
 -- What holds of every desk holds after a turn.
-use Rattle.std.proofs.Common.{◌≡◌, ◌⊎◌, inl, inr, ℕ, ◌+◌, ◌≤◌, List, [], ◌∷◌, length, Option, Some, None, refl, arith}
+use Rattle.std.proofs.Common.{◌≡◌, ◌⊎◌, inl, inr, ℕ, ◌+◌, ◌≤◌, List, [], ◌∷◌, ◌++◌, length, Option, Some, None, refl, sym, subst, arith}
 use Rattle.std.specs.Prelude.{IfSome}
 use Rattle.tb_link.specs.Counts.{Rose, NeverFalls, last_count}
 use Rattle.tb_disk.specs.Past.{Past, contents_of, MayLeave}
@@ -10,7 +10,7 @@ use Rattle.tb_journal.proofs.Calls.{held_stays}
 use Rattle.tb_journal.proofs.Gates.{doubtful_stands, IsFramed-stands}
 use Rattle.tb_desk.specs.Stands.{joined, payloads_of, StandsForEither, HoldsAt, Stands, LeavesEither, CrashesLeave}
 use Rattle.tb_desk.specs.Turn.{Held, Asked, Replies, IsTurn, IsOneOf}
-use Rattle.tb_desk.specs.Desks.{IsDesk, CountsFault}
+use Rattle.tb_desk.specs.Desks.{IsDesk, CrashesSince, CountsFault, PlacedGroup, doubted_by}
 use Rattle.tb_journal.proofs.ToldLemmas.{known_of}
 use Rattle.tb_desk.proofs.StepLemmas.{either_stands, crash-none}
 use Rattle.tb_desk.proofs.CrashLemmas.{CrashesSince-opened, CrashesSince-turn}
@@ -85,8 +85,8 @@ limited_turn None faults now counts limited = omega arith
 -- all that holds of a desk
 pub IsDesk-turn : (opened old new : DiskState) (gate here : ℕ) (next behind : Option ℕ) (asked : Asked)
     (held after : Held)
-    (replies : Replies) (at : List Entry) (recovered faults now : ℕ)
-    → IsDesk old opened gate next held.history held.doubt recovered faults
+    (replies : Replies) (at : List Entry) (recovered faults now : ℕ) (doubted noted : List PlacedGroup)
+    → IsDesk old opened gate next held.history held.doubt recovered faults doubted
     → Stands new here behind after.history after.doubt
     → length asked.messages ≤ 64
     → IsTurn gate old asked held after replies at
@@ -94,9 +94,10 @@ pub IsDesk-turn : (opened old new : DiskState) (gate here : ℕ) (next behind : 
     → NeverFalls old.faults new.faults
     → (replies ≡ None → Rose old.faults new.faults)
     → CountsFault replies faults now
-    → IsDesk new opened here behind after.history after.doubt recovered now
-IsDesk-turn opened old new gate here next behind asked held after replies at recovered faults now desk stands few turn
-    crash falls rose counts =
+    → noted ≡ doubted ++ doubted_by replies after
+    → IsDesk new opened here behind after.history after.doubt recovered now noted
+IsDesk-turn opened old new gate here next behind asked held after replies at recovered faults now doubted noted desk
+    stands few turn crash falls rose counts notes =
     let now_limited = limited_turn replies faults now counts desk.limited in
     record {
       stands = stands;
@@ -106,15 +107,16 @@ IsDesk-turn opened old new gate here next behind asked held after replies at rec
         length-grows held.history after.history
             (Grows-turn gate old asked held after replies at turn),
       );
-      since = CrashesSince-turn gate asked held after replies at recovered faults now opened old new (record {
-        few = few;
-        turn = turn;
-        accepted = stands.accepted;
-        recovers = desk.recovers;
-        counts = counts;
-        limited = desk.limited;
-        now_limited = now_limited;
-      }) crash desk.since;
+      since = subst (CrashesSince opened new after.history after.doubt recovered now) (sym notes)
+          (CrashesSince-turn gate asked held after replies at recovered faults now opened old new doubted (record {
+            few = few;
+            turn = turn;
+            accepted = stands.accepted;
+            recovers = desk.recovers;
+            counts = counts;
+            limited = desk.limited;
+            now_limited = now_limited;
+          }) crash desk.since);
       counted = counted_turn replies opened.faults old.faults new.faults faults now falls rose counts desk.counted;
       limited = now_limited;
     }
@@ -122,7 +124,7 @@ IsDesk-turn opened old new gate here next behind asked held after replies at rec
 -- a desk that was just opened
 pub IsDesk-opened : (disk : DiskState) (gate : ℕ) (next : Option ℕ) (history : List Entry) (recovered : ℕ)
     → Stands disk gate next history [] → recovered ≡ length history
-    → IsDesk disk disk gate next history [] recovered 0
+    → IsDesk disk disk gate next history [] recovered 0 []
 IsDesk-opened disk gate next history recovered stands all = record {
   stands = stands;
   recovers = omega (arith, all);

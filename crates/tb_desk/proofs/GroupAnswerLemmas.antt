@@ -8,8 +8,8 @@ use Rattle.tb_history.specs.Legal.{running}
 use Rattle.tb_desk.specs.declared.reply.GroupReply.{GroupReply}
 use Rattle.tb_desk.specs.declared.reply.GroupReply.TheVariants as group
 use Rattle.tb_desk.proofs.JudgeLemmas.{verdicts_on-length}
-use Rattle.tb_desk.specs.Turn.{Replies, verdicts_on, group_on, IsAnswered, IsDoubted}
-use Rattle.tb_desk.specs.Desks.{Tells, told_by, CountsFault}
+use Rattle.tb_desk.specs.Turn.{Held, Replies, verdicts_on, group_on, IsAnswered, IsDoubted}
+use Rattle.tb_desk.specs.Desks.{Tells, told_by, CountsFault, doubted_by}
 
 -- the places tell the verdicts
 pub told-verdicts : (at : List Entry) (submitter : List ℕ) (moment later : Moment) (messages : List (ℕ × Message))
@@ -79,3 +79,11 @@ told-counts group.Verdicts places (Some given) old new tells counts = counts
 told-counts group.Verdicts places None old new tells counts = absurd tells
 told-counts group.DiskFault places (Some given) old new tells counts = absurd tells
 told-counts group.DiskFault places None old new tells counts = counts
+
+-- and what is left in doubt then is the same
+pub told-doubted : (reply : GroupReply) (places : List (Option Verdict)) (replies : Replies) (after : Held)
+    → Tells reply places replies → doubted_by (told_by reply) after ≡ doubted_by replies after
+told-doubted group.Verdicts places (Some given) after tells = refl
+told-doubted group.Verdicts places None after tells = absurd tells
+told-doubted group.DiskFault places (Some given) after tells = absurd tells
+told-doubted group.DiskFault places None after tells = refl

@@ -2,6 +2,7 @@
 use Rattle.std.specs.Prelude.{◌≡◌, ◌⊎◌, ℕ, ◌+◌, ◌≤◌, min, List, [], ◌∷◌, ◌++◌, ◌-◌, length, map, replicate, take, Option, Some, None, Contains, refl}
 use Rattle.std.specs.List.{All}
 use Rattle.std.specs.Coded.{Coded, code_by, coded×, coded_ℕ, coded_list}
+use Rattle.std.specs.Global.{Vec}
 use Rattle.tb_units.specs.declared.moment.Moment.{Moment}
 use Rattle.tb_link.specs.Counts.{last_count}
 use Rattle.tb_disk.specs.Disks.{DiskState}
@@ -18,9 +19,23 @@ use Rattle.tb_desk.specs.declared.reply.GroupReply.TheVariants as group
 use Rattle.tb_desk.specs.Stands.{StandsForHistory, Stands, CrashesLeave}
 use Rattle.tb_desk.specs.Turn.{Held, Replies}
 
+-- a group, and how many entries of the history stood before it
+pub record PlacedGroup : Type 0 where
+  pub before : ℕ
+  pub group : List Entry
+
+abbrev pub group_code : Coded PlacedGroup
+group_code =
+    code_by (ℕ × List Entry) (coded× coded_ℕ (coded_list entry.the_row.coded)) (λ placed. (placed.before, placed.group))
+    (λ p. record { before = p.0; group = p.1 }) (λ _. refl)
+
+-- such a group, as a desk notes it
+abbrev pub noted : ℕ × Vec Entry → PlacedGroup
+noted note = record { before = note.0; group = note.1.items }
+
 -- The disk now and as the opening left it; what was accepted, and the room for more; the group in doubt; the place of
--- the journal's gate; how many entries were recovered; and how many calls since the opening were answered with a disk
--- fault.
+-- the journal's gate; how many entries were recovered; how many calls since the opening were answered with a disk
+-- fault; and the groups that were in doubt after these.
 pub record DeskView (D : Type 0) : Type 0 where
   pub disk : D
   pub opened : D
@@ -29,13 +44,14 @@ pub record DeskView (D : Type 0) : Type 0 where
   pub gate : ℕ
   pub recovered : ℕ
   pub faults : ℕ
+  pub doubted : List PlacedGroup
 
 abbrev pub desk_code : {D : Type 0} → Coded D → Coded (DeskView D)
 desk_code {D} disk =
-    code_by (D × (D × (Host × (List Entry × (ℕ × (ℕ × ℕ))))))
+    code_by (D × (D × (Host × (List Entry × (ℕ × (ℕ × (ℕ × List PlacedGroup)))))))
     (coded× disk (coded× disk (coded× host.the_row.coded (coded× (coded_list entry.the_row.coded)
-    (coded× coded_ℕ (coded× coded_ℕ coded_ℕ))))))
-    (λ v. (v.disk, (v.opened, (v.host, (v.doubt, (v.gate, (v.recovered, v.faults)))))))
+    (coded× coded_ℕ (coded× coded_ℕ (coded× coded_ℕ (coded_list group_code))))))))
+    (λ v. (v.disk, (v.opened, (v.host, (v.doubt, (v.gate, (v.recovered, (v.faults, v.doubted))))))))
     (λ p. record {
       disk = p.0;
       opened = p.1.0;
@@ -43,7 +59,8 @@ desk_code {D} disk =
       doubt = p.1.1.1.0;
       gate = p.1.1.1.1.0;
       recovered = p.1.1.1.1.1.0;
-      faults = p.1.1.1.1.1.1;
+      faults = p.1.1.1.1.1.1.0;
+      doubted = p.1.1.1.1.1.1.1;
     })
     (λ _. refl)
 
@@ -59,6 +76,7 @@ pub record IsSame {D : Type 0} (old new : DeskView D) : Type 0 where
   pub gate : new.gate ≡ old.gate
   pub recovered : new.recovered ≡ old.recovered
   pub faults : new.faults ≡ old.faults
+  pub doubted : new.doubted ≡ old.doubted
 
 -- the entries are one group: of one submitter at one moment, and no more than share a gate
 pub record IsOneGroup (entries : List Entry) : Type 0 where
@@ -66,11 +84,6 @@ pub record IsOneGroup (entries : List Entry) : Type 0 where
   pub moment : Moment
   pub few : length entries ≤ 64
   pub each : All (λ (entry : Entry). (entry.submitter ≡ submitter) × (entry.moment ≡ moment)) entries
-
--- a group, and how many entries of the history stood before it
-pub record PlacedGroup : Type 0 where
-  pub before : ℕ
-  pub group : List Entry
 
 -- so many entries of the history, and the group behind them
 abbrev pub with_group : List Entry → PlacedGroup → List Entry
@@ -96,22 +109,24 @@ IsBeginningOr groups history recovered file =
     IsBeginning history recovered file
     ⊎ ((placed : PlacedGroup) × Contains groups placed × StandsForHistory (with_group history placed) file)
 
--- Every crash since the opening left a beginning of the history that has the recovered one, or one followed by a group
--- that was accepted there. A group that is in doubt now is among these, and there are no more of them than calls that
--- were answered with a disk fault, unless that count stands at its last value.
-pub record CrashesSince (opened disk : DiskState) (history doubt : List Entry) (recovered faults : ℕ) : Type 0 where
-  pub groups : List PlacedGroup
-  pub each : All (WasAccepted history recovered) groups
-  pub now : 1 ≤ length doubt → Contains groups (record { before = length history; group = doubt })
-  pub few : (length groups ≤ faults) ⊎ (faults ≡ last_count)
-  pub leaves : CrashesLeave (IsBeginningOr groups history recovered) opened disk
+-- Every crash since the opening left a beginning of the history that has the recovered one, or one followed by one of
+-- the groups that were in doubt after a call, which was accepted there. The group that is in doubt now is among these,
+-- and there are no more of them than calls that were answered with a disk fault, unless that count stands at its last
+-- value.
+pub record CrashesSince (opened disk : DiskState) (history doubt : List Entry) (recovered faults : ℕ)
+    (doubted : List PlacedGroup) : Type 0
+  where
+    pub each : All (WasAccepted history recovered) doubted
+    pub now : 1 ≤ length doubt → Contains doubted (record { before = length history; group = doubt })
+    pub few : (length doubted ≤ faults) ⊎ (faults ≡ last_count)
+    pub leaves : CrashesLeave (IsBeginningOr doubted history recovered) opened disk
 
 -- what holds of every desk
 pub record IsDesk (disk opened : DiskState) (gate : ℕ) (next : Option ℕ) (history doubt : List Entry)
-    (recovered faults : ℕ) : Type 0 where
+    (recovered faults : ℕ) (doubted : List PlacedGroup) : Type 0 where
   pub stands : Stands disk gate next history doubt
   pub recovers : recovered ≤ length history
-  pub since : CrashesSince opened disk history doubt recovered faults
+  pub since : CrashesSince opened disk history doubt recovered faults doubted
   pub counted : (opened.faults + faults ≤ disk.faults) ⊎ (disk.faults ≡ last_count)
   pub limited : faults ≤ last_count
 
@@ -141,3 +156,8 @@ told_by group.DiskFault = None
 abbrev pub CountsFault : Replies → ℕ → ℕ → Type 0
 CountsFault None old new = new ≡ min (old + 1) last_count
 CountsFault (Some verdicts) old new = new ≡ old
+
+-- what a call leaves in doubt: after a disk fault the group, behind the history
+abbrev pub doubted_by : Replies → Held → List PlacedGroup
+doubted_by None after = record { before = length after.history; group = after.doubt } ∷ []
+doubted_by (Some verdicts) after = []

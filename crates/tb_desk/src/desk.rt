@@ -1,5 +1,5 @@
 //! The desk between its calls.
-ghost use Rattle.std.specs.Prelude.{ℕ, ◌≡◌, ◌≢◌, ◌⊎◌, ◌+◌, ◌*◌, ◌≤◌, ◌++◌, ◌∷◌, [], ◌↔◌, List, None, Some, true, false, IsTrue, IfSome, OnOk, OnErr, IfOk, IfErr, Ok, Err, length, vec_capacity};
+ghost use Rattle.std.specs.Prelude.{ℕ, ◌≡◌, ◌≢◌, ◌⊎◌, ◌+◌, ◌*◌, ◌≤◌, ◌++◌, ◌∷◌, [], ◌↔◌, List, None, Some, map, true, false, IsTrue, IfSome, OnOk, OnErr, IfOk, IfErr, Ok, Err, length, vec_capacity};
 ghost use Rattle.tb_link.specs.Counts.{Rose, NeverFalls, last_count};
 ghost use Rattle.tb_disk.specs.Past.{contents_of};
 ghost use Rattle.tb_terms.specs.declared.refusal.Refusal.{Refusal};
@@ -23,12 +23,13 @@ ghost use Rattle.tb_desk.specs.Stands.{StandsForHistory, StandsForEither, Stands
 ghost use Rattle.tb_desk.specs.Replay.{IsExact, LeavesRefused};
 ghost use Rattle.tb_desk.specs.Replaying.{IsReplayed, IsReplayFault};
 ghost use Rattle.tb_desk.specs.Turn.{Turns, Replies, IsOneOf, AreBids, AreNumbered};
-ghost use Rattle.tb_desk.specs.Desks.{held, IsSame, CrashesSince, replies_of, Tells, told_by, CountsFault};
+ghost use Rattle.tb_desk.specs.Desks.{held, noted, IsSame, CrashesSince, replies_of, Tells, told_by, CountsFault, doubted_by};
 
 use crate::fault::{OpenFault, lifted};
 use crate::replay::replay;
 use crate::reply::{GroupReply, Reply};
 use crate::steps::{turn, turn_group};
+use http_server::Log;
 use std::alloc::Global;
 use std::marker::Model;
 use std::snapshot::Snapshot;
@@ -44,7 +45,8 @@ const LONGEST_GROUP: usize = 64;
 
 const LONGEST_PAYLOAD: usize = 32_768;
 
-/// The host machine on a disk. It keeps the group in doubt, and for contracts the disk as the opening left it.
+/// The host machine on a disk. It keeps the group in doubt. For contracts alone, and in no memory, it keeps the disk as
+/// the opening left it, and the groups that were in doubt after a call, each with how many entries stood before it.
 #[derive(Drop)]
 pub struct Desk<D: Disk> {
     journal: Journal<D>,
@@ -54,11 +56,12 @@ pub struct Desk<D: Disk> {
     faults: u64,
     recovered: u64,
     opened: Snapshot<Journal<D>>,
+    doubted: Log<u64, Vec<Entry>>,
 }
 
 impl<D: Disk> Model for Desk<D> {
-    ghost use Rattle.std.specs.Prelude.{vec_capacity};
-    ghost use Rattle.tb_desk.specs.Desks.{DeskView, desk_code, IsDesk, HasBuffers};
+    ghost use Rattle.std.specs.Prelude.{map, vec_capacity};
+    ghost use Rattle.tb_desk.specs.Desks.{DeskView, desk_code, noted, IsDesk, HasBuffers};
 
     ghost Value = { DeskView D };
 
@@ -72,10 +75,11 @@ impl<D: Disk> Model for Desk<D> {
       gate = a.journal.gate;
       recovered = a.recovered;
       faults = a.faults;
+      doubted = map noted a.doubted.items;
     } };
 
     ghost invariant = { λ a. IsDesk (D.disk a.journal.disk) (D.disk a.opened.value.disk) a.journal.gate a.journal.doubt
-        a.host.history a.doubt.items a.recovered a.faults
+        a.host.history a.doubt.items a.recovered a.faults (map noted a.doubted.items)
         × HasBuffers (vec_capacity a.doubt) (vec_capacity a.payload) };
 }
 
@@ -86,7 +90,8 @@ fn opened<D: Disk>(journal: Journal<D>, host: Host, doubt: Vec<Entry>, payload: 
     requires buffers { (64 ≤ vec_capacity doubt) × (32768 ≤ vec_capacity payload) }
     ensures disk { (result.disk ≡ journal.disk) × (result.opened ≡ journal.disk) × (result.gate ≡ journal.gate) }
     ensures host { result.host ≡ host }
-    ensures made { (result.doubt ≡ []) × (result.recovered ≡ length host.history) × (result.faults ≡ 0) }
+    ensures made { (result.doubt ≡ []) × (result.recovered ≡ length host.history) × (result.faults ≡ 0)
+        × (result.doubted ≡ []) }
 {
     Desk {
         opened: Snapshot::of(&journal),
@@ -96,6 +101,7 @@ fn opened<D: Disk>(journal: Journal<D>, host: Host, doubt: Vec<Entry>, payload: 
         doubt,
         payload,
         faults: 0,
+        doubted: Log::new(),
     }
 }
 
@@ -109,13 +115,23 @@ fn faults_after(reply: &Reply, faults: u64) -> u64
     }
 }
 
+// Notes the group that is in doubt after a reply, where that is a disk fault.
+fn note(reply: &Reply, doubted: &mut Log<u64, Vec<Entry>>, host: &Host, doubt: &Vec<Entry>)
+    ensures { map noted doubted.new.items ≡ map noted doubted.old.items
+        ++ doubted_by (replies_of reply.now) (record { history = host.now.history; doubt = doubt.now.items }) }
+{
+    if let Reply::DiskFault = reply {
+        *doubted = doubted.and(&host.entries(), doubt);
+    }
+}
+
 impl<D: Disk> Desk<D> {
     /// Opens the desk on a disk, with the history that it stands for. A refusal hands the disk back.
     pub fn open(alloc: Global, disk: D) -> Result<Desk<D>, (D, OpenFault)>
         ensures found { IfOk result (λ desk. IfSome (D.disk disk).past
             (λ past. StandsForHistory desk.host.history (contents_of past))) }
         ensures made { IfOk result (λ desk. (desk.doubt ≡ []) × (desk.recovered ≡ length desk.host.history)
-            × (desk.faults ≡ 0) × (desk.opened ≡ desk.disk)) }
+            × (desk.faults ≡ 0) × (desk.opened ≡ desk.disk) × (desk.doubted ≡ [])) }
         // Each answer is given exactly where it is true of the file.
         ensures exact { IfOk result (λ desk. IfSome (D.disk disk).past
             (λ past. IsExact (contents_of past) (Ok desk.host.history))) }
@@ -182,7 +198,7 @@ impl<D: Disk> Desk<D> {
         ensures recovers { self.now.recovered ≤ length self.now.host.history }
         // What every crash since the opening left, and what one now leaves.
         ensures since { CrashesSince (D.disk self.now.opened) (D.disk self.now.disk) self.now.host.history
-            self.now.doubt self.now.recovered self.now.faults }
+            self.now.doubt self.now.recovered self.now.faults self.now.doubted }
         ensures leaves { LeavesEither (D.disk self.now.disk) self.now.host.history self.now.doubt }
     {
         self.host.entries()
@@ -214,7 +230,7 @@ impl<D: Disk> Desk<D> {
             (λ past. StandsForEither self.host.history self.doubt (contents_of past)) }
         ensures leaves { LeavesEither (D.disk result) self.host.history self.doubt }
         ensures since { CrashesSince (D.disk self.opened) (D.disk result) self.host.history self.doubt self.recovered
-            self.faults }
+            self.faults self.doubted }
         ensures counted { ((D.disk self.opened).faults + self.faults ≤ (D.disk result).faults)
             ⊎ ((D.disk result).faults ≡ last_count) }
     {
@@ -226,6 +242,7 @@ impl<D: Disk> Desk<D> {
             faults: _,
             recovered: _,
             opened: _,
+            doubted: _,
         } = self;
         journal.into_disk()
     }
@@ -277,6 +294,8 @@ impl<D: Disk> Desk<D> {
         ensures no_fault { result ≢ reply.DiskFault → (D.disk self.new.disk).faults ≡ (D.disk self.old.disk).faults }
         ensures count { NeverFalls (D.disk self.old.disk).faults (D.disk self.new.disk).faults }
         ensures faults { CountsFault (replies_of result) self.old.faults self.new.faults }
+        // After a disk fault the group that is in doubt then is noted.
+        ensures doubted { self.new.doubted ≡ self.old.doubted ++ doubted_by (replies_of result) (held self.new) }
         ensures kept { (self.new.opened ≡ self.old.opened) × (self.new.recovered ≡ self.old.recovered) }
     {
         let reply = turn(
@@ -290,6 +309,7 @@ impl<D: Disk> Desk<D> {
             message,
         );
         self.faults = faults_after(&reply, self.faults);
+        note(&reply, &mut self.doubted, &self.host, &self.doubt);
         reply
     }
 
@@ -337,6 +357,7 @@ impl<D: Disk> Desk<D> {
         ensures no_fault { result ≢ group.DiskFault → (D.disk self.new.disk).faults ≡ (D.disk self.old.disk).faults }
         ensures count { NeverFalls (D.disk self.old.disk).faults (D.disk self.new.disk).faults }
         ensures faults { CountsFault (told_by result) self.old.faults self.new.faults }
+        ensures doubted { self.new.doubted ≡ self.old.doubted ++ doubted_by (told_by result) (held self.new) }
         ensures kept { (self.new.opened ≡ self.old.opened) × (self.new.recovered ≡ self.old.recovered) }
     {
         let reply = turn_group(
@@ -350,6 +371,7 @@ impl<D: Disk> Desk<D> {
             verdicts,
         );
         self.faults = faults_after_group(&reply, self.faults);
+        note_group(&reply, &mut self.doubted, &self.host, &self.doubt);
         reply
     }
 }
@@ -364,6 +386,21 @@ fn faults_after_group(reply: &GroupReply, faults: u64) -> u64
     }
 }
 
+// Notes the group that is in doubt after a reply to a group, where that is a disk fault.
+fn note_group(
+    reply: &GroupReply,
+    doubted: &mut Log<u64, Vec<Entry>>,
+    host: &Host,
+    doubt: &Vec<Entry>,
+)
+    ensures { map noted doubted.new.items ≡ map noted doubted.old.items
+        ++ doubted_by (told_by reply.now) (record { history = host.now.history; doubt = doubt.now.items }) }
+{
+    if let GroupReply::DiskFault = reply {
+        *doubted = doubted.and(&host.entries(), doubt);
+    }
+}
+
 // A desk on a journal that was just opened.
 fn ready<D: Disk>(alloc: Global, mut journal: Journal<D>) -> Result<Desk<D>, (D, OpenFault)>
     requires opened { journal.opened ≡ journal.disk }
@@ -372,7 +409,7 @@ fn ready<D: Disk>(alloc: Global, mut journal: Journal<D>) -> Result<Desk<D>, (D,
     requires finds { (old : DiskState) × Told old (D.disk journal.disk) (Finds journal.gate) }
     ensures found { IfOk result (λ desk. IsReplayed (D.disk journal.disk) journal.gate desk.host.history) }
     ensures made { IfOk result (λ desk. (desk.doubt ≡ []) × (desk.recovered ≡ length desk.host.history)
-        × (desk.faults ≡ 0) × (desk.opened ≡ desk.disk)) }
+        × (desk.faults ≡ 0) × (desk.opened ≡ desk.disk) × (desk.doubted ≡ [])) }
     ensures refused { IfErr result (λ refused. IsReplayFault (D.disk journal.disk) journal.gate refused.1) }
     ensures kept { IfOk result (λ desk. (D.disk desk.disk).past ≡ (D.disk journal.disk).past) }
     ensures kept_refused { IfErr result (λ refused. (D.disk refused.0).past ≡ (D.disk journal.disk).past) }

@@ -1,5 +1,5 @@
 //! A disk that may fail and crash: what its calls promise, what a crash may leave, a disk in memory that tells all of
-//! it, and an adapter over a real file that tells nothing.
+//! it, an adapter over a real file that tells nothing, and a disk without a file.
 #![tactic(auto)]
 
 mod bytes;
@@ -8,6 +8,7 @@ mod file_disk;
 mod laws;
 mod log;
 mod memory_disk;
+mod no_disk;
 mod note;
 
 pub use disk::Disk;
@@ -17,3 +18,4 @@ pub use laws::{
     unsynced_may_be_torn,
 };
 pub use memory_disk::MemoryDisk;
+pub use no_disk::NoDisk;

@@ -7,7 +7,8 @@ use Rattle.std.specs.List.{AllPairs, AllByRecursion, flat_map, list_any, positio
 use Rattle.std.proofs.lemmas.Bool.{cases_Bool, both_ways, or_cases, or_left, or_right, or_parts}
 use Rattle.std.proofs.lemmas.Bool.{eqb-true, eq-eqb, false_from_ne_true}
 use Rattle.std.proofs.lemmas.List.{length-map, get_or-map, take-append-drop}
-use Rattle.std.proofs.lemmas.List.Sums.{sum_by-cons, passes_at_first, take_while-cons}
+use Rattle.std.proofs.lemmas.List.Sums.{sum_by-append, sum_by-cons, passes_at_first, take_while-cons}
+use Rattle.std.proofs.lemmas.List.Elements.{Contains-append_left}
 use Rattle.std.proofs.lemmas.Grind.{flat_map-append}
 use Rattle.std.proofs.lemmas.List.Quantifiers.{all_pairs_push}
 use Rattle.tb_units.specs.declared.moment.Moment.{Moment}
@@ -30,7 +31,7 @@ use Rattle.tb_history.specs.Holdings.{held_of, issued, paid_to, pledged_of, befo
 use Rattle.tb_history.specs.Tables.{rows_of}
 use Rattle.tb_history.specs.Legal.{IsLegal, Follows}
 use Rattle.tb_history.specs.Moves.{Numbering, numbering_of, movements_by, meaning_by, IsNumbered}
-use Rattle.tb_history.specs.Moves.{IsBillNumbered, has_bill, participants_of, AreNumbered}
+use Rattle.tb_history.specs.Moves.{IsBillNumbered, participants_of, AreNumbered}
 use Rattle.tb_history.proofs.SameLemmas.{is_same-equal, is_same-refl, is_same-sym}
 use Rattle.tb_history.proofs.GrowthLemmas.{registrations-snoc}
 use Rattle.tb_history.proofs.AcceptedLemmas.{IsClear, accepted-passes}
@@ -105,6 +106,58 @@ places-numbered history = record {
       λ bytes known other. place_by-own (λ (announcement : Announcement). announcement.cusip.bytes)
       (announcements history) bytes other known;
 }
+
+-- one of the made elements passes where one of the elements does
+list_any-map : {X Y : Type 0} (test : Y → Bool) (make : X → Y) (xs : List X)
+    → list_any test (map make xs) ≡ list_any (λ x. test (make x)) xs
+list_any-map test make [] = refl
+list_any-map test make (x ∷ xs) = ap (λ b. test (make x) || b) (list_any-map test make xs)
+
+-- the names of the submitters
+abbrev pub names_of : List Registration → List (List ℕ)
+names_of registered = map (λ (registration : Registration). registration.submitter) registered
+
+-- the bills of the announcements
+abbrev pub bills_of : List Announcement → List (List ℕ)
+bills_of announced = map (λ (announcement : Announcement). announcement.cusip.bytes) announced
+
+-- places again, behind one name and one bill: known or not, these have numbers of their own too
+abbrev pub numbering_with : List ℕ → List ℕ → List Entry → Numbering
+numbering_with name bytes history = record {
+  holder = place_by (λ (other : List ℕ). other) (name ∷ names_of (registrations history));
+  security = place_by (λ (other : List ℕ). other) (bytes ∷ bills_of (announcements history));
+}
+
+-- the name in front has its own
+numbered-name : (name bytes : List ℕ) (history : List Entry) → IsNumbered (numbering_with name bytes history) name
+numbered-name name bytes history other =
+    place_by-own (λ (n : List ℕ). n) (name ∷ names_of (registrations history)) name other
+    (or_left (is_same name name) _ (is_same-refl name))
+
+-- so has the bill in front
+numbered-bill : (name bytes : List ℕ) (history : List Entry) → IsBillNumbered (numbering_with name bytes history) bytes
+numbered-bill name bytes history other =
+    place_by-own (λ (b : List ℕ). b) (bytes ∷ bills_of (announcements history)) bytes other
+    (or_left (is_same bytes bytes) _ (is_same-refl bytes))
+
+-- and so have all who are registered and announced behind them
+numbered-with : (name bytes : List ℕ) (history : List Entry)
+    → AreNumbered (numbering_with name bytes history)
+    (participants_of (numbering_with name bytes history) (registrations history)) history
+numbered-with name bytes history =
+    let registered = registrations history in
+    let announced = announcements history in
+    record {
+      names = λ n known other.
+          place_by-own (λ (x : List ℕ). x) (name ∷ names_of registered) n other
+          (or_right (is_same name n) _
+          (list_any-map (λ (x : List ℕ). is_same x n) (λ (r : Registration). r.submitter) registered ∙ known));
+      listed = λ n known. contains-number (numbering_with name bytes history).holder registered n known;
+      bills = λ b known other.
+          place_by-own (λ (x : List ℕ). x) (bytes ∷ bills_of announced) b other
+          (or_right (is_same bytes b) _
+          (list_any-map (λ (x : List ℕ). is_same x b) (λ (a : Announcement). a.cusip.bytes) announced ∙ known));
+    }
 
 -- no submitter is registered twice
 abbrev pub AreSubmitters : List Registration → Type 0
@@ -193,19 +246,14 @@ numbers-once numbers (r ∷ rs) distinct names = λ i j d before within same.
     (sym (names one.submitter (registered-at all i r at_i) other.submitter)
     ∙ eq-eqb (numbers.holder one.submitter) (numbers.holder other.submitter) equal)
 
--- the numbers of a legal history are its participants
-AreParticipants-places : (history : List Entry)
-    → IsLegal history
-    → movements.AreParticipants (participants_of (numbering_of (registrations history) (announcements history))
-    (registrations history))
-    (movements_by (numbering_of (registrations history) (announcements history)) history)
-AreParticipants-places history legal =
-    let numbers = numbering_of (registrations history) (announcements history) in
-    let are = places-numbered history in
-    record {
-      once = numbers-once numbers (registrations history) (IsLegal-submitters history legal) are.names;
-      all = (IsLegal-told numbers (participants_of numbers (registrations history)) history legal are).reaches;
-    }
+-- the numbers of all who are registered are the participants of a legal history
+AreParticipants-registered : (numbers : Numbering) (history : List Entry)
+    → IsToldBy numbers (participants_of numbers (registrations history)) history
+    → movements.AreParticipants (participants_of numbers (registrations history)) (movements_by numbers history)
+AreParticipants-registered numbers history tells = record {
+  once = numbers-once numbers (registrations history) (IsLegal-submitters history tells.legal) tells.numbered.names;
+  all = tells.told.reaches;
+}
 
 -- a sum over what is made of elements
 sum_by-made : {X Y : Type 0} (f : Y → ℕ) (make : X → Y) (xs : List X)
@@ -225,59 +273,143 @@ sum_by-each f g (x ∷ xs) same =
     ∙ (omega (arith, same 0 x (omega arith), sum_by-each f g xs (λ k d within. same (suc k) d (omega (arith, within))))
     ∙ sym (sum_by-cons g x xs))
 
+-- a legal history by places behind a name and a bill
+tells-with : (name bytes : List ℕ) (history : List Entry)
+    → IsLegal history
+    → IsToldBy (numbering_with name bytes history)
+    (participants_of (numbering_with name bytes history) (registrations history)) history
+tells-with name bytes history legal =
+    let numbers = numbering_with name bytes history in
+    let are = numbered-with name bytes history in
+    record {
+      legal = legal;
+      numbered = are;
+      told = IsLegal-told numbers (participants_of numbers (registrations history)) history legal are;
+    }
+
+-- its movements conserve par
+conserved-with : (name bytes : List ℕ) (history : List Entry)
+    → IsLegal history
+    → movements.IsConserved (participants_of (numbering_with name bytes history) (registrations history))
+    (movements_by (numbering_with name bytes history) history)
+conserved-with name bytes history legal =
+    let numbers = numbering_with name bytes history in
+    let tells = tells-with name bytes history legal in
+    IsConserved-legal (participants_of numbers (registrations history)) (movements_by numbers history) tells.told.legal
+    (AreParticipants-registered numbers history tells)
+
+-- what the movements say is outstanding of the bill
+outstanding-with : (name : List ℕ) (cusip : Cusip) (history : List Entry)
+    → IsLegal history
+    → moved.outstanding ((numbering_with name cusip.bytes history).security cusip.bytes)
+    (movements_by (numbering_with name cusip.bytes history) history)
+    ≡ (if is_redeemed (redemptions history) cusip then 0 else issued history cusip)
+outstanding-with name cusip history legal =
+    let told = (tells-with name cusip.bytes history legal).told in
+    let bills = numbered-bill name cusip.bytes history in
+    rw (told.redeemed cusip bills, told.issued_is cusip bills) refl
+
 -- what all participants hold is what is issued and not redeemed
 pub held-sum : (history : List Entry) (cusip : Cusip)
     → IsLegal history
-    → has_bill (announcements history) cusip.bytes ≡ true
     → sum_by (λ (registration : Registration). held_of history registration.submitter cusip) (registrations history)
     ≡ (if is_redeemed (redemptions history) cusip then 0 else issued history cusip)
-held-sum history cusip legal bill =
-    let numbers = numbering_of (registrations history) (announcements history) in
+held-sum history cusip legal =
+    let numbers = numbering_with [] cusip.bytes history in
     let participants = participants_of numbers (registrations history) in
-    let are = places-numbered history in
-    let told = IsLegal-told numbers participants history legal are in
-    let bills = are.bills cusip.bytes bill in
+    let tells = tells-with [] cusip.bytes history legal in
+    let bills = numbered-bill [] cusip.bytes history in
     let security = numbers.security cusip.bytes in
-    let conserved =
-    (IsConserved-legal participants (movements_by numbers history) told.legal
-    (AreParticipants-places history legal)).holdings security in
     let each : sum_by (λ (registration : Registration). held_of history registration.submitter cusip)
     (registrations history)
     ≡ sum_by (λ (registration : Registration). moved.held (numbers.holder registration.submitter) security
     (movements_by numbers history))
     (registrations history) =
     sum_by-each _ _ (registrations history) (λ k d within.
-    sym (held-told numbers participants history (get_or (registrations history) k d).submitter cusip told
-    (are.names (get_or (registrations history) k d).submitter (registered-at (registrations history) k d within))
-    bills)) in
-    let whole : moved.outstanding security (movements_by numbers history)
-    ≡ (if is_redeemed (redemptions history) cusip then 0 else issued history cusip) =
-    rw (told.redeemed cusip bills, told.issued_is cusip bills) refl in
+    let submitter = (get_or (registrations history) k d).submitter in
+    sym (held-told numbers participants history submitter cusip tells.told
+    (tells.numbered.names submitter (registered-at (registrations history) k d within)) bills)) in
     each
     ∙ (sym (sum_by-made (λ holder. moved.held holder security (movements_by numbers history))
     (λ (registration : Registration). numbers.holder registration.submitter) (registrations history))
-    ∙ (conserved ∙ whole))
+    ∙ ((conserved-with [] cusip.bytes history legal).holdings security
+    ∙ outstanding-with [] cusip history legal))
 
 -- nobody has pledged more than it holds
 pub pledged-covered : (history : List Entry) (participant : List ℕ) (cusip : Cusip)
     → IsLegal history
-    → has_bill (announcements history) cusip.bytes ≡ true
-    → is_registered (registrations history) participant ≡ true
     → pledged_of history participant cusip ≤ held_of history participant cusip
-pledged-covered history participant cusip legal bill known =
-    let numbers = numbering_of (registrations history) (announcements history) in
+pledged-covered history participant cusip legal =
+    let numbers = numbering_with participant cusip.bytes history in
     let participants = participants_of numbers (registrations history) in
-    let are = places-numbered history in
-    let told = IsLegal-told numbers participants history legal are in
-    let conserved =
-    IsConserved-legal participants (movements_by numbers history) told.legal (AreParticipants-places history legal) in
+    let told = (tells-with participant cusip.bytes history legal).told in
     omega (
       arith,
-      conserved.covered (numbers.holder participant) (numbers.security cusip.bytes),
-      held-told numbers participants history participant cusip told (are.names participant known)
-          (are.bills cusip.bytes bill),
+      (conserved-with participant cusip.bytes history legal).covered (numbers.holder participant)
+          (numbers.security cusip.bytes),
+      held-told numbers participants history participant cusip told
+          (numbered-name participant cusip.bytes history) (numbered-bill participant cusip.bytes history),
       pledged-told numbers participants history participant cusip told,
     )
+
+-- one who isn't registered is none of the participants, and may be counted as one more
+AreParticipants-more : (numbers : Numbering) (history : List Entry) (stranger : List ℕ)
+    → IsToldBy numbers (participants_of numbers (registrations history)) history
+    → IsNumbered numbers stranger
+    → is_registered (registrations history) stranger ≡ false
+    → movements.AreParticipants (participants_of numbers (registrations history) ++ numbers.holder stranger ∷ [])
+    (movements_by numbers history)
+AreParticipants-more numbers history stranger tells own unknown =
+    let registered = registrations history in
+    let participants = participants_of numbers registered in
+    let number : Registration → ℕ = λ (registration : Registration). numbers.holder registration.submitter in
+    let default : Registration = record { submitter = []; key = [] } in
+    let more : AreNumbered numbers (participants ++ numbers.holder stranger ∷ []) history = record {
+      names = tells.numbered.names;
+      listed = λ name known.
+          Contains-append_left participants (numbers.holder stranger ∷ []) (numbers.holder name)
+          (tells.numbered.listed name known);
+      bills = tells.numbered.bills;
+    } in
+    record {
+      once = all_pairs_push (λ (one other : ℕ). one ≢ other) participants (numbers.holder stranger)
+          (AreParticipants-registered numbers history tells).once
+          (λ k d within same.
+          let place : k < length registered = omega (arith, within, length-map registered number) in
+          let found = (get_or registered k default).submitter in
+          let equal : numbers.holder found ≡ numbers.holder stranger =
+          sym (get_or-map number registered k default d place) ∙ same in
+          let name : found ≡ stranger =
+          is_same-equal found stranger
+          (sym (own found) ∙ eq-eqb (numbers.holder stranger) (numbers.holder found) (sym equal)) in
+          both_ways (is_registered registered stranger) unknown
+          (subst (λ (x : List ℕ). is_registered registered x ≡ true) name
+          (registered-at registered k default place)));
+      all = (IsLegal-told numbers (participants ++ numbers.holder stranger ∷ []) history tells.legal more).reaches;
+    }
+
+-- one more addend that leaves a sum as it is, is nothing
+no_addend : (f : ℕ → ℕ) (xs : List ℕ) (x : ℕ) → sum_by f (xs ++ x ∷ []) ≡ sum_by f xs → f x ≡ 0
+no_addend f xs x same = omega (arith, same, sum_by-append f xs (x ∷ []), sum_by-cons f x [])
+
+-- with it or without it all hold the same, so it holds nothing
+pub stranger-holds : (history : List Entry) (stranger : List ℕ) (cusip : Cusip)
+    → IsLegal history
+    → is_registered (registrations history) stranger ≡ false
+    → held_of history stranger cusip ≡ 0
+stranger-holds history stranger cusip legal unknown =
+    let numbers = numbering_with stranger cusip.bytes history in
+    let participants = participants_of numbers (registrations history) in
+    let tells = tells-with stranger cusip.bytes history legal in
+    let own = numbered-name stranger cusip.bytes history in
+    let security = numbers.security cusip.bytes in
+    let more = IsConserved-legal (participants ++ numbers.holder stranger ∷ []) (movements_by numbers history)
+    tells.told.legal (AreParticipants-more numbers history stranger tells own unknown) in
+    sym (held-told numbers participants history stranger cusip tells.told own
+    (numbered-bill stranger cusip.bytes history))
+    ∙ no_addend (λ holder. moved.held holder security (movements_by numbers history)) participants
+    (numbers.holder stranger)
+    (more.holdings security ∙ sym ((conserved-with stranger cusip.bytes history legal).holdings security))
 
 -- where the only movement redeems, none stands before it
 none_before : (security : ℕ) (next : Option Movement)
@@ -381,31 +513,50 @@ paid-told numbers participants history participant cusip tells own bills =
 -- after a redemption the participants were paid what was issued
 pub paid-sum : (history : List Entry) (cusip : Cusip)
     → IsLegal history
-    → has_bill (announcements history) cusip.bytes ≡ true
     → is_redeemed (redemptions history) cusip ≡ true
     → sum_by (λ (registration : Registration). paid_to history registration.submitter cusip) (registrations history)
     ≡ issued history cusip
-paid-sum history cusip legal bill redeemed =
-    let numbers = numbering_of (registrations history) (announcements history) in
+paid-sum history cusip legal redeemed =
+    let numbers = numbering_with [] cusip.bytes history in
     let participants = participants_of numbers (registrations history) in
-    let are = places-numbered history in
-    let told = IsLegal-told numbers participants history legal are in
-    let tells : IsToldBy numbers participants history = record { legal = legal; numbered = are; told = told } in
-    let bills = are.bills cusip.bytes bill in
+    let tells = tells-with [] cusip.bytes history legal in
+    let bills = numbered-bill [] cusip.bytes history in
     let security = numbers.security cusip.bytes in
     let conserved =
-    (IsConserved-legal participants (movements_by numbers history) told.legal
-    (AreParticipants-places history legal)).payments security (told.redeemed cusip bills ∙ redeemed) in
+    (conserved-with [] cusip.bytes history legal).payments security (tells.told.redeemed cusip bills ∙ redeemed) in
     let each : sum_by (λ (registration : Registration). paid_to history registration.submitter cusip)
     (registrations history)
     ≡ sum_by (λ (registration : Registration). moved.paid (numbers.holder registration.submitter) security
     (movements_by numbers history))
     (registrations history) =
     sum_by-each _ _ (registrations history) (λ k d within.
-    sym (paid-told numbers participants history (get_or (registrations history) k d).submitter cusip tells
-    (are.names (get_or (registrations history) k d).submitter (registered-at (registrations history) k d within))
-    bills)) in
+    let submitter = (get_or (registrations history) k d).submitter in
+    sym (paid-told numbers participants history submitter cusip tells
+    (tells.numbered.names submitter (registered-at (registrations history) k d within)) bills)) in
     each
     ∙ (sym (sum_by-made (λ holder. moved.paid holder security (movements_by numbers history))
     (λ (registration : Registration). numbers.holder registration.submitter) (registrations history))
-    ∙ (conserved ∙ told.issued_is cusip bills))
+    ∙ (conserved ∙ tells.told.issued_is cusip bills))
+
+-- and whoever isn't registered was paid nothing
+pub stranger-paid : (history : List Entry) (stranger : List ℕ) (cusip : Cusip)
+    → IsLegal history
+    → is_registered (registrations history) stranger ≡ false
+    → paid_to history stranger cusip ≡ 0
+unfolding paid_to registrations
+stranger-paid history stranger cusip legal unknown =
+    let says : Entry → List Registration = λ (entry : Entry). registered_by entry.message in
+    let front = before_redemption history cusip in
+    let rest = drop (prefix_len (λ (entry : Entry). not (redeems_bill cusip entry.message)) history) history in
+    let whole = front-whole history cusip in
+    let unknown_then : is_registered (registrations front) stranger ≡ false =
+    false_from_ne_true _ (λ known. both_ways (is_registered (registrations history) stranger) unknown
+    (subst (λ (entries : List Entry). is_registered (registrations entries) stranger ≡ true) whole
+    (rw (flat_map-append says front rest)
+    (registered-append (flat_map says front) (flat_map says rest) stranger known)))) in
+    let held_then : held_of front stranger cusip ≡ 0 =
+    stranger-holds front stranger cusip (IsLegal-front rest front (subst IsLegal (sym whole) legal)) unknown_then in
+    elim (cases_Bool (is_redeemed (redemptions history) cusip)) [
+      | inl is ↦ rw (is, held_then) refl
+      | inr isnt ↦ rw isnt refl
+    ]

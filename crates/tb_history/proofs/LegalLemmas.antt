@@ -1,8 +1,8 @@
 -- What holds of every legal history.
-use Rattle.std.proofs.Common.{◌≡◌, ℕ, Bool, true, not, Option, Some, None, inl, inr}
-use Rattle.std.proofs.Common.{List, [], ◌∷◌, ◌++◌, refl, ap, is_some}
+use Rattle.std.proofs.Common.{◌≡◌, ℕ, Bool, true, Option, Some, None}
+use Rattle.std.proofs.Common.{List, [], ◌∷◌, ◌++◌, refl, is_some}
 use Rattle.std.specs.List.{AllByRecursion}
-use Rattle.std.proofs.lemmas.Bool.{cases_Bool, both_ways, not-false}
+use Rattle.std.proofs.lemmas.Bool.{not-false}
 use Rattle.tb_units.specs.declared.rate.Rate.{Rate}
 use Rattle.tb_units.specs.declared.moment.Moment.{Moment}
 use Rattle.tb_terms.specs.declared.announcement.Announcement.{Announcement}
@@ -11,7 +11,7 @@ use Rattle.tb_message.specs.declared.message.Message.{Message}
 use Rattle.tb_message.specs.declared.message.Message.TheVariants as message
 use Rattle.tb_history.specs.declared.bids.Bid.{Bid}
 use Rattle.tb_history.specs.declared.bids.Report.{Report}
-use Rattle.tb_history.specs.Entries.{is_operators, is_same, operator, bid_by, reported_by}
+use Rattle.tb_history.specs.Entries.{is_same, operator, bid_by, reported_by}
 use Rattle.tb_history.specs.Roster.{announcements, is_enrolled, announcement_of}
 use Rattle.tb_rules.specs.BidRule.{Standing}
 use Rattle.tb_history.specs.LiveBids.{standing_of, bids, cancels, reports}
@@ -21,6 +21,7 @@ use Rattle.tb_history.specs.Legal.{IsLegal, Empty, Longer, Follows}
 use Rattle.tb_history.proofs.PartLemmas.{AllByRecursion-append, AllByRecursion-weaker}
 use Rattle.tb_history.proofs.GrowthLemmas.{bids-snoc, reports-snoc, is_enrolled-snoc, is_announced-snoc}
 use Rattle.tb_history.proofs.AcceptedLemmas.{IsClear, accepted-passes}
+use Rattle.tb_history.proofs.KindLemmas.{IsOperators}
 
 -- what holds of the empty history, and lasts where an accepted entry is added, holds of every legal history
 pub by_entries : (P : List Entry → Type 0)
@@ -35,15 +36,11 @@ by_entries P none more history (Longer before entry legal follows) =
     more before entry legal (by_entries P none more before legal) follows
 
 -- the operator's kinds are the operator's
-permitted-operators : (submitter : List ℕ) (sent : Message)
+pub permitted-operators : (submitter : List ℕ) (sent : Message)
     → is_permitted submitter sent ≡ true
-    → is_operators sent ≡ true
+    → IsOperators sent
     → is_same submitter operator ≡ true
-permitted-operators submitter sent permitted operators =
-    elim (cases_Bool (is_same submitter operator)) [
-      | inl is ↦ is
-      | inr isnt ↦ absurd (both_ways (not (is_operators sent)) (ap not operators) (rw isnt at permitted))
-    ]
+permitted-operators submitter sent permitted operators = rw operators at permitted
 
 -- an accepted bid is of an announced auction, and of a bidder that is enrolled under its sender
 bid_rows-clear : (found : Option Announcement) (enrolled : Bool) (standing : Standing) (moment : Moment)
@@ -113,8 +110,7 @@ IsReported-snoc history entry report placed = (
 -- Each entry's kind is its sender's; each bid and report is of an announced auction, and of a bidder enrolled under its
 -- sender.
 pub record IsOrderly (history : List Entry) : Type 0 where
-  pub parties : AllByRecursion
-      (λ (entry : Entry). is_operators entry.message ≡ true → is_same entry.submitter operator ≡ true) history
+  pub parties : AllByRecursion (λ (entry : Entry). is_permitted entry.submitter entry.message ≡ true) history
   pub bidders : AllByRecursion (IsPlaced history) (bids history)
   pub reporters : AllByRecursion (IsReported history) (reports history)
 
@@ -139,7 +135,7 @@ IsOrderly-snoc history entry legal orderly follows =
     (reported_by-placed history entry.submitter entry.moment entry.message passed.rows) in
     record {
       parties = AllByRecursion-append _ history (entry ∷ []) orderly.parties
-          (permitted-operators entry.submitter entry.message passed.permitted, tt);
+          (passed.permitted, tt);
       bidders = rw (bids-snoc history entry) (AllByRecursion-weaker _ _ (IsPlaced-snoc history entry)
           (bids history ++ bid_by entry.submitter entry.number entry.message) bids_now);
       reporters =

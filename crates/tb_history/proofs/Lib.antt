@@ -26,3 +26,4 @@ pub mod NumberingLemmas
 pub mod ConservedLemmas
 pub mod ParLemmas
 pub mod IssuedLemmas
+pub mod SoundLemmas

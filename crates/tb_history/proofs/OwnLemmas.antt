@@ -1,8 +1,8 @@
 -- What the own part of a legal history says.
-use Rattle.std.proofs.Common.{◌≡◌, ℕ, Bool, true, false, not, ◌||◌, ◌&&◌, ◌==◌, Option, Some}
+use Rattle.std.proofs.Common.{◌≡◌, ℕ, Bool, true, not, ◌||◌, ◌&&◌, ◌==◌, Option, Some}
 use Rattle.std.proofs.Common.{None, List, [], refl, sym, ap, ◌∙◌, subst, length}
 use Rattle.std.specs.List.{filter, flat_map, AllByRecursion}
-use Rattle.std.proofs.lemmas.Bool.{both_ways, and_parts, or_left, or_parts, false_from_ne_true}
+use Rattle.std.proofs.lemmas.Bool.{both_ways, and_parts, or_left, or_parts}
 use Rattle.std.proofs.lemmas.Slice.Eq.{bytes_eq-Decides}
 use Rattle.tb_message.specs.declared.message.Entry.{Entry}
 use Rattle.tb_message.specs.declared.message.Message.{Message}
@@ -10,7 +10,7 @@ use Rattle.tb_history.specs.declared.roster.Enrolment.{Enrolment}
 use Rattle.tb_history.specs.declared.bids.Bid.{Bid}
 use Rattle.tb_history.specs.declared.bids.Cancel.{Cancel}
 use Rattle.tb_history.specs.declared.bids.Report.{Report}
-use Rattle.tb_history.specs.Entries.{is_operators, is_same, operator, registered_by, enrolled_by, entered_by}
+use Rattle.tb_history.specs.Entries.{is_same, operator, registered_by, enrolled_by, entered_by}
 use Rattle.tb_history.specs.Entries.{announced_by, published_by, settled_by, redeemed_by}
 use Rattle.tb_history.specs.Roster.{registrations, enrolments, holidays, announcements, publications, settlements}
 use Rattle.tb_history.specs.Roster.{redemptions, enrolment_of, is_under, is_enrolled, kept, sent_by}
@@ -20,11 +20,11 @@ use Rattle.tb_history.specs.OwnPart.{is_own, own_part}
 use Rattle.tb_history.proofs.PartLemmas.{flat_map-filter, flat_map-filtered, filter-filter, list_any-filter}
 use Rattle.tb_history.proofs.PartLemmas.{find-filter, filter-agree, AllByRecursion-from, AllByRecursion-weaker}
 use Rattle.tb_history.proofs.PartLemmas.{AllByRecursion-filter}
-use Rattle.tb_history.proofs.KindLemmas.{registered_by-others, enrolled_by-others, entered_by-others}
+use Rattle.tb_history.proofs.KindLemmas.{IsOperators, registered_by-others, enrolled_by-others, entered_by-others}
 use Rattle.tb_history.proofs.KindLemmas.{announced_by-others, published_by-others, settled_by-others}
 use Rattle.tb_history.proofs.KindLemmas.{redeemed_by-others, bid_by-part, cancelled_by-part, reported_by-part}
 use Rattle.tb_history.proofs.SameLemmas.{is_same-equal}
-use Rattle.tb_history.proofs.LegalLemmas.{IsOrderly}
+use Rattle.tb_history.proofs.LegalLemmas.{IsOrderly, permitted-operators}
 
 -- a submitter whose entries are in the own part
 abbrev pub is_party : List ℕ → List ℕ → Bool
@@ -36,7 +36,7 @@ is_party-same s submitter same = or_left (is_same submitter s) (is_same submitte
 
 -- what only the operator says is in every own part
 operators : {X : Type 0} (says : Message → List X)
-    → ((message : Message) → is_operators message ≡ false → says message ≡ [])
+    → ((message : Message) → ¬ (IsOperators message) → says message ≡ [])
     → (submitter : List ℕ) (history : List Entry)
     → IsOrderly history
     → flat_map (λ (entry : Entry). says entry.message) (own_part submitter history)
@@ -44,9 +44,8 @@ operators : {X : Type 0} (says : Message → List X)
 operators says others submitter history orderly =
     flat_map-filter (λ (entry : Entry). says entry.message) (is_own submitter) history
     (AllByRecursion-weaker _ _ (λ e party apart. others e.message
-    (false_from_ne_true _ (λ theirs. both_ways _
-    (or_parts (is_same e.submitter submitter) (is_same e.submitter operator) apart).1 (party theirs)))) history
-    orderly.parties)
+    (λ theirs. both_ways _ (or_parts (is_same e.submitter submitter) (is_same e.submitter operator) apart).1
+    (permitted-operators e.submitter e.message party theirs))) history orderly.parties)
 
 -- so the own part has all registrations
 pub registrations-own : (submitter : List ℕ) (history : List Entry)

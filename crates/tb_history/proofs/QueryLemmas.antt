@@ -11,6 +11,7 @@ use Rattle.tb_message.specs.declared.message.Message.{Message}
 use Rattle.tb_message.specs.declared.query.Query.{Query}
 use Rattle.tb_message.specs.declared.query.Query.TheVariants as query
 use Rattle.tb_message.specs.declared.key.Key.{Key}
+use Rattle.tb_history.specs.declared.roster.Registration.{Registration}
 use Rattle.tb_history.specs.declared.bids.Bid.{Bid}
 use Rattle.tb_history.specs.declared.bids.Cancel.{Cancel}
 use Rattle.tb_history.specs.declared.readings.BidLine.{BidLine}
@@ -21,7 +22,8 @@ use Rattle.tb_history.specs.LiveBids.{bids, cancels, is_live}
 use Rattle.tb_history.specs.Verdict.{verdict_on}
 use Rattle.tb_history.specs.Legal.{IsLegal, running}
 use Rattle.tb_history.specs.OwnPart.{own_part, moves_par}
-use Rattle.tb_history.specs.Answer.{may_ask, auction_rows, asked_rows, query_refusal, caller_of, verdict_for}
+use Rattle.tb_history.specs.Answer.{may_ask, auction_rows, asked_rows, query_refusal, caller_of}
+use Rattle.tb_history.specs.Answer.{verdict_for, refusal_for}
 use Rattle.tb_history.specs.Readings.{bid_line, bid_lines}
 use Rattle.tb_history.proofs.PartLemmas.{filter-filter, AllByRecursion-from, AllByRecursion-filter}
 use Rattle.tb_history.proofs.LegalLemmas.{IsOrderly, IsLegal-orderly}
@@ -89,6 +91,24 @@ shown-refused history submitter auction q not_yet asks =
     (rw asks (auction_rows-refused (announcement_of (announcements history) auction)
     (is_published history auction) not_yet))
 
+-- a key is the same caller's on every own part
+pub caller_of-own : (submitter : List ℕ) (history : List Entry)
+    → IsLegal history
+    → (name : List ℕ) (key : Key)
+    → caller_of (registrations (own_part submitter history)) name key ≡ caller_of (registrations history) name key
+caller_of-own submitter history legal name key =
+    ap (λ (registered : List Registration). caller_of registered name key)
+    (registrations-own submitter history (IsLegal-orderly history legal))
+
+-- so its query is refused alike
+pub refusal_for-own : (history : List Entry) (name submitter : List ℕ) (key : Key) (q : Query)
+    → IsLegal history
+    → caller_of (registrations history) name key ≡ Some submitter
+    → refusal_for history (caller_of (registrations history) name key) q
+    ≡ refusal_for (own_part submitter history) (caller_of (registrations (own_part submitter history)) name key) q
+refusal_for-own history name submitter key q legal caller =
+    rw (caller_of-own submitter history legal name key, caller) (query_refusal-own submitter history legal q)
+
 -- the verdict by the sender's key
 pub verdict_for-own : (history : List Entry) (name submitter : List ℕ) (key : Key) (number : ℕ) (moment other : Moment)
     (message : Message)
@@ -100,9 +120,7 @@ pub verdict_for-own : (history : List Entry) (name submitter : List ℕ) (key : 
     ≡ verdict_for (own_part submitter history) (caller_of (registrations (own_part submitter history)) name key) number
     other message
 verdict_for-own history name submitter key number moment other message legal still caller agree =
-    let orderly = IsLegal-orderly history legal in
-    let theirs = registrations-own submitter history orderly in
-    rw (theirs, caller)
+    rw (caller_of-own submitter history legal name key, caller)
     (IsLegal-sealed submitter history legal number (running history moment) message still
     ∙ ap (λ (x : Moment). verdict_on (own_part submitter history) submitter number x message) agree)
 

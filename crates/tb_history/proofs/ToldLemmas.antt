@@ -1,5 +1,5 @@
 -- Every entry of a legal history moves what passes on the movements before it.
-use Rattle.std.proofs.Common.{◌≡◌, ◌≢◌, ℕ, ◌+◌, ◌≤◌, ◌==◌, ◌&&◌, ◌||◌, Bool, true, false, nat_le}
+use Rattle.std.proofs.Common.{◌≡◌, ◌≢◌, ℕ, ◌+◌, ◌≤◌, ◌==◌, ◌&&◌, ◌||◌, Bool, true, false, not, nat_le}
 use Rattle.std.proofs.Common.{Option, Some, None, inl, inr, List, [], ◌∷◌, ◌++◌, map, sum_by, All}
 use Rattle.std.proofs.Common.{refl, sym, ap, ◌∙◌, subst, arith, append-nil}
 use Rattle.std.specs.Prelude.{IfSome, IsSomeAnd, Contains, option_to_list, filter_map}
@@ -23,11 +23,14 @@ use Rattle.tb_movements.proofs.TranslationLemmas.{movements_of-push}
 use Rattle.tb_message.specs.declared.message.Entry.{Entry}
 use Rattle.tb_message.specs.declared.message.Message.{Message}
 use Rattle.tb_message.specs.declared.message.Message.TheVariants as message
+use Rattle.tb_message.specs.Kinds as party
+use Rattle.tb_message.specs.Kinds.{party_of}
+use Rattle.tb_message.specs.Messages.{kind_of}
 use Rattle.tb_history.specs.declared.roster.Registration.{Registration}
 use Rattle.tb_history.specs.declared.roster.Enrolment.{Enrolment}
 use Rattle.tb_history.specs.declared.accounts.Mark.{Mark}
 use Rattle.tb_history.specs.declared.accounts.Release.{Release}
-use Rattle.tb_history.specs.Entries.{is_same, operator, is_operators, registered_by, enrolled_by}
+use Rattle.tb_history.specs.Entries.{is_same, operator, registered_by, enrolled_by}
 use Rattle.tb_history.specs.Entries.{announced_by, redeemed_by, pledged_by, released_by}
 use Rattle.tb_history.specs.Roster.{registrations, enrolments, announcements, redemptions, announcement_of, bill_of}
 use Rattle.tb_history.specs.Roster.{is_of_bill, is_caller, is_registered, is_redeemed, is_settled, kept}
@@ -85,15 +88,15 @@ AreNumbered-front numbers participants history entry are =
           (has_bill-append (announcements history) (announced_by entry.message) bytes known));
     }
 
--- whoever sends what isn't the operator's is registered
+-- whoever sends what submitters send is registered
 pub sender-registered : (history : List Entry) (submitter : List ℕ) (sent : Message)
     → is_caller (registrations history) submitter ≡ true
     → is_permitted submitter sent ≡ true
-    → is_operators sent ≡ false
+    → party_of (kind_of sent) ≡ party.submitter
     → is_registered (registrations history) submitter ≡ true
-sender-registered history submitter sent caller permitted others =
+sender-registered history submitter sent caller permitted theirs =
     elim (or_cases (is_same submitter operator) (is_registered (registrations history) submitter) caller) [
-      | inl is ↦ absurd (both_ways (is_operators sent) others (rw is at permitted))
+      | inl is ↦ absurd (both_ways (not (is_same submitter operator)) (rw is refl) (rw theirs at permitted))
       | inr known ↦ known
     ]
 

@@ -15,9 +15,10 @@ use Rattle.tb_message.specs.declared.key.Key.{Key}
 use Rattle.tb_message.specs.declared.key.Key.TheVariants as key
 use Rattle.tb_message.specs.declared.verdict.Verdict.{Verdict}
 use Rattle.tb_message.specs.declared.verdict.Verdict.TheVariants as verdict
+use Rattle.tb_message.specs.Queries.{query_kind_of, query_party_of}
 use Rattle.tb_history.specs.declared.roster.Registration.{Registration}
 use Rattle.tb_terms.specs.Rows.{Row, refusal_in}
-use Rattle.tb_history.specs.Entries.{is_same, operator}
+use Rattle.tb_history.specs.Entries.{is_same, operator, is_of_party}
 use Rattle.tb_history.specs.Roster.{registrations, announcements, redemptions, announcement_of}
 use Rattle.tb_history.specs.Roster.{bill_of, is_caller, is_published, is_redeemed}
 use Rattle.tb_history.specs.Verdict.{verdict_on}
@@ -33,14 +34,9 @@ abbrev pub caller_of : List Registration → List ℕ → Key → Option (List �
 caller_of registered name (key.Submitter word) = submitter_of registered word
 caller_of registered name (key.Operator word) = if is_same word name then Some operator else None
 
--- terms and results are told to every caller, the redemption to the operator alone, all else to submitters alone
+-- the caller is of the party that may ask queries of this kind
 abbrev pub may_ask : List ℕ → Query → Bool
-may_ask caller (query.Terms auction) = true
-may_ask caller (query.Results auction) = true
-may_ask caller (query.Awards auction) = not (is_same caller operator)
-may_ask caller (query.Bids auction) = not (is_same caller operator)
-may_ask caller query.Holdings = not (is_same caller operator)
-may_ask caller (query.Redemption cusip) = is_same caller operator
+may_ask caller query = is_of_party (query_party_of (query_kind_of query)) caller
 
 -- what shows the results of an auction is told once they are published
 abbrev pub auction_rows : Option Announcement → Bool → Bool → List Row

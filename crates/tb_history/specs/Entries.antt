@@ -1,12 +1,14 @@
 -- What the entries of a history say. A history is the list of its entries, the first of them first. A message says a
 -- list of each kind, empty or of one.
-use Rattle.std.specs.Prelude.{ℕ, Bool, true, false, List, [], ◌∷◌, codes}
+use Rattle.std.specs.Prelude.{ℕ, Bool, true, not, List, [], ◌∷◌, codes}
 use Rattle.std.specs.Str.{bytes_eq}
 use Rattle.tb_units.specs.declared.day.Day.{Day}
 use Rattle.tb_terms.specs.declared.announcement.Announcement.{Announcement}
 use Rattle.tb_terms.specs.declared.cusip.Cusip.{Cusip}
 use Rattle.tb_message.specs.declared.message.Message.{Message}
 use Rattle.tb_message.specs.declared.message.Message.TheVariants as message
+use Rattle.tb_message.specs.Kinds as party
+use Rattle.tb_message.specs.Kinds.{Party}
 use Rattle.tb_history.specs.declared.roster.Registration.{Registration}
 use Rattle.tb_history.specs.declared.roster.Enrolment.{Enrolment}
 use Rattle.tb_history.specs.declared.bids.Bid.{Bid}
@@ -95,13 +97,8 @@ abbrev pub released_by : Message → List Release
 released_by (message.Release holder pledge amount) = record { holder = holder; pledge = pledge; amount = amount } ∷ []
 released_by other = []
 
--- the kinds that the operator sends; all others are sent by submitters
-abbrev pub is_operators : Message → Bool
-is_operators (message.Register submitter key) = true
-is_operators (message.Enrol bidder submitter) = true
-is_operators (message.Holiday day) = true
-is_operators (message.Announce terms) = true
-is_operators (message.Publish auction) = true
-is_operators (message.Settle auction) = true
-is_operators (message.Redeem cusip) = true
-is_operators other = false
+-- a sender is of the party
+abbrev pub is_of_party : Party → List ℕ → Bool
+is_of_party party.operator sender = is_same sender operator
+is_of_party party.submitter sender = not (is_same sender operator)
+is_of_party party.anyone sender = true

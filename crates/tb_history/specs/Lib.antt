@@ -12,3 +12,4 @@ pub mod OwnPart
 pub mod Answer
 pub mod Readings
 pub mod Moves
+pub mod SoundBids

@@ -6,8 +6,10 @@ use Rattle.tb_message.specs.declared.message.Entry.{Entry}
 use Rattle.tb_message.specs.declared.message.Message.{Message}
 use Rattle.tb_message.specs.declared.verdict.Verdict.{Verdict}
 use Rattle.tb_message.specs.declared.verdict.Verdict.TheVariants as verdict
+use Rattle.tb_message.specs.Kinds.{party_of}
+use Rattle.tb_message.specs.Messages.{kind_of}
 use Rattle.tb_terms.specs.Rows.{Row, first_of}
-use Rattle.tb_history.specs.Entries.{is_same, operator, is_operators}
+use Rattle.tb_history.specs.Entries.{is_of_party}
 use Rattle.tb_history.specs.Roster.{registrations, is_caller, kept, sent_by}
 use Rattle.tb_history.specs.Tables.{rows_of}
 use Rattle.tb_history.specs.Same.{same_message}
@@ -16,9 +18,9 @@ use Rattle.tb_history.specs.Same.{same_message}
 abbrev pub refused : Row → Verdict × Bool
 refused row = (verdict.Refused row.0, row.1)
 
--- a kind belongs to the operator or to submitters
+-- the sender is of the party that may send messages of this kind
 abbrev pub is_permitted : List ℕ → Message → Bool
-is_permitted submitter message = if is_same submitter operator then is_operators message else not (is_operators message)
+is_permitted submitter message = is_of_party (party_of (kind_of message)) submitter
 
 -- what is told where a message stands under the number: the kept reply, where the message is the same one
 abbrev pub repeated : Entry → Message → Verdict

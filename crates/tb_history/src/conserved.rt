@@ -1,5 +1,5 @@
 //! What all participants hold of a bill is what is issued of it and not redeemed.
-ghost use Rattle.std.specs.Prelude.{◌≡◌, ℕ, ◌≤◌, ◌++◌, ◌∷◌, [], List, Some, true};
+ghost use Rattle.std.specs.Prelude.{◌≡◌, ℕ, ◌≤◌, ◌++◌, ◌∷◌, [], List, Some, true, false};
 ghost use Rattle.std.specs.Prelude.{sum_by, option_to_list, if◌then◌else◌};
 ghost use Rattle.std.specs.Option.{option_map};
 ghost use Rattle.tb_units.specs.Multiples.{most_par};
@@ -19,26 +19,27 @@ ghost use Rattle.tb_history.specs.Legal.{IsLegal, Follows};
 ghost use Rattle.tb_history.specs.Moves.{Numbering, numbering_of, movements_by, meaning_by, has_bill};
 ghost use Rattle.tb_history.specs.Moves.{participants_of, as_moved, AreNumbered};
 
-/// Holds of every legal history and every bill that is announced in it. It does nothing.
+/// Holds of every legal history and every bill. It does nothing.
 pub fn par_is_conserved()
     ensures holdings { (history : List Entry) (cusip : Cusip)
         → IsLegal history
-        → has_bill (announcements history) cusip.bytes ≡ true
         → sum_by (λ (r : Registration). held_of history r.submitter cusip) (registrations history)
         ≡ (if is_redeemed (redemptions history) cusip then 0 else issued history cusip) }
     // After the redemption the participants were paid what was issued.
     ensures payments { (history : List Entry) (cusip : Cusip)
         → IsLegal history
-        → has_bill (announcements history) cusip.bytes ≡ true
         → is_redeemed (redemptions history) cusip ≡ true
         → sum_by (λ (r : Registration). paid_to history r.submitter cusip) (registrations history)
         ≡ issued history cusip }
     // Nobody has pledged more than it holds.
     ensures covered { (history : List Entry) (participant : List ℕ) (cusip : Cusip)
         → IsLegal history
-        → has_bill (announcements history) cusip.bytes ≡ true
-        → is_registered (registrations history) participant ≡ true
         → pledged_of history participant cusip ≤ held_of history participant cusip }
+    // Whoever isn't registered holds nothing, and was paid nothing.
+    ensures strangers { (history : List Entry) (stranger : List ℕ) (cusip : Cusip)
+        → IsLegal history
+        → is_registered (registrations history) stranger ≡ false
+        → (held_of history stranger cusip ≡ 0) × (paid_to history stranger cusip ≡ 0) }
     // What is issued of a bill is no more than is summed up.
     ensures limited { (history : List Entry) (cusip : Cusip) → IsLegal history → issued history cusip ≤ most_par }
 {}

@@ -12,6 +12,7 @@ mod reading;
 mod readings;
 mod roster;
 mod sealed;
+mod sound;
 mod stable;
 
 pub use accounts::{Mark, Release, Transfer};
@@ -23,4 +24,5 @@ pub use reading::{Awards, Bids, Holdings, Listing, Reading, Redemption};
 pub use readings::{AwardLine, BidLine, Figures, HoldingLine, PaidLine, Results, readings_are_one};
 pub use roster::{Enrolment, Registration};
 pub use sealed::replies_are_sealed;
+pub use sound::sound_bids_are_accepted;
 pub use stable::awards_are_final;

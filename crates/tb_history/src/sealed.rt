@@ -32,7 +32,12 @@ pub fn replies_are_sealed()
         → own_part submitter one ≡ own_part submitter other
         → moves_par message ≡ false
         → verdict_on one submitter number moment message ≡ verdict_on other submitter number moment message }
-    // So it is by the sender's key, wherever the running moments agree.
+    // A key is the same caller's on every own part.
+    ensures keys { (history : List Entry) (name submitter : List ℕ) (key : Key)
+        → IsLegal history
+        → caller_of (registrations (own_part submitter history)) name key
+        ≡ caller_of (registrations history) name key }
+    // So the verdict by the sender's key is the same, wherever the running moments agree.
     ensures by_key { (history : List Entry) (name submitter : List ℕ) (key : Key) (number : ℕ) (moment other : Moment)
         (message : Message)
         → IsLegal history
@@ -42,10 +47,16 @@ pub fn replies_are_sealed()
         → verdict_for history (caller_of (registrations history) name key) number moment message
         ≡ verdict_for (own_part submitter history) (caller_of (registrations (own_part submitter history)) name key)
         number other message }
-    // A query is refused alike.
+    // A query is refused alike, and so it is by the sender's key.
     ensures queries { (history : List Entry) (submitter : List ℕ) (query : Query)
         → IsLegal history
         → query_refusal history submitter query ≡ query_refusal (own_part submitter history) submitter query }
+    ensures queries_by_key { (history : List Entry) (name submitter : List ℕ) (key : Key) (query : Query)
+        → IsLegal history
+        → caller_of (registrations history) name key ≡ Some submitter
+        → refusal_for history (caller_of (registrations history) name key) query
+        ≡ refusal_for (own_part submitter history) (caller_of (registrations (own_part submitter history)) name key)
+        query }
     // Results and awards are refused while they aren't published.
     ensures unpublished { (history : List Entry) (submitter auction : List ℕ)
         → is_published history auction ≡ false

@@ -72,5 +72,5 @@ pub standing-same : {D : Type 0} (disk : D → DiskState) (old new : DeskView D)
     → new.host.history ≡ old.host.history
     → standing (disk new.disk) new ≡ standing (disk old.disk) old
 standing-same disk old new same history =
-    stands-is (standing (disk new.disk) new) old.host.history old.doubt (disk old.disk).faults history same.doubt
-    (ap (λ (d : DiskState). d.faults) (ap disk same.disk))
+    stands-is (standing (disk new.disk) new) old.host.history old.doubt (disk old.disk).faults old.doubted history
+    same.doubt (ap (λ (d : DiskState). d.faults) (ap disk same.disk)) same.doubted

@@ -1,6 +1,5 @@
 -- A text that begins with a book has no line outside the grammar up to its end.
-use Rattle.std.proofs.Common.{◌≡◌, ℕ, ◌+◌, ◌<◌, List, [], ◌∷◌, ◌++◌, length, sym, subst, ◌∙◌, refl, arith, ◌⊎◌, inl, inr}
-use Rattle.tb_link.specs.Counts.{Rose}
+use Rattle.std.proofs.Common.{◌≡◌, ℕ, ◌+◌, ◌<◌, List, [], ◌∷◌, ◌++◌, length, sym, subst, ◌∙◌, refl, arith, inl, inr}
 use Rattle.tb_link.specs.Sources.{SourceState}
 use Rattle.tb_link.specs.Sinks.{SinkState}
 use Rattle.std.specs.Prelude.{Some, Bool}
@@ -10,12 +9,15 @@ use Rattle.tb_host.specs.Told.{WhereTold}
 use Rattle.tb_host.specs.Books.{Adds, AreEntries, Book, IsBadFirst, IsBadNext, IsEntry, HasBadLine, HasBook, IsFront, empty_book}
 use Rattle.tb_host.specs.LineEnds.{most_lines}
 use Rattle.tb_host.specs.AwardRun.{AwardEnds, Printed, PrintedPrefix}
-use Rattle.tb_host.specs.Endings.{status_of}
+use Rattle.tb_disk.specs.Disks.{DiskState}
+use Rattle.tb_words.specs.declared.command.Command.TheVariants as command
+use Rattle.tb_host.specs.Completeness.{Completes}
+use Rattle.tb_host.specs.Endings.{of_text}
 use Rattle.tb_host.specs.declared.book_line.BookLine.TheVariants as kind
 use Rattle.tb_host.specs.declared.book_line.Entry.{Entry}
 use Rattle.tb_host.specs.declared.book_line.Offering.{Offering}
-use Rattle.tb_host.specs.declared.ending.Ending.{Ending}
-use Rattle.tb_host.specs.declared.ending.Ending.TheVariants as ending
+use Rattle.tb_host.specs.declared.command_endings.TextEnding.{TextEnding}
+use Rattle.tb_host.specs.declared.command_endings.TextEnding.TheVariants as ending
 use Rattle.tb_host.proofs.NumberingLemmas.{adds-one}
 use Rattle.tb_host.proofs.SameLemmas.{Spells-one}
 
@@ -137,57 +139,45 @@ HasBook-good texts has bad = elim bad.1 [
 ]
 
 -- an input that begins with a book, in the words of the run
-printed_book : (full : Bool) (input : SourceState) (out out' : SinkState) (text : List ℕ)
-    → WhereTold input.left (Printed full out out')
+printed_book : (full : Bool) (input input' : SourceState) (out out' : SinkState) (text : List ℕ)
+    → WhereTold input.left (Printed full input input' out out')
     → input.left ≡ Some text
     → HasBook (lines text)
-printed_book full input out out' text printed told = let p = (printed text told).run in (p.offering, p.book, p.begins)
+printed_book full input input' out out' text printed told =
+    let p = (printed text told).run in (p.offering, p.book, p.begins)
 
 -- the same where a prefix was printed
-prefix_book : (full : Bool) (input : SourceState) (out out' : SinkState) (text : List ℕ)
-    → WhereTold input.left (PrintedPrefix full out out')
+prefix_book : (full : Bool) (input input' : SourceState) (out out' : SinkState) (text : List ℕ)
+    → WhereTold input.left (PrintedPrefix full input input' out out')
     → input.left ≡ Some text
     → HasBook (lines text)
-prefix_book full input out out' text printed told = let p = (printed text told).run in (p.offering, p.book, p.begins)
+prefix_book full input input' out out' text printed told =
+    let p = (printed text told).run in (p.offering, p.book, p.begins)
 
--- a book is answered
-pub award_complete : (full : Bool) (ended : Ending) (input input' : SourceState) (out out' : SinkState) (text : List ℕ)
-    → AwardEnds full ended input input' out out'
-    → input.left ≡ Some text
-    → HasBook (lines text)
-    → ¬ (Rose input.faults input'.faults)
-    → ¬ (Rose out.faults out'.faults)
-    → (status_of ended ≡ 0) ⊎ (status_of ended ≡ 9)
-award_complete full ending.Done input input' out out' text ends told book no_read no_write = inl refl
-award_complete full ending.Usage input input' out out' text ends told book no_read no_write = absurd ends
-award_complete full (ending.BadInput number) input input' out out' text ends told book no_read no_write =
-    absurd (HasBook-good (lines text) book (number, ends.1 text told))
-award_complete full ending.ReadFault input input' out out' text ends told book no_read no_write =
-    absurd (no_read ends.1)
-award_complete full ending.WriteFault input input' out out' text ends told book no_read no_write =
-    absurd (no_write ends.0)
-award_complete full ending.DiskFault input input' out out' text ends told book no_read no_write = absurd ends
-award_complete full (ending.NotAJournal found) input input' out out' text ends told book no_read no_write = absurd ends
-award_complete full (ending.Damaged place) input input' out out' text ends told book no_read no_write = absurd ends
-award_complete full ending.OutOfMemory input input' out out' text ends told book no_read no_write = inr refl
-award_complete full ending.GateFault input input' out out' text ends told book no_read no_write = absurd ends
-
--- an input outside the grammar is refused
-pub award_refused : (full : Bool) (ended : Ending) (input input' : SourceState) (out out' : SinkState) (text : List ℕ)
-    → AwardEnds full ended input input' out out'
-    → input.left ≡ Some text
-    → HasBadLine (lines text)
-    → ¬ (Rose input.faults input'.faults)
-    → (status_of ended ≡ 3) ⊎ (status_of ended ≡ 9)
-award_refused full ending.Done input input' out out' text ends told bad no_read =
-    absurd (HasBook-good (lines text) (printed_book full input out out' text ends told) bad)
-award_refused full ending.Usage input input' out out' text ends told bad no_read = absurd ends
-award_refused full (ending.BadInput number) input input' out out' text ends told bad no_read = inl refl
-award_refused full ending.ReadFault input input' out out' text ends told bad no_read = absurd (no_read ends.1)
-award_refused full ending.WriteFault input input' out out' text ends told bad no_read =
-    absurd (HasBook-good (lines text) (prefix_book full input out out' text ends.1 told) bad)
-award_refused full ending.DiskFault input input' out out' text ends told bad no_read = absurd ends
-award_refused full (ending.NotAJournal found) input input' out out' text ends told bad no_read = absurd ends
-award_refused full (ending.Damaged place) input input' out out' text ends told bad no_read = absurd ends
-award_refused full ending.OutOfMemory input input' out out' text ends told bad no_read = inr refl
-award_refused full ending.GateFault input input' out out' text ends told bad no_read = absurd ends
+-- a book is answered, and an input outside the grammar is refused
+pub award-completes : (full : Bool) (own : TextEnding) (input input' : SourceState) (out out' : SinkState)
+    (disk : DiskState)
+    → AwardEnds full own input input' out out'
+    → Completes (command.Award full) input disk (of_text own)
+award-completes full ending.Done input input' out out' disk ends = λ text told. record {
+  answered = λ book. inr (inl refl);
+  refused = λ bad.
+      absurd (HasBook-good (lines text) (printed_book full input input' out out' text ends.0.told told) bad);
+}
+award-completes full (ending.BadInput number) input input' out out' disk ends = λ text told. record {
+  answered = λ book. absurd (HasBook-good (lines text) book (number, (ends.1.told text told).bad));
+  refused = λ bad. inr (number, refl);
+}
+award-completes full ending.ReadFault input input' out out' disk ends = λ text told. record {
+  answered = λ book. inl (inl refl);
+  refused = λ bad. inl (inl refl);
+}
+award-completes full ending.WriteFault input input' out out' disk ends = λ text told. record {
+  answered = λ book. inr (inr (inl refl));
+  refused = λ bad.
+      absurd (HasBook-good (lines text) (prefix_book full input input' out out' text ends.1.told told) bad);
+}
+award-completes full ending.OutOfMemory input input' out out' disk ends = λ text told. record {
+  answered = λ book. inl (inr refl);
+  refused = λ bad. inl (inr refl);
+}

@@ -78,7 +78,7 @@ pub record OpenedAndLeft (old mid new : DiskState) (first last : Standing) (reco
   pub harmless : Told old mid IsHarmless
   pub grown : HasGrown first last
   pub final_count : last.faults ≡ new.faults
-  pub since : CrashesSince mid new last.history last.doubt recovered faults
+  pub since : CrashesSince mid new last.history last.doubt recovered faults last.doubted
   pub counted : (mid.faults + faults ≤ new.faults) ⊎ (new.faults ≡ last_count)
 
 -- each crash during the command, where the desk was opened
@@ -86,7 +86,6 @@ pub CrashesKeep-here : (old mid new : DiskState) (first last : Standing) (recove
     → OpenedAndLeft old mid new first last recovered faults
     → CrashesKeep old new first last
 CrashesKeep-here old mid new first last recovered faults desk = record {
-  groups = groups;
   each = subst (λ (n : ℕ). All (WasAccepted last.history n) groups) desk.recovers desk.since.each;
   few = fewer desk.since.few desk.counted;
   leaves = Told-both Both (λ before now. Leaves Begins before now)
@@ -98,7 +97,7 @@ CrashesKeep-here old mid new first last recovered faults desk = record {
 }
   where
     groups : List PlacedGroup
-    groups = desk.since.groups
+    groups = last.doubted
 
     Begins : List ℕ → Type 0
     Begins = IsBeginningOr groups last.history (length first.history)
@@ -122,7 +121,7 @@ CrashesKeep-here old mid new first last recovered faults desk = record {
 pub record WasOpened {D : Type 0} (disk : D → DiskState) (old : DiskState) (opened : DeskView D) : Type 0 where
   pub exact : IfSome old.past (λ past. IsExact (contents_of past) (Ok opened.host.history))
   pub made : (opened.doubt ≡ []) × (opened.recovered ≡ length opened.host.history) × (opened.faults ≡ 0)
-      × (opened.opened ≡ opened.disk)
+      × (opened.opened ≡ opened.disk) × (opened.doubted ≡ [])
   pub no_fault : (disk opened.disk).faults ≡ old.faults
   pub harmless : Told old (disk opened.disk) IsHarmless
 
@@ -137,7 +136,7 @@ pub record WasClosed {D : Type 0} (disk : D → DiskState) (opened closed : Desk
       (λ past. StandsForEither closed.host.history closed.doubt (contents_of past))
   pub leaves : LeavesEither (disk left) closed.host.history closed.doubt
   pub since : CrashesSince (disk closed.opened) (disk left) closed.host.history closed.doubt closed.recovered
-      closed.faults
+      closed.faults closed.doubted
   pub counted : ((disk closed.opened).faults + closed.faults ≤ (disk left).faults)
       ⊎ ((disk left).faults ≡ last_count)
 
@@ -151,6 +150,7 @@ Keeps-closed {D} disk old opened closed left begun done = record {
     stood = begun.exact;
     legal = IsLegal-first first last done.grown done.legal;
     sure = begun.made.0;
+    none = begun.made.4;
     count = begun.no_fault;
   };
   grown = done.grown;
@@ -169,7 +169,7 @@ Keeps-closed {D} disk old opened closed left begun done = record {
     grown = done.grown;
     final_count = count;
     since = subst (λ (d : D). CrashesSince (disk d) (disk left) closed.host.history closed.doubt closed.recovered
-        closed.faults) same done.since;
+        closed.faults closed.doubted) same done.since;
     counted = subst (λ (d : D). ((disk d).faults + closed.faults ≤ (disk left).faults)
         ⊎ ((disk left).faults ≡ last_count)) same done.counted;
   });

@@ -43,7 +43,8 @@ use Rattle.tb_session.specs.declared.called.Outcome.TheVariants as outcome
 use Rattle.tb_session.specs.Calls.{caller_on, ComesOut, IsAnswerBy, Tells, TellsQuery}
 use Rattle.tb_session.specs.Codes.{Made, operator_in}
 use Rattle.tb_host.specs.DiskRun.{Stays}
-use Rattle.tb_host.specs.Headline.{IsAnsweredIn, OneHistory, Acknowledges, KeepsOnce, KeepsAcknowledged, ReadsPublished, IsInTime, IsByTheRule, TellsByTheRule, AsksSealed, RunAlike, IsDecided, AreSealed, HoldingsAddUp}
+use Rattle.tb_host.specs.Headline.{IsAnsweredIn, OneHistory, Acknowledges, KeepsOnce, KeepsAcknowledged, ReadsPublished, IsInTime, IsByTheRule, TellsByTheRule, AsksSealed, RunAlike, IsDecided, AreSealed, AddsUp, Headline, HoldingsAddUp}
+use Rattle.tb_host.specs.ScriptHeadline.{CameInTime}
 use Rattle.tb_host.specs.Standings.{Standing}
 use Rattle.tb_host.proofs.SealedLemmas.{verdict-own}
 
@@ -95,7 +96,7 @@ kept-once last doubt e file legal accepted has (inr stands) = record {
 }
 
 -- where the disk tells what has happened to it
-kept-told : (past : Option Past) (disk : DiskState) (last : Standing) (e : Entry)
+pub kept-told : (past : Option Past) (disk : DiskState) (last : Standing) (e : Entry)
     → disk.past ≡ past
     → Stays last disk
     → Contains last.history e
@@ -119,7 +120,7 @@ kept-told (Some past) disk last e is stays has = λ file either. kept file eithe
         kept-once last.history last.doubt e file stays.legal stays.accepted has (leaves file left)
 
 -- Recovery keeps every acknowledged message, once.
-pub KeepsAcknowledged-here : (fixed : List ℕ) (first last : Standing) (more : List Entry) (disk : DiskState)
+KeepsAcknowledged-here : (fixed : List ℕ) (first last : Standing) (more : List Entry) (disk : DiskState)
     (calls : List Made)
     → OneHistory fixed first last more calls
     → Stays last disk
@@ -141,21 +142,37 @@ each-placed P whole front (e ∷ es) is each =
     (each-placed P whole (front ++ e ∷ []) es (is ∙ sym (append_assoc front (e ∷ []) es)) each)
 
 -- a bid that was let through is of an announced auction, and came before the closing for its kind
-record CameInTime (found : Option Announcement) (moment : Moment) (rate : Option Rate) : Type 0 where
-  pub a : Announcement
-  pub is : found ≡ Some a
-  pub in_time : moment.seconds < (closing_for a rate).seconds
+abbrev pub WasInTime : Option Announcement → Moment → Option Rate → Type 0
+WasInTime found moment rate =
+    (a : Announcement) × (found ≡ Some a) × (moment.seconds < (closing_for a rate).seconds)
 
-came-in-time : (found : Option Announcement) (enrolled : Bool) (bidder : Bidder) (moment : Moment)
+was-in-time : (found : Option Announcement) (enrolled : Bool) (bidder : Bidder) (moment : Moment)
     (rate : Option Rate) (amount : ℕ)
     → AllByRecursion IsClear (bid_rows found enrolled bidder moment rate amount)
-    → CameInTime found moment rate
-came-in-time None enrolled bidder moment rate amount clear = absurd (let wrong : true ≡ false = clear.0 in cc)
-came-in-time (Some a) enrolled bidder moment rate amount clear = record {
-  a = a;
-  is = refl;
-  in_time = omega (arith, leb-false (closing_for a rate).seconds moment.seconds clear.1.1.1.1.0);
-}
+    → WasInTime found moment rate
+was-in-time None enrolled bidder moment rate amount clear = absurd (let wrong : true ≡ false = clear.0 in cc)
+was-in-time (Some a) enrolled bidder moment rate amount clear =
+    (a, refl, omega (arith, leb-false (closing_for a rate).seconds moment.seconds clear.1.1.1.1.0))
+
+-- so did each bid of a legal history
+pub bids-in-time : (history : List Entry) → IsLegal history → All (CameInTime history) history
+bids-in-time history legal = each-placed (CameInTime history) history [] history refl each
+  where
+    each : (before : List Entry) (e : Entry) (behind : List Entry)
+        → history ≡ before ++ e ∷ behind
+        → CameInTime history e
+    each before e behind is auction bidder rate amount bids =
+        let follows = IsLegal-follows behind before e (subst IsLegal is legal) in
+        let passed = accepted-passes before e.submitter e.number e.moment e.message follows.accepted in
+        let clear : AllByRecursion IsClear
+        (rows_of before e.submitter e.moment (message.Bid auction bidder rate amount)) =
+        subst (λ (m : Message). AllByRecursion IsClear (rows_of before e.submitter e.moment m)) bids passed.rows in
+        let was = was-in-time (announcement_of (announcements before) auction) _ _ e.moment rate _ clear in (
+          was.0,
+          subst (λ (h : List Entry). announcement_of (announcements h) auction ≡ Some was.0) (sym is)
+              (announced-more (e ∷ behind) before auction was.0 was.1),
+          was.2,
+        )
 
 -- one found announcement is one
 some-one : (one other : Announcement) → Some one ≡ Some other → one ≡ other
@@ -166,25 +183,13 @@ in-time : (history : List Entry) (auction : List ℕ) (a : Announcement)
     → IsLegal history
     → announcement_of (announcements history) auction ≡ Some a
     → All (IsInTime a) history
-in-time history auction a legal announced = each-placed (IsInTime a) history [] history refl each
-  where
-    each : (before : List Entry) (e : Entry) (behind : List Entry) → history ≡ before ++ e ∷ behind → IsInTime a e
-    each before e behind is named bidder rate amount bids whose =
-        let follows = IsLegal-follows behind before e (subst IsLegal is legal) in
-        let passed = accepted-passes before e.submitter e.number e.moment e.message follows.accepted in
-        let clear : AllByRecursion IsClear
-        (rows_of before e.submitter e.moment (message.Bid named bidder rate amount)) =
-        subst (λ (m : Message). AllByRecursion IsClear (rows_of before e.submitter e.moment m)) bids passed.rows in
-        let came = came-in-time (announcement_of (announcements before) named) _ _ e.moment rate _ clear in
-        let later : announcement_of (announcements history) named ≡ Some came.a =
-        subst (λ (h : List Entry). announcement_of (announcements h) named ≡ Some came.a) (sym is)
-        (announced-more (e ∷ behind) before named came.a came.is) in
-        let same_name : a.auction ≡ auction = announced-name (announcements history) auction a announced in
-        let here : announcement_of (announcements history) named ≡ Some a =
-        subst (λ (n : List ℕ). announcement_of (announcements history) n ≡ Some a)
-        (sym (whose ∙ same_name)) announced in
-        subst (λ (x : Announcement). e.moment.seconds < (closing_for x rate).seconds)
-        (some-one came.a a (sym later ∙ here)) came.in_time
+in-time history auction a legal announced = λ k d within named bidder rate amount bids whose.
+    let came = bids-in-time history legal k d within named bidder rate amount bids in
+    let same_name : a.auction ≡ auction = announced-name (announcements history) auction a announced in
+    let here : announcement_of (announcements history) named ≡ Some a =
+    subst (λ (n : List ℕ). announcement_of (announcements history) n ≡ Some a) (sym (whose ∙ same_name)) announced in
+    subst (λ (x : Announcement). (get_or history k d).moment.seconds < (closing_for x rate).seconds)
+    (some-one came.0 a (sym came.1 ∙ here)) came.2
 
 -- what is read of an auction as published is so
 published-of : (history : List Entry) (caller auction : List ℕ) (asked : Query)
@@ -226,7 +231,7 @@ announced-of history caller auction query.Holdings read whose is = absurd whose
 announced-of history caller auction (query.Redemption cusip) read whose is = absurd whose
 
 -- a reading of it, where the query isn't refused
-by-the-rule : (last more history : List Entry) (caller auction : List ℕ) (asked : Query) (read : Reading)
+pub by-the-rule : (last more history : List Entry) (caller auction : List ℕ) (asked : Query) (read : Reading)
     → IsLegal last
     → last ≡ history ++ more
     → ReadsPublished asked auction
@@ -268,7 +273,7 @@ query-read history caller asked None read told = told
 query-read history caller asked (Some moment) read told = absurd told
 
 -- Published awards and price are the circular's rule on the bids accepted before closing.
-pub TellsByTheRule-here : (fixed : List ℕ) (first last : Standing) (more : List Entry) (calls : List Made)
+TellsByTheRule-here : (fixed : List ℕ) (first last : Standing) (more : List Entry) (calls : List Made)
     → OneHistory fixed first last more calls
     → TellsByTheRule fixed last.history calls
 TellsByTheRule-here fixed first last more calls one = λ k d within caller asked auction read known asks whose is.
@@ -325,7 +330,7 @@ tells-own history caller (ask.BadShape which) (Some moment) other said legal sea
 tells-own history caller (ask.BadShape which) None (Some other) said legal sealed alike is = absurd alike
 
 -- Until publication replies depend only on the submitter's own messages, the operator's and the moments.
-pub AreSealed-here : (fixed : List ℕ) (first last : Standing) (more : List Entry) (calls : List Made)
+AreSealed-here : (fixed : List ℕ) (first last : Standing) (more : List Entry) (calls : List Made)
     → OneHistory fixed first last more calls
     → AreSealed fixed calls
 AreSealed-here fixed first last more calls one = λ k d within caller said other known sealed is may alike.
@@ -336,11 +341,28 @@ AreSealed-here fixed first last more calls one = λ k d within caller said other
 
 -- ---- holdings add up
 
+-- they do in each legal history
+pub AddsUp-legal : (history : List Entry) → IsLegal history → AddsUp history
+AddsUp-legal history legal = λ cusip bill. held-sum history cusip legal bill
+
 -- Holdings sum to the unredeemed issue.
-pub HoldingsAddUp-here : (fixed : List ℕ) (first last : Standing) (more : List Entry) (calls : List Made)
+HoldingsAddUp-here : (fixed : List ℕ) (first last : Standing) (more : List Entry) (calls : List Made)
     → OneHistory fixed first last more calls
     → HoldingsAddUp last.history calls
 HoldingsAddUp-here fixed first last more calls one = (
-  λ k d within cusip bill. held-sum (get_or calls k d).history cusip (one.answered k d within).answered.legal bill,
-  λ cusip bill. held-sum last.history cusip one.legal bill,
+  λ k d within. AddsUp-legal (get_or calls k d).history (one.answered k d within).answered.legal,
+  AddsUp-legal last.history one.legal,
 )
+
+-- the five parts of the headline, of one run
+pub Headline-here : (fixed : List ℕ) (disk : DiskState) (first last : Standing) (more : List Entry) (calls : List Made)
+    → OneHistory fixed first last more calls
+    → Stays last disk
+    → Headline fixed disk first last more calls
+Headline-here fixed disk first last more calls one stays = record {
+  one_history = one;
+  keeps = KeepsAcknowledged-here fixed first last more disk calls one stays;
+  by_the_rule = TellsByTheRule-here fixed first last more calls one;
+  sealed = AreSealed-here fixed first last more calls one;
+  holdings = HoldingsAddUp-here fixed first last more calls one;
+}

@@ -1,150 +1,207 @@
--- What the program's status says of the command.
-use Rattle.std.proofs.Common.{◌≡◌, ◌≢◌, ◌<◌, ◌⊎◌, ℕ, List, inl, inr, ap, subst, refl, arith}
-use Rattle.std.specs.Prelude.{Bool}
-use Rattle.std.specs.Str.Lines.{lines}
+-- What the record of a command says of how the program ends.
+use Rattle.std.proofs.Common.{◌≡◌, ℕ, List, Bool, subst, sym, ◌∙◌, refl, arith}
 use Rattle.tb_link.specs.Sources.{SourceState}
 use Rattle.tb_link.specs.Sinks.{SinkState}
-use Rattle.tb_disk.specs.Disks.{DiskState}
+use Rattle.tb_gates.specs.Clocks.{ClockState}
+use Rattle.tb_gates.specs.Gates.{GateState}
 use Rattle.tb_desk.specs.declared.fault.OpenFault.{OpenFault}
 use Rattle.tb_desk.specs.declared.fault.OpenFault.TheVariants as fault
-use Rattle.tb_host.specs.AwardRun.{AwardEnds, Printed, PrintedPrefix}
-use Rattle.tb_host.specs.Books.{IsBadLine}
-use Rattle.tb_host.specs.DiskRun.{OnDesk}
-use Rattle.tb_host.specs.Endings.{Tells, ending_of, message_of, status_of}
-use Rattle.tb_host.specs.HostRun.{Reports, TellsLine, ToldUnopened}
-use Rattle.tb_host.specs.RunEnds.{BrokenOff, CutOff, Devices, EndsOnDisk, Finished, LeftOff, NotBegun, RunEnds, ScriptEnds, Stopped}
-use Rattle.tb_host.specs.Standings.{Standing}
-use Rattle.tb_host.specs.Told.{WhereTold}
+use Rattle.tb_message.specs.declared.key.Key.{Key}
+use Rattle.tb_message.specs.declared.query.Query.{Query}
+use Rattle.tb_words.specs.Commands.{AreWordsOf}
+use Rattle.tb_words.specs.declared.command.Command.{Command}
+use Rattle.tb_words.specs.declared.command.Command.TheVariants as command
+use Rattle.tb_words.proofs.OneCommandLemmas.{one_command}
+use Rattle.tb_host.specs.Completeness.{Completes}
+use Rattle.tb_host.specs.Endings.{IsUnopened, ending_of, of_disk, of_print, of_serve, of_text}
+use Rattle.tb_host.specs.HostRun.{EndsAs, Objects, Reports, devices, handed}
+use Rattle.tb_host.specs.ReportRun.{ReportEnds, inquiry}
+use Rattle.tb_host.specs.RunEnds.{Devices, NotBegun}
+use Rattle.tb_host.specs.declared.command_endings.DiskEnding.{DiskEnding}
+use Rattle.tb_host.specs.declared.command_endings.DiskEnding.TheVariants as disk_ending
+use Rattle.tb_host.specs.declared.command_endings.PrintEnding.{PrintEnding}
+use Rattle.tb_host.specs.declared.command_endings.PrintEnding.TheVariants as print_ending
+use Rattle.tb_host.specs.declared.command_endings.ServeEnding.{ServeEnding}
+use Rattle.tb_host.specs.declared.command_endings.ServeEnding.TheVariants as serve_ending
+use Rattle.tb_host.specs.declared.command_endings.TextEnding.{TextEnding}
+use Rattle.tb_host.specs.declared.command_endings.TextEnding.TheVariants as text_ending
 use Rattle.tb_host.specs.declared.ending.Ending.{Ending}
 use Rattle.tb_host.specs.declared.ending.Ending.TheVariants as ending
-use Rattle.tb_host.proofs.EndingLemmas.{bad-at_3, done-at_0, memory-at_9, read-at_4, status-unopened, write-at_5}
+use Rattle.tb_host.specs.declared.report_command.Inquiry.{Inquiry}
+use Rattle.tb_host.proofs.CompleteLemmas.{award-completes}
+use Rattle.tb_host.proofs.DiskLemmas.{Unopened-untouched}
+use Rattle.tb_host.proofs.ImportEndLemmas.{import-completes}
+use Rattle.tb_host.proofs.ReportLemmas.{report-completes}
+use Rattle.tb_host.proofs.ScriptLawLemmas.{run-completes}
+use Rattle.tb_host.proofs.ServeHostLemmas.{serve-completes}
+use Rattle.tb_host.proofs.TrialLemmas.{trial-completes}
 
--- of an `award` that ended so
-module _ (full : Bool) (ended : Ending) (input input' : SourceState) (out out' : SinkState)
-    (ends : AwardEnds full ended input input' out out') where
-  -- the same of the ending that its status is of
-  award_as : (other : Ending) → ended ≡ other → AwardEnds full other input input' out out'
-  award_as other is = subst (λ (e : Ending). AwardEnds full e input input' out out') is ends
+-- what is told of an ending
+pub reports-as : (one other : Ending) (err err' : SinkState) → one ≡ other → Reports one err err' → Reports other err err'
+reports-as one other err err' same reports = subst (λ (e : Ending). Reports e err err') same reports
 
-  -- at 0 the text was printed
-  pub award-at_0 : status_of ended ≡ 0 → WhereTold input.left (Printed full out out')
-  award-at_0 is = award_as ending.Done (done-at_0 ended is)
-
-  -- at 3 the line that is told is the first outside the grammar
-  pub award-at_3 : (err err' : SinkState)
-      → status_of ended ≡ 3
-      → Reports ended err err'
-      → TellsLine input.left (λ number text. IsBadLine number (lines text)) err err'
-  award-at_3 err err' is told =
-      let bad = bad-at_3 ended is in
-      (bad.0, subst (λ (e : Ending). Reports e err err') bad.1 told, (award_as (ending.BadInput bad.0) bad.1).1)
-
-  -- at 5 a prefix of the text was printed
-  pub award-at_5 : status_of ended ≡ 5 → WhereTold input.left (PrintedPrefix full out out')
-  award-at_5 is = (award_as ending.WriteFault (write-at_5 ended is)).1
-
--- at every other status nothing was printed
-pub award-silent : (full : Bool) (ended : Ending) (input input' : SourceState) (out out' : SinkState)
-    → AwardEnds full ended input input' out out'
-    → status_of ended ≢ 0
-    → status_of ended ≢ 5
-    → out' ≡ out
-award-silent full ending.Done input input' out out' ends done wrote = absurd (done refl)
-award-silent full ending.Usage input input' out out' ends done wrote = absurd ends
-award-silent full (ending.BadInput number) input input' out out' ends done wrote = ends.0
-award-silent full ending.ReadFault input input' out out' ends done wrote = ends.0
-award-silent full ending.WriteFault input input' out out' ends done wrote = absurd (wrote refl)
-award-silent full ending.DiskFault input input' out out' ends done wrote = absurd ends
-award-silent full (ending.NotAJournal found) input input' out out' ends done wrote = absurd ends
-award-silent full (ending.Damaged place) input input' out out' ends done wrote = absurd ends
-award-silent full ending.OutOfMemory input input' out out' ends done wrote = ends
-award-silent full ending.GateFault input input' out out' ends done wrote = absurd ends
-
--- below 6 a command on the disk ended on a desk
-pub on_desk_of : (Holds : Standing → Standing → Type 0) (ended : Ending) (input input' : SourceState)
-    (old new : Devices)
-    → status_of ended < 6
-    → EndsOnDisk Holds ended input input' old new
-    → OnDesk old.disk new.disk Holds
-on_desk_of Holds ended input input' old new low (inl ends) = ends
-on_desk_of Holds ended input input' old new low (inr not_begun) =
-    absurd (omega (arith, ap status_of not_begun.ended_is, status-unopened not_begun.why))
-
--- what is so of where a script stood is so with less
-on_desk-weaker : (old new : DiskState) (Holds Less : Standing → Standing → Type 0)
-    → ((first last : Standing) → Holds first last → Less first last)
-    → OnDesk old new Holds
-    → OnDesk old new Less
-on_desk-weaker old new Holds Less less ends = (ends.0, ends.1, ends.2, less ends.0 ends.1 ends.3)
-
--- of a `run` that ended so
-module _ (operator : List ℕ) (ended : Ending) (input input' : SourceState) (old new : Devices)
-    (ends : RunEnds operator ended input input' old new) where
-  -- the same of the ending that its status is of
-  run_as : (other : Ending)
-      → ended ≡ other
-      → status_of other < 6
-      → OnDesk old.disk new.disk (ScriptEnds operator other input input' old.out new.out)
-  run_as other is low =
-      on_desk_of (ScriptEnds operator other input input' old.out new.out) other input input' old new low
-      (subst (λ (e : Ending). RunEnds operator e input input' old new) is ends)
-
-  -- at 0 the script was acted on
-  pub run-at_0 : status_of ended ≡ 0
-      → OnDesk old.disk new.disk (λ first last. WhereTold input.left (Finished operator old.out new.out first last))
-  run-at_0 is = run_as ending.Done (done-at_0 ended is) (omega arith)
-
-  -- at 3 the lines before the one that is told were acted on
-  pub run-at_3 : (err err' : SinkState)
-      → status_of ended ≡ 3
-      → Reports ended err err'
-      → OnDesk old.disk new.disk
-      (λ first last. TellsLine input.left (λ number. Stopped number operator old.out new.out first last) err err')
-  run-at_3 err err' is told =
-      let bad = bad-at_3 ended is in
-      let tells : Reports (ending.BadInput bad.0) err err' = subst (λ (e : Ending). Reports e err err') bad.1 told in
-      on_desk-weaker old.disk new.disk (ScriptEnds operator (ending.BadInput bad.0) input input' old.out new.out)
-      (λ first last. TellsLine input.left (λ number. Stopped number operator old.out new.out first last) err err')
-      (λ first last stopped. (bad.0, tells, stopped))
-      (run_as (ending.BadInput bad.0) bad.1 (omega arith))
-
-  -- at 4 the lines that were whole
-  pub run-at_4 : status_of ended ≡ 4
-      → OnDesk old.disk new.disk
-      (λ first last. WhereTold input.left (CutOff operator input'.left old.out new.out first last))
-  run-at_4 is =
-      on_desk-weaker old.disk new.disk (ScriptEnds operator ending.ReadFault input input' old.out new.out)
-      (λ first last. WhereTold input.left (CutOff operator input'.left old.out new.out first last))
-      (λ first last cut. cut.1) (run_as ending.ReadFault (read-at_4 ended is) (omega arith))
-
-  -- at 5 those to which the replies were taken, and one more
-  pub run-at_5 : status_of ended ≡ 5
-      → OnDesk old.disk new.disk (λ first last. WhereTold input.left (BrokenOff operator old.out new.out first last))
-  run-at_5 is =
-      on_desk-weaker old.disk new.disk (ScriptEnds operator ending.WriteFault input input' old.out new.out)
-      (λ first last. WhereTold input.left (BrokenOff operator old.out new.out first last))
-      (λ first last broken. broken.1) (run_as ending.WriteFault (write-at_5 ended is) (omega arith))
-
-  -- at 9 those to which the replies were taken, or the disk wasn't opened
-  pub run-at_9 : status_of ended ≡ 9
-      → OnDesk old.disk new.disk (λ first last. WhereTold input.left (LeftOff operator old.out new.out first last))
-      ⊎ NotBegun ending.OutOfMemory input input' old new
-  run-at_9 is = subst (λ (e : Ending). RunEnds operator e input input' old new) (memory-at_9 ended is) ends
-
--- a disk that wasn't opened, and why, is told
-pub unopened-told : (ended : Ending) (input input' : SourceState) (old new : Devices) (err err' : SinkState)
-    → NotBegun ended input input' old new
-    → Reports ended err err'
-    → ToldUnopened (status_of ended) old.disk new.disk err err'
-unopened-told ended input input' old new err err' not_begun told = record {
-  why = not_begun.why;
-  status_is = ap status_of not_begun.ended_is;
-  told = tells not_begun.why (subst (λ (e : Ending). Reports e err err') not_begun.ended_is told);
-  unopened = not_begun.unopened;
+-- where there was no memory no desk was opened
+not_begun-memory : (input : SourceState) (both : Devices) → NotBegun fault.OutOfMemory input input both both
+not_begun-memory input both = record {
+  unopened = Unopened-untouched both.disk;
+  unread = refl;
+  silent = refl;
 }
-  where
-    tells : (why : OpenFault) → Reports (ending_of why) err err' → Tells err err' (message_of (ending_of why))
-    tells fault.DiskFault reports = reports
-    tells (fault.NotAJournal found) reports = reports
-    tells (fault.Damaged place) reports = reports
-    tells fault.OutOfMemory reports = reports
+
+-- an ending on a desk is none of a disk that wasn't opened
+pub text-opened : (own : TextEnding) → ¬ (IsUnopened (of_text own))
+text-opened text_ending.Done unopened = unopened
+text-opened (text_ending.BadInput number) unopened = unopened
+text-opened text_ending.ReadFault unopened = unopened
+text-opened text_ending.WriteFault unopened = unopened
+text-opened text_ending.OutOfMemory unopened = unopened
+
+-- nor is one of a command that only prints
+pub print-opened : (own : PrintEnding) → ¬ (IsUnopened (of_print own))
+print-opened print_ending.Done unopened = unopened
+print-opened print_ending.WriteFault unopened = unopened
+print-opened print_ending.OutOfMemory unopened = unopened
+
+-- so where the disk wasn't opened the command says so itself
+pub text-unopened : (own : DiskEnding TextEnding)
+    → IsUnopened (of_disk of_text own)
+    → (why : OpenFault) × (own ≡ disk_ending.Unopened why)
+text-unopened (disk_ending.Opened own) unopened = absurd (text-opened own unopened)
+text-unopened (disk_ending.Unopened why) unopened = (why, refl)
+
+pub print-unopened : (own : DiskEnding PrintEnding)
+    → IsUnopened (of_disk of_print own)
+    → (why : OpenFault) × (own ≡ disk_ending.Unopened why)
+print-unopened (disk_ending.Opened own) unopened = absurd (print-opened own unopened)
+print-unopened (disk_ending.Unopened why) unopened = (why, refl)
+
+-- no command ends as words outside the command set do
+text-known : (own : TextEnding) → ¬ (of_text own ≡ ending.Usage)
+text-known text_ending.Done is = cc
+text-known (text_ending.BadInput number) is = cc
+text-known text_ending.ReadFault is = cc
+text-known text_ending.WriteFault is = cc
+text-known text_ending.OutOfMemory is = cc
+
+print-known : (own : PrintEnding) → ¬ (of_print own ≡ ending.Usage)
+print-known print_ending.Done is = cc
+print-known print_ending.WriteFault is = cc
+print-known print_ending.OutOfMemory is = cc
+
+unopened-known : (why : OpenFault) → ¬ (ending_of why ≡ ending.Usage)
+unopened-known fault.DiskFault is = cc
+unopened-known (fault.NotAJournal found) is = cc
+unopened-known (fault.Damaged place) is = cc
+unopened-known fault.OutOfMemory is = cc
+
+disk-known : {E : Type 0} (of_own : E → Ending)
+    → ((own : E) → ¬ (of_own own ≡ ending.Usage))
+    → (own : DiskEnding E)
+    → ¬ (of_disk of_own own ≡ ending.Usage)
+disk-known of_own known (disk_ending.Opened own) is = known own is
+disk-known of_own known (disk_ending.Unopened why) is = unopened-known why is
+
+serve-known : (own : ServeEnding) → ¬ (of_serve own ≡ ending.Usage)
+serve-known serve_ending.Done is = cc
+serve-known serve_ending.WriteFault is = cc
+serve-known serve_ending.GateFault is = cc
+serve-known (serve_ending.Unserved why) is = unopened-known why is
+
+module _ {G K : Type 0} (gate : G → GateState K) (source : K → SourceState) (sink : K → SinkState)
+    (clock : ClockState) where
+  -- words that are of one command are of no other
+  pub EndsAs-asked : (texts : List (List ℕ)) (said asked : Command) (ended : Ending) (old new : Objects G)
+      → AreWordsOf said texts
+      → AreWordsOf asked texts
+      → EndsAs gate source sink said clock ended old new
+      → EndsAs gate source sink asked clock ended old new
+  EndsAs-asked texts said asked ended old new are are' ends =
+      subst (λ (c : Command). EndsAs gate source sink c clock ended old new) (one_command texts said asked are are')
+      ends
+
+  -- a report that was asked by the words of the command
+  pub EndsAs-report : (said : Command) (operator : List ℕ) (caller : Key) (query : Query) (csv : Bool)
+      (asked : Inquiry) (own : DiskEnding PrintEnding) (ended : Ending) (old new : Objects G)
+      → said ≡ command.Report operator caller query csv
+      → asked ≡ inquiry operator caller query csv
+      → ended ≡ of_disk of_print own
+      → ReportEnds asked own old.input new.input (devices old) (devices new)
+      → EndsAs gate source sink said clock ended old new
+  EndsAs-report said operator caller query csv asked own ended old new said_is asked_is is ends =
+      subst (λ (c : Command). EndsAs gate source sink c clock ended old new) (sym said_is) (
+        own,
+        is,
+        subst (λ (a : Inquiry). ReportEnds a own old.input new.input (devices old) (devices new)) asked_is ends,
+      )
+
+  -- where there was no memory to read the words nothing was done
+  pub EndsAs-memory : (said : Command) (objects : Objects G)
+      → EndsAs gate source sink said clock ending.OutOfMemory objects objects
+  EndsAs-memory (command.Award full) objects = (text_ending.OutOfMemory, refl, refl)
+  EndsAs-memory (command.Run operator) objects =
+      (disk_ending.Unopened fault.OutOfMemory, refl, not_begun-memory objects.input (devices objects))
+  EndsAs-memory (command.Serve operator port workers links) objects = (
+    serve_ending.Unserved fault.OutOfMemory,
+    refl,
+    record { unopened = Unopened-untouched objects.disk; untaken = refl; silent = refl },
+  )
+  EndsAs-memory (command.Import operator caller) objects = (
+    disk_ending.Unopened fault.OutOfMemory,
+    refl,
+    (
+      clock,
+      record {
+        ends = not_begun-memory objects.input (devices objects);
+        reads = λ text told. omega arith;
+      },
+    ),
+  )
+  EndsAs-memory (command.Report operator caller asked csv) objects = (
+    disk_ending.Unopened fault.OutOfMemory,
+    refl,
+    record {
+      ends = not_begun-memory objects.input (devices objects);
+      unread = refl;
+      steps = (Unopened-untouched objects.disk).refused;
+      harmless = (Unopened-untouched objects.disk).harmless;
+    },
+  )
+  EndsAs-memory (command.Trial seed count) objects = (print_ending.OutOfMemory, refl, refl)
+
+  -- each command is answered
+  pub Completes-here : (said : Command) (ended : Ending) (old new : Objects G)
+      → EndsAs gate source sink said clock ended old new
+      → Completes said old.input old.disk ended
+  Completes-here (command.Award full) ended old new (own, is, ends) =
+      subst (Completes (command.Award full) old.input old.disk) (sym is)
+      (award-completes full own old.input new.input old.out new.out old.disk ends)
+  Completes-here (command.Run operator) ended old new (own, is, ends) =
+      subst (Completes (command.Run operator) old.input old.disk) (sym is)
+      (run-completes operator own old.input new.input (devices old) (devices new) ends)
+  Completes-here (command.Serve operator port workers links) ended old new (own, is, ends) =
+      subst (Completes (command.Serve operator port workers links) old.input old.disk) (sym is)
+      (serve-completes gate source sink operator port workers links clock own old.input (handed old) (handed new) ends)
+  Completes-here (command.Import operator caller) ended old new (own, is, (read, ends)) =
+      subst (Completes (command.Import operator caller) old.input old.disk) (sym is)
+      (import-completes operator caller clock read own old.input new.input (devices old) (devices new) ends)
+  Completes-here (command.Report operator caller asked csv) ended old new (own, is, ends) =
+      subst (Completes (command.Report operator caller asked csv) old.input old.disk) (sym is)
+      (report-completes operator caller asked csv own old.input new.input (devices old) (devices new) ends)
+  Completes-here (command.Trial seed count) ended old new (own, is, ends) =
+      subst (Completes (command.Trial seed count) old.input old.disk) (sym is)
+      (trial-completes seed count own old.out new.out ends)
+
+  -- words that are a command don't end it as other words do
+  pub EndsAs-known : (said : Command) (ended : Ending) (old new : Objects G)
+      → EndsAs gate source sink said clock ended old new
+      → ¬ (ended ≡ ending.Usage)
+  EndsAs-known (command.Award full) ended old new (own, is, ends) usage = text-known own (sym is ∙ usage)
+  EndsAs-known (command.Run operator) ended old new (own, is, ends) usage =
+      disk-known of_text text-known own (sym is ∙ usage)
+  EndsAs-known (command.Serve operator port workers links) ended old new (own, is, ends) usage =
+      serve-known own (sym is ∙ usage)
+  EndsAs-known (command.Import operator caller) ended old new (own, is, ends) usage =
+      disk-known of_text text-known own (sym is ∙ usage)
+  EndsAs-known (command.Report operator caller asked csv) ended old new (own, is, ends) usage =
+      disk-known of_print print-known own (sym is ∙ usage)
+  EndsAs-known (command.Trial seed count) ended old new (own, is, ends) usage = print-known own (sym is ∙ usage)

@@ -13,7 +13,7 @@ use Rattle.tb_message.specs.declared.verdict.Verdict.{Verdict}
 use Rattle.tb_history.specs.Answer.{caller_of}
 use Rattle.tb_history.specs.Legal.{running}
 use Rattle.tb_history.specs.Roster.{registrations}
-use Rattle.tb_desk.specs.Desks.{Tells}
+use Rattle.tb_desk.specs.Desks.{Tells, doubted_by, told_by}
 use Rattle.tb_core.specs.House.{IsBid}
 use Rattle.tb_message.specs.Spelling.{IsNumbered}
 use Rattle.tb_desk.specs.Turn.{AreBids, AreNumbered, Asked, Replies, Turns, verdicts}
@@ -26,8 +26,8 @@ use Rattle.tb_host.specs.ImportSteps.{AreAsMany, GroupEnds, RowsEnd, SendsRuns}
 use Rattle.tb_host.specs.Standings.{Standing, held_at}
 use Rattle.tb_host.specs.Replies.{refused}
 use Rattle.tb_host.specs.Turns.{MakesTurn}
-use Rattle.tb_host.specs.declared.ending.Ending.{Ending}
-use Rattle.tb_host.specs.declared.ending.Ending.TheVariants as ending
+use Rattle.tb_host.specs.declared.command_endings.TextEnding.{TextEnding}
+use Rattle.tb_host.specs.declared.command_endings.TextEnding.TheVariants as ending
 use Rattle.tb_host.specs.declared.sender.Sender.{Sender}
 use Rattle.tb_host.proofs.GrownLemmas.{HasGrown-both, HasGrown-same}
 use Rattle.tb_host.proofs.TurnLemmas.{HasGrown-turn, MakesTurn-of}
@@ -66,7 +66,7 @@ module _ (sender : Sender) where
   )
 
   -- rows that are sent keep the history
-  sent-grown : (caller : Option (List ℕ)) (clock clock' : ClockState) (run : List SentRow) (old new : Standing)
+  pub sent-grown : (caller : Option (List ℕ)) (clock clock' : ClockState) (run : List SentRow) (old new : Standing)
       (text : List ℕ)
       → AreSent caller clock clock' run old text new
       → HasGrown old new
@@ -112,6 +112,7 @@ pub record AnswersGroup (gate : ℕ) (disk : DiskState) (asked : Asked) (old new
     pub count : NeverFalls old.faults new.faults
     pub fault : answer ≡ group.DiskFault → Rose old.faults new.faults
     pub no_fault : answer ≢ group.DiskFault → new.faults ≡ old.faults
+    pub doubted : new.doubted ≡ old.doubted ++ doubted_by (told_by answer) (held_at new)
 
 -- so it made a turn
 pub MakesTurn-group : (gate : ℕ) (disk : DiskState) (asked : Asked) (old new : Standing) (answer : GroupReply)
@@ -120,12 +121,12 @@ pub MakesTurn-group : (gate : ℕ) (disk : DiskState) (asked : Asked) (old new :
     → MakesTurn asked old new replies
 MakesTurn-group gate disk asked old new group.Verdicts places (Some given) says =
     MakesTurn-of gate disk asked old new (Some given) says.turns says.count (λ is. absurd (cc))
-    (λ some. says.no_fault (λ is. absurd (cc)))
+    (λ some. says.no_fault (λ is. absurd (cc))) says.doubted
 MakesTurn-group gate disk asked old new group.Verdicts places None says = absurd says.tells
 MakesTurn-group gate disk asked old new group.DiskFault places (Some given) says = absurd says.tells
 MakesTurn-group gate disk asked old new group.DiskFault places None says =
     MakesTurn-of gate disk asked old new None says.turns says.count (λ is. says.fault refl)
-    (λ some. absurd (some refl))
+    (λ some. absurd (some refl)) says.doubted
 
 -- it has as many verdicts as messages
 pub AreAsMany-turn : (asked : Asked) (old new : Standing) (replies : Replies)
@@ -230,8 +231,8 @@ module _ (sender : Sender) (clock : ClockState) (rows : List SentRow) (first : S
       (some : 1 ≤ length rest)
       (is : run ≡ take longest_run rest) where
     -- one run more
-    pub SendsRuns-next : (result : Option Ending)
-        → ((ended : Ending) → result ≡ Some ended → ⊥)
+    pub SendsRuns-next : (result : Option TextEnding)
+        → ((ended : TextEnding) → result ≡ Some ended → ⊥)
         → GroupEnds sender read clock' run result now new mid last
         → SendsRuns sender clock clock' rows first last (drop longest_run rest) (Takes out new)
     SendsRuns-next None on ends = (
@@ -279,19 +280,14 @@ module _ (sender : Sender) (clock : ClockState) (rows : List SentRow) (first : S
     )
 
     -- so the import ends in one of these ways
-    pub RowsEnd-here : (ended : Ending)
+    pub RowsEnd-here : (ended : TextEnding)
         → GroupEnds sender read clock' run (Some ended) now new mid last
         → RowsEnd sender clock clock' rows ended out new first last
     RowsEnd-here ending.Done ends = absurd ends
-    RowsEnd-here ending.Usage ends = ends
     RowsEnd-here (ending.BadInput number) ends = ends
     RowsEnd-here ending.ReadFault ends = ends
     RowsEnd-here ending.WriteFault ends = RowsEnd-write ends
-    RowsEnd-here ending.DiskFault ends = ends
-    RowsEnd-here (ending.NotAJournal found) ends = ends
-    RowsEnd-here (ending.Damaged place) ends = ends
     RowsEnd-here ending.OutOfMemory ends = RowsEnd-memory ends
-    RowsEnd-here ending.GateFault ends = ends
 
   -- all were sent
   pub RowsEnd-done : (clock' : ClockState) (last : Standing) (rest : List SentRow) (now : SinkState)

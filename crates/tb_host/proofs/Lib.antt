@@ -22,7 +22,6 @@ mod GrownLemmas
 mod DiskLemmas
 mod ScriptLemmas
 mod ScriptStepLemmas
-mod CommandLemmas
 mod EndingLemmas
 mod HexLemmas
 mod HostLemmas
@@ -30,7 +29,6 @@ mod ScriptLawLemmas
 mod OneRunLemmas
 mod SealedLemmas
 mod ExactLemmas
-mod HostCommandLemmas
 mod TrialLemmas
 mod AnswerLemmas
 mod ReportLemmas
@@ -38,9 +36,15 @@ mod OneHistoryLemmas
 mod HeadlineLemmas
 mod WriteLemmas
 mod ServeLemmas
-pub mod ServeWordLemmas
 mod ServeHostLemmas
+mod CauseLemmas
 mod TableLemmas
 mod RowLemmas
 mod ImportLemmas
 mod ImportEndLemmas
+mod DoubtedLemmas
+mod AnsweredLemmas
+mod ScriptHeadlineLemmas
+mod OwnLineLemmas
+mod ImportHeadlineLemmas
+mod OwnRowLemmas

@@ -1,5 +1,5 @@
 -- Lines have one run from a history.
-use Rattle.std.proofs.Common.{◌≡◌, ◌≢◌, ℕ, List, [], ◌∷◌, ◌++◌, sym, subst, ap, ◌∙◌, arith}
+use Rattle.std.proofs.Common.{◌≡◌, ◌≢◌, ℕ, List, [], ◌∷◌, ◌++◌, sym, subst, ap, ◌∙◌, arith, append-nil}
 use Rattle.std.specs.Prelude.{Option, Some, None, Result, Ok, Err}
 use Rattle.std.specs.Fmt.{decimal}
 use Rattle.tb_units.specs.Bytes.{blank}
@@ -115,7 +115,7 @@ reasons_one json fault.BadJson fault.OutOfMemory why why' is is' told told' = ab
 reasons_one json (fault.BadShape member) fault.OutOfMemory why why' is is' told told' = absurd (cc)
 
 -- a text asks one thing
-asks-one : (json : List ℕ) (one other : Result Request Refusal) → Asks json one → Asks json other → one ≡ other
+pub asks-one : (json : List ℕ) (one other : Result Request Refusal) → Asks json one → Asks json other → one ≡ other
 asks-one json (Ok one) (Ok other) is is' = ap Ok (one_asked json one other is is')
 asks-one json (Ok one) (Err why) is is' = absurd (no_request json one is'.0 why is is'.1 is'.2)
 asks-one json (Err why) (Ok other) is is' = absurd (no_request json other is.0 why is' is.1 is.2)
@@ -229,12 +229,13 @@ turn-one : (caller : List ℕ) (moment : Moment) (number : ℕ) (message : Messa
     → MakesTurn (asked_by caller moment number message) old new (replies_of answer)
     → new.faults ≡ old.faults
     → (answer ≡ turned.Verdict (verdict_on old.history caller number (running old.history moment) message))
-    × (new ≡ stands_at (old.history ++ group old.history (asked_by caller moment number message)) [] old.faults)
+    × (new ≡ stands_at (old.history ++ group old.history (asked_by caller moment number message)) [] old.faults
+    old.doubted)
 turn-one caller moment number message old new (turned.Verdict said) sure turn same =
     let gave = Gave-sure (asked_by caller moment number message) old new said sure.sure turn in (
       ap turned.Verdict (said-is old.history caller moment number message said new gave),
-      stands-is new (old.history ++ group old.history (asked_by caller moment number message)) [] old.faults gave.grown
-          gave.sure same,
+      stands-is new (old.history ++ group old.history (asked_by caller moment number message)) [] old.faults
+          old.doubted gave.grown gave.sure same (turn.doubted ∙ append-nil old.doubted),
     )
 turn-one caller moment number message old new turned.DiskFault sure turn same =
     absurd (no-fault old.faults new.faults same sure.counting turn.counts.1)

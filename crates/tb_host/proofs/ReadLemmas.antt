@@ -1,17 +1,18 @@
 -- Reading the entries of a book, from line to line.
-use Rattle.std.proofs.Common.{◌≡◌, ◌≢◌, ℕ, ◌+◌, ◌^◌, ◌<◌, ◌≤◌, List, [], ◌∷◌, ◌++◌, length, sym, subst, ap, ◌∙◌, refl, arith, append_assoc, inl, inr}
+use Rattle.std.proofs.Common.{◌≡◌, ◌≢◌, ℕ, ◌+◌, ◌^◌, ◌<◌, ◌≤◌, List, [], ◌∷◌, ◌++◌, length, sym, subst, ap, ◌∙◌, refl, arith, append_assoc, Bool, true, false, inl, inr}
 use Rattle.std.specs.Prelude.{Option, Some, Result, Err, OnErr}
 use Rattle.std.specs.Str.Lines.{lines}
 use Rattle.std.proofs.lemmas.List.{length-append}
-use Rattle.tb_link.specs.Sources.{SourceState, before_left}
+use Rattle.tb_link.specs.Sources.{SourceState}
 use Rattle.tb_host.specs.BookLines.{Spells, Says}
 use Rattle.tb_host.specs.Fields.{fields}
 use Rattle.tb_host.specs.SoundLines.{IsLine, IsSoundOffering}
 use Rattle.tb_host.specs.Books.{Adds, AreEntries, Book, GetsNumber, GoesOn, IsBadFirst, IsBadLine, IsBadNext, BeginsWithBook, IsEntry, empty_book, name_of}
 use Rattle.tb_host.specs.LineEnds.{most_lines}
-use Rattle.tb_host.specs.BookReading.{ReadsLine, HasNoLine, HasEntries, EndsEntries, StopsEntries}
+use Rattle.tb_host.specs.Lines.{StaysAtEnd, ahead, unread}
+use Rattle.tb_host.specs.BookReading.{ReadsBadLine, ReadsBook, ReadsLine, HasNoLine, HasEntries, EndsEntries, StopsEntries}
 use Rattle.tb_host.specs.Told.{WhereTold}
-use Rattle.tb_host.specs.Reads.{ReadsBookAlone, ReadsNoMore}
+use Rattle.tb_host.specs.Reads.{ReadsLines, ReadsNoMore}
 use Rattle.tb_host.specs.Tallies.{IsTally}
 use Rattle.tb_host.specs.declared.book_line.BookLine.{BookLine}
 use Rattle.tb_host.specs.declared.book_line.BookLine.TheVariants as kind
@@ -19,21 +20,36 @@ use Rattle.tb_host.specs.declared.book_line.Entry.{Entry}
 use Rattle.tb_host.specs.declared.book_line.Entry.TheVariants as entry
 use Rattle.tb_host.specs.declared.book_line.Offering.{Offering}
 use Rattle.tb_host.specs.declared.book_line.Bid.{Bid}
+use Rattle.tb_host.specs.declared.input.LineReader.{LineReader}
 use Rattle.tb_host.specs.declared.text_book.TextBook.{TextBook}
-use Rattle.tb_host.proofs.ReadsLemmas.{some-text}
+use Rattle.tb_host.proofs.ReadsLemmas.{ReadsLines-more, ReadsLines-whole}
 use Rattle.tb_host.proofs.SameLemmas.{Spells-one}
 
+-- where the lines are read from: the reader with its source
+pub record ReadState : Type 0 where
+  pub reader : LineReader
+  pub source : SourceState
+
+-- the text to come there
+abbrev pub to_come : ReadState → Option (List ℕ)
+to_come at = ahead at.reader at.source
+
+-- of the text behind the offering, the entries of this book have been read, up to line count, with no read behind them
+pub record ReadsEntries (count : ℕ) (offering : Offering) (book : Book) (first now : ReadState) (text : List ℕ) : Type 0
+  where
+    pub has : HasEntries count offering book (to_come now) text
+    pub reads : ReadsNoMore first.source.reads now.source.reads now.reader.ended (to_come now) text
+
 -- what the loop over the lines keeps
-pub record SoFar (line : ℕ) (first : Offering) (kept : TextBook) (start ahead : Option (List ℕ))
-    (before now : SourceState) : Type 0 where
+pub record SoFar (line : ℕ) (offering : Offering) (kept : TextBook) (first now : ReadState) : Type 0 where
   pub book : Book
-  pub same : kept.offering ≡ first
+  pub same : kept.offering ≡ offering
   pub tally : IsTally book kept
-  pub has : WhereTold start (HasEntries line first book ahead)
+  pub read : WhereTold (to_come first) (ReadsEntries line offering book first now)
   pub size : length book.entries + 1 ≡ line
   pub few : length book.names ≤ length book.entries
-  pub reads : WhereTold start (ReadsNoMore before.reads now.reads ahead)
-  pub no_fault : now.faults ≡ before.faults
+  pub no_fault : now.source.faults ≡ first.source.faults
+  pub once : StaysAtEnd first.reader now.reader first.source now.source
 
 -- one entry more
 AreEntries-more : (offering : Offering) (old : Book) (texts : List (List ℕ)) (between : Book) (text : List ℕ)
@@ -52,12 +68,9 @@ front_line : (n : ℕ) (offering : Offering) (book : Book) (ahead : Option (List
     → lines text ≡ has.read ++ reads.first ∷ lines reads.rest
 front_line n offering book ahead text line behind has reads = has.lines_are ∙ ap (λ ls. has.read ++ ls) reads.lines_are
 
--- where a line was read there was some text
-pub some-line : (ahead behind : Option (List ℕ)) (line : BookLine)
-    → WhereTold ahead (ReadsLine line behind)
-    → WhereTold ahead (λ text. text ≢ [])
-some-line ahead behind line told text is =
-    let reads = told text is in some-text text reads.first (lines reads.rest) reads.lines_are
+-- one rest follows
+pub same_rest : (behind : Option (List ℕ)) (one other : List ℕ) → behind ≡ Some one → behind ≡ Some other → one ≡ other
+same_rest behind one other is_one is_other = let same : Some one ≡ Some other = sym is_one ∙ is_other in cc
 
 -- one entry more was read
 pub HasEntries-more : (n : ℕ) (offering : Offering) (book new : Book) (entry : Entry) (ahead behind : Option (List ℕ))
@@ -105,65 +118,81 @@ bad_next offering book count [] no_line = tt
 bad_next offering book count (text ∷ texts) no_line =
     inr (λ goes. elim goes [ inl more ↦ no_line (kind.Entry more.1.0) more.1.1 | inr ends ↦ no_line kind.End ends ])
 
--- the next line spells no line of a book
-pub StopsEntries-unread : (n : ℕ) (offering : Offering) (book : Book) (ahead : Option (List ℕ)) (text : List ℕ)
-    → HasEntries n offering book ahead text
-    → WhereTold ahead (λ t. HasNoLine (lines t))
-    → n ≤ most_lines
-    → StopsEntries (n + 1) offering text
-StopsEntries-unread n offering book ahead text has no_line few =
-    record {
-      book = book;
-      read = has.read;
-      rest = lines has.rest;
-      lines_are = has.lines_are;
-      are = has.are;
-      few = omega (arith, has.size);
-      bad = bad_next offering book (length has.read + 1) (lines has.rest) (no_line has.rest has.behind_is);
-      number_is = omega (arith, has.size);
-    }
+-- From the entries read so far, the next line is looked for, with no read behind it.
+module _ (count : ℕ) (offering : Offering) (book : Book) (first now next : ReadState) (text : List ℕ)
+    (so_far : ReadsEntries count offering book first now text)
+    (alone : WhereTold (to_come now) (ReadsLines 1 now.source.reads next.source.reads))
+    (once : StaysAtEnd now.reader next.reader now.source next.source)
+    (few : count ≤ most_lines) where
+  -- so nothing was read behind it
+  one_more : ReadsLines (length so_far.has.read + 1) first.source.reads next.source.reads text
+  one_more =
+      let same : so_far.has.rest ≡ so_far.reads.rest =
+      same_rest (to_come now) so_far.has.rest so_far.reads.rest so_far.has.behind_is so_far.reads.behind_is in
+      ReadsLines-more first.source.reads now.source.reads next.source.reads now.reader.ended (to_come now) text
+      so_far.reads (λ ended. (once ended).1) so_far.has.read 1
+      (so_far.has.lines_are ∙ ap (λ (r : List ℕ). so_far.has.read ++ lines r) same) alone
+
+  -- it spells no line of a book
+  pub StopsEntries-unread : WhereTold (to_come now) (λ t. HasNoLine (lines t))
+      → StopsEntries (count + 1) first.source.reads next.source.reads offering text
+  StopsEntries-unread no_line = record {
+    book = book;
+    read = so_far.has.read;
+    rest = lines so_far.has.rest;
+    lines_are = so_far.has.lines_are;
+    are = so_far.has.are;
+    few = omega (arith, so_far.has.size);
+    bad = bad_next offering book (length so_far.has.read + 1) (lines so_far.has.rest)
+        (no_line so_far.has.rest so_far.has.behind_is);
+    number_is = omega (arith, so_far.has.size);
+    reads = one_more;
+  }
+
+  -- it may not stand here
+  pub StopsEntries-here : (line : BookLine)
+      → WhereTold (to_come now) (ReadsLine line (to_come next))
+      → ((first : List ℕ) → Spells first line → ¬ (GoesOn offering book first))
+      → StopsEntries (count + 1) first.source.reads next.source.reads offering text
+  StopsEntries-here line told wrong =
+      let reads = told so_far.has.rest so_far.has.behind_is in
+      record {
+        book = book;
+        read = so_far.has.read;
+        rest = reads.first ∷ lines reads.rest;
+        lines_are = front_line count offering book (to_come now) text line (to_come next) so_far.has reads;
+        are = so_far.has.are;
+        few = omega (arith, so_far.has.size);
+        bad = inr (wrong reads.first reads.spells);
+        number_is = omega (arith, so_far.has.size);
+        reads = one_more;
+      }
 
 -- as many lines as a book may have were read
-pub StopsEntries-full : (n : ℕ) (offering : Offering) (book : Book) (ahead : Option (List ℕ)) (text : List ℕ)
-    → HasEntries n offering book ahead text
-    → n ≡ most_lines
-    → StopsEntries (n + 1) offering text
-StopsEntries-full n offering book ahead text has full =
+pub StopsEntries-full : (count : ℕ) (offering : Offering) (book : Book) (first now : ReadState) (text : List ℕ)
+    → ReadsEntries count offering book first now text
+    → count ≡ most_lines
+    → StopsEntries (count + 1) first.source.reads now.source.reads offering text
+StopsEntries-full count offering book first now text so_far full =
+    let same : so_far.has.rest ≡ so_far.reads.rest =
+    same_rest (to_come now) so_far.has.rest so_far.reads.rest so_far.has.behind_is so_far.reads.behind_is in
     record {
       book = book;
-      read = has.read;
-      rest = lines has.rest;
-      lines_are = has.lines_are;
-      are = has.are;
-      few = omega (arith, has.size);
-      bad = too_many (length has.read + 1) (lines has.rest) (omega (arith, has.size));
-      number_is = omega (arith, has.size);
+      read = so_far.has.read;
+      rest = lines so_far.has.rest;
+      lines_are = so_far.has.lines_are;
+      are = so_far.has.are;
+      few = omega (arith, so_far.has.size);
+      bad = too_many (length so_far.has.read + 1) (lines so_far.has.rest) (omega (arith, so_far.has.size));
+      number_is = omega (arith, so_far.has.size);
+      reads = ReadsLines-whole first.source.reads now.source.reads now.reader.ended (to_come now) text
+          so_far.has.read (length so_far.has.read + 1) so_far.reads
+          (so_far.has.lines_are ∙ ap (λ (r : List ℕ). so_far.has.read ++ lines r) same) (omega arith);
     }
   where
-    too_many : (count : ℕ) (rest : List (List ℕ)) → most_lines ≤ count → IsBadNext offering book count rest
-    too_many count [] many = tt
-    too_many count (t ∷ ts) many = inl many
-
--- a line that may not stand here
-pub StopsEntries-here : (n : ℕ) (offering : Offering) (book : Book) (line : BookLine) (ahead behind : Option (List ℕ))
-    (text : List ℕ)
-    → HasEntries n offering book ahead text
-    → WhereTold ahead (ReadsLine line behind)
-    → ((first : List ℕ) → Spells first line → ¬ (GoesOn offering book first))
-    → n ≤ most_lines
-    → StopsEntries (n + 1) offering text
-StopsEntries-here n offering book line ahead behind text has told wrong few =
-    let reads = told has.rest has.behind_is in
-    record {
-      book = book;
-      read = has.read;
-      rest = reads.first ∷ lines reads.rest;
-      lines_are = front_line n offering book ahead text line behind has reads;
-      are = has.are;
-      few = omega (arith, has.size);
-      bad = inr (wrong reads.first reads.spells);
-      number_is = omega (arith, has.size);
-    }
+    too_many : (n : ℕ) (rest : List (List ℕ)) → most_lines ≤ n → IsBadNext offering book n rest
+    too_many n [] many = tt
+    too_many n (t ∷ ts) many = inl many
 
 -- an entry that may not stand behind the book
 pub wrong_entry : (offering : Offering) (book : Book) (entry : Entry)
@@ -197,11 +226,12 @@ pub OnErr-holds : {T E : Type 0} (r : Result T E) (e : E) (P : Type 0) → r ≡
 OnErr-holds {T} {E} r e P is holds = let Q : Result T E → Type 0 = λ x. OnErr x P in subst Q is holds
 
 -- a new reader has nothing before what the source has
-pub ahead-start : (front : List ℕ) (left : Option (List ℕ)) (text : List ℕ)
-    → front ≡ []
-    → left ≡ Some text
-    → before_left front left ≡ Some text
-ahead-start front left text empty is = rw (empty, is) refl
+pub ahead-start : (reader : LineReader) (source : SourceState) (text : List ℕ)
+    → unread reader ≡ []
+    → reader.ended ≡ false
+    → source.left ≡ Some text
+    → ahead reader source ≡ Some text
+ahead-start reader source text empty going is = rw (empty, going, is) refl
 
 -- the first line spells no line of a book
 pub IsBadLine-unread : (texts : List (List ℕ)) → HasNoLine texts → IsBadLine 1 texts
@@ -219,24 +249,39 @@ IsBadLine-first text line behind reads other =
     inl (subst IsBadFirst (sym reads.lines_are) bad, refl)
 
 -- a line behind the offering is bad
-pub IsBadLine-later : (number : ℕ) (text : List ℕ) (offering : Offering) (behind : Option (List ℕ))
-    → ReadsLine (kind.Offering offering) behind text
-    → WhereTold behind (StopsEntries number offering)
-    → IsBadLine number (lines text)
-IsBadLine-later number text offering behind reads told =
-    let stops = told reads.rest reads.behind_is in
-    let count : length stops.read + 1 ≡ length (reads.first ∷ stops.read) = omega arith in
-    inr (record {
-      front = reads.first ∷ stops.read;
-      rest = stops.rest;
-      offering = offering;
-      book = stops.book;
-      lines_are = reads.lines_are ∙ ap (λ ls. reads.first ∷ ls) stops.lines_are;
-      front_is = (reads.spells, stops.are);
-      few = omega (arith, stops.few);
-      bad = subst (λ (n : ℕ). IsBadNext offering stops.book n stops.rest) count stops.bad;
-      number_is = omega (arith, stops.number_is);
-    })
+pub ReadsBadLine-later : (number : ℕ) (text : List ℕ) (offering : Offering) (before between after : ℕ)
+    (middle : ReadState)
+    (line : ReadsLine (kind.Offering offering) (to_come middle) text)
+    (one : ReadsNoMore before between middle.reader.ended (to_come middle) text)
+    → (middle.reader.ended ≡ true → after ≡ between)
+    → WhereTold (to_come middle) (StopsEntries number between after offering)
+    → ReadsBadLine number before after text
+ReadsBadLine-later number text offering before between after middle line one once told =
+    let stops = told line.rest line.behind_is in
+    let count : length stops.read + 1 ≡ length (line.first ∷ stops.read) = omega arith in
+    let same = same_rest (to_come middle) line.rest one.rest line.behind_is one.behind_is in
+    let here : lines text ≡ (line.first ∷ []) ++ lines one.rest =
+    line.lines_are ∙ ap (λ (r : List ℕ). line.first ∷ lines r) same in
+    let numbered : length (line.first ∷ []) + (length stops.read + 1) ≡ number =
+    omega (arith, stops.number_is) in
+    record {
+      bad = inr (record {
+        front = line.first ∷ stops.read;
+        rest = stops.rest;
+        offering = offering;
+        book = stops.book;
+        lines_are = line.lines_are ∙ ap (λ ls. line.first ∷ ls) stops.lines_are;
+        front_is = (line.spells, stops.are);
+        few = omega (arith, stops.few);
+        bad = subst (λ (n : ℕ). IsBadNext offering stops.book n stops.rest) count stops.bad;
+        number_is = omega (arith, stops.number_is);
+      });
+      reads = subst (λ (n : ℕ). ReadsLines n before after text) numbered
+          (ReadsLines-more before between after middle.reader.ended (to_come middle) text one once (line.first ∷ [])
+          (length stops.read + 1) here
+          (λ t is. subst (ReadsLines (length stops.read + 1) between after)
+          (same_rest (to_come middle) line.rest t line.behind_is is) stops.reads));
+    }
 
 -- the offering and the lines up to the end are a book
 pub BeginsWithBook-read : (text : List ℕ) (offering : Offering) (book : Book) (behind after : Option (List ℕ))
@@ -255,42 +300,26 @@ BeginsWithBook-read text offering book behind after reads told =
       few = omega (arith, ends.few);
     }
 
--- a text with an end isn't empty
-pub some-entries : (offering : Offering) (book : Book) (behind : Option (List ℕ)) (text : List ℕ)
-    → EndsEntries offering book behind text
-    → text ≢ []
-some-entries offering book behind text ends none =
-    no_end ends.read (sym (ap lines none) ∙ ends.lines_are)
-  where
-    no_end : (read : List (List ℕ)) → [] ≡ read ++ ends.last ∷ lines ends.rest → ⊥
-    no_end [] is = absurd (cc)
-    no_end (first ∷ read) is = absurd (cc)
-
 -- and no more was read than that
-pub ReadsBookAlone-read : (before after : ℕ) (text : List ℕ) (offering : Offering) (book : Book)
+pub ReadsBook-read : (before after : ℕ) (ended : Bool) (text : List ℕ) (offering : Offering) (book : Book)
     (behind rest : Option (List ℕ))
     → ReadsLine (kind.Offering offering) behind text
     → WhereTold behind (EndsEntries offering book rest)
-    → ReadsNoMore before after rest text
-    → ReadsBookAlone before after text
-ReadsBookAlone-read before after text offering book behind rest reads told few =
-    let ends = told reads.rest reads.behind_is in
-    let same : few.rest ≡ ends.rest =
-    (let told_twice : Some few.rest ≡ Some ends.rest = sym few.behind_is ∙ ends.behind_is in cc) in
+    → ReadsNoMore before after ended rest text
+    → ReadsBook before after offering book text
+unfolding BeginsWithBook-read
+ReadsBook-read before after ended text offering book behind rest line told few =
+    let ends = told line.rest line.behind_is in
+    let same = same_rest rest ends.rest few.rest ends.behind_is few.behind_is in
+    let front = line.first ∷ ends.read in
+    let begins = BeginsWithBook-read text offering book behind rest line told in
     record {
-      taken = few.taken;
-      rest = few.rest;
-      text_is = few.text_is;
-      reads = few.reads;
-      front = reads.first ∷ ends.read;
-      last = ends.last;
-      lines_are = reads.lines_are
-          ∙ ap (λ ls. reads.first ∷ ls) (ends.lines_are
-          ∙ ap (λ (after : List ℕ). ends.read ++ ends.last ∷ lines after) (sym same));
-      offering = offering;
-      book = book;
-      front_is = (reads.spells, ends.are);
-      end = ends.end;
+      begins = begins;
+      reads = ReadsLines-whole before after ended rest text (front ++ ends.last ∷ []) (length front + 1) few
+          (begins.lines_are
+          ∙ (ap (λ (after : List ℕ). front ++ ends.last ∷ lines after) same
+          ∙ sym (append_assoc front (ends.last ∷ []) (lines few.rest))))
+          (omega (arith, length-append front (ends.last ∷ [])));
     }
 
 -- nothing has been read behind the offering

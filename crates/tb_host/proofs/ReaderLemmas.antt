@@ -117,7 +117,7 @@ found_last next.Line old new rest gave none = (
         ∙ ap (λ more. current new ∷ lines more) (sym (ap (λ front. front ++ rest) gave.1 ∙ none)),
   ),
 )
-found_last next.End old new rest gave none = gave
+found_last next.End old new rest gave none = gave.0
 found_last next.TooLong old new rest gave none = (current new, [], gave.0, gave.2)
 
 -- what was given last is the first of the text to come

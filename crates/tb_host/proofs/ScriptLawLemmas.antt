@@ -1,25 +1,28 @@
 -- Lines begin with one script, or leave the grammar of scripts at one line.
-use Rattle.std.proofs.Common.{◌≡◌, ℕ, ◌+◌, ◌<◌, ◌≤◌, List, [], ◌∷◌, ◌++◌, length, sym, subst, ◌∙◌, refl, arith, ◌⊎◌, inl, inr}
+use Rattle.std.proofs.Common.{◌≡◌, ℕ, ◌+◌, ◌<◌, ◌≤◌, List, [], ◌∷◌, ◌++◌, length, sym, subst, ◌∙◌, refl, arith, inl, inr}
 use Rattle.std.specs.Prelude.{Some, codes}
 use Rattle.std.specs.List.{AllByRecursion, position_or_len}
 use Rattle.std.specs.Fmt.{decimal}
 use Rattle.std.specs.Str.Lines.{lines}
-use Rattle.tb_link.specs.Counts.{Rose}
 use Rattle.tb_link.specs.Sources.{SourceState}
 use Rattle.tb_link.specs.Sinks.{SinkState}
 use Rattle.tb_units.specs.Bytes.{blank}
-use Rattle.tb_host.specs.Endings.{status_of}
+use Rattle.tb_words.specs.declared.command.Command.TheVariants as command
+use Rattle.tb_host.specs.Completeness.{AnswersScript, Completes}
+use Rattle.tb_host.specs.Endings.{ending_of, of_disk, of_text}
 use Rattle.tb_host.specs.Fields.{is_blank}
 use Rattle.tb_host.specs.Grammars.{LeavesGrammar}
-use Rattle.tb_host.specs.HostRun.{HasHistory}
 use Rattle.tb_host.specs.LineEnds.{most_lines}
 use Rattle.tb_host.specs.RunEnds.{Devices, RunEnds, ScriptEnds}
 use Rattle.tb_host.specs.ScriptLines.{IsAsk, IsEnd}
 use Rattle.tb_host.specs.Scripts.{BeginsWithScript, HasScript, LeavesScript, MayStand}
 use Rattle.tb_host.specs.Standings.{Standing}
-use Rattle.tb_host.specs.declared.ending.Ending.{Ending}
-use Rattle.tb_host.specs.declared.ending.Ending.TheVariants as ending
-use Rattle.tb_host.proofs.ExactLemmas.{memory-not_begun}
+use Rattle.tb_host.specs.Told.{WhereTold}
+use Rattle.tb_host.specs.declared.command_endings.DiskEnding.{DiskEnding}
+use Rattle.tb_host.specs.declared.command_endings.DiskEnding.TheVariants as disk_ending
+use Rattle.tb_host.specs.declared.command_endings.TextEnding.{TextEnding}
+use Rattle.tb_host.specs.declared.command_endings.TextEnding.TheVariants as ending
+use Rattle.tb_host.proofs.ExactLemmas.{Opens-desk, Opens-none}
 use Rattle.tb_host.proofs.ScriptLineLemmas.{NoBlank-moment, has_blank}
 
 -- a line that asks isn't the end
@@ -75,108 +78,46 @@ HasScript-stays texts number has leaves =
     (sym begins.lines_are ∙ stops.lines_are)
     (subst (λ (n : ℕ). LeavesGrammar MayStand n stops.rest) (omega arith) stops.bad) (omega (arith, begins.few))
 
--- a script over such a disk is answered
-script-complete : (operator : List ℕ) (ended : Ending) (input input' : SourceState) (out out' : SinkState)
+-- a script is answered on a desk, and an input that leaves the grammar of scripts is refused
+script-answers : (operator : List ℕ) (own : TextEnding) (input input' : SourceState) (out out' : SinkState)
     (first last : Standing) (text : List ℕ)
-    → ScriptEnds operator ended input input' out out' first last
+    → ScriptEnds operator own input input' out out' first last
     → input.left ≡ Some text
-    → HasScript (lines text)
-    → ¬ (Rose input.faults input'.faults)
-    → ¬ (Rose out.faults out'.faults)
-    → (status_of ended ≡ 0) ⊎ (status_of ended ≡ 9)
-script-complete operator ending.Done input input' out out' first last text ends told script no_read no_write = inl refl
-script-complete operator ending.Usage input input' out out' first last text ends told script no_read no_write =
-    absurd ends
-script-complete operator
-    (ending.BadInput number) input input' out out' first last text ends told script no_read no_write =
-    let stopped = ends text told in
-    absurd (HasScript-stays (lines text) number script (stopped.acted, stopped.stops))
-script-complete operator ending.ReadFault input input' out out' first last text ends told script no_read no_write =
-    absurd (no_read ends.0)
-script-complete operator ending.WriteFault input input' out out' first last text ends told script no_read no_write =
-    absurd (no_write ends.0)
-script-complete operator ending.DiskFault input input' out out' first last text ends told script no_read no_write =
-    absurd ends
-script-complete operator
-    (ending.NotAJournal found) input input' out out' first last text ends told script no_read no_write =
-    absurd ends
-script-complete operator
-    (ending.Damaged place) input input' out out' first last text ends told script no_read no_write =
-    absurd ends
-script-complete operator ending.OutOfMemory input input' out out' first last text ends told script no_read no_write =
-    inr refl
-script-complete operator ending.GateFault input input' out out' first last text ends told script no_read no_write =
-    absurd ends
+    → AnswersScript (of_text own) (HasScript (lines text)) ((number : ℕ) × LeavesScript number (lines text))
+script-answers operator ending.Done input input' out out' first last text ends told =
+    let finished = ends.0.told text told in
+    record {
+      answered = λ script. inr (inl refl);
+      refused = λ leaves. absurd (HasScript-stays (lines text) leaves.0 (finished.acted, finished.script) leaves.1);
+    }
+script-answers operator (ending.BadInput number) input input' out out' first last text ends told =
+    let stopped = ends.0.told text told in
+    record {
+      answered = λ script. absurd (HasScript-stays (lines text) number script (stopped.acted, stopped.stops));
+      refused = λ leaves. inr (inr (number, refl));
+    }
+script-answers operator ending.ReadFault input input' out out' first last text ends told =
+    record { answered = λ script. inl (inl refl); refused = λ leaves. inl (inl refl) }
+script-answers operator ending.WriteFault input input' out out' first last text ends told =
+    record { answered = λ script. inr (inr (inl refl)); refused = λ leaves. inr (inl refl) }
+script-answers operator ending.OutOfMemory input input' out out' first last text ends told =
+    record { answered = λ script. inl (inr refl); refused = λ leaves. inl (inr refl) }
 
-pub run-complete : (operator : List ℕ) (ended : Ending) (input input' : SourceState) (old new : Devices) (text : List ℕ)
-    → RunEnds operator ended input input' old new
-    → HasHistory old.disk
-    → input.left ≡ Some text
-    → HasScript (lines text)
-    → ¬ (Rose input.faults input'.faults)
-    → ¬ (Rose old.out.faults new.out.faults)
-    → ¬ (Rose old.disk.faults new.disk.faults)
-    → (status_of ended ≡ 0) ⊎ (status_of ended ≡ 9)
-run-complete operator ended input input' old new text (inl ends) stands told script no_read no_write no_fault =
-    script-complete operator ended input input' old.out new.out ends.0 ends.1 text ends.3 told script no_read no_write
-run-complete operator ended input input' old new text (inr not_begun) stands told script no_read no_write no_fault =
-    inr (memory-not_begun ended input input' old new not_begun stands no_fault)
-
--- an input that leaves the grammar of scripts is refused
-script-refused : (operator : List ℕ) (ended : Ending) (input input' : SourceState) (out out' : SinkState)
-    (first last : Standing) (text : List ℕ) (number : ℕ)
-    → ScriptEnds operator ended input input' out out' first last
-    → input.left ≡ Some text
-    → LeavesScript number (lines text)
-    → ¬ (Rose input.faults input'.faults)
-    → ¬ (Rose out.faults out'.faults)
-    → (status_of ended ≡ 3) ⊎ (status_of ended ≡ 9)
-script-refused operator ending.Done input input' out out' first last text number ends told leaves no_read no_write =
-    let finished = ends text told in
-    absurd (HasScript-stays (lines text) number (finished.acted, finished.script) leaves)
-script-refused operator ending.Usage input input' out out' first last text number ends told leaves no_read no_write =
-    absurd ends
-script-refused operator (ending.BadInput at) input input' out out' first last text number ends told leaves no_read
-    no_write =
-    inl refl
-script-refused operator ending.ReadFault input input' out out' first last text number ends told leaves no_read
-    no_write =
-    absurd (no_read ends.0)
-script-refused operator ending.WriteFault input input' out out' first last text number ends told leaves no_read
-    no_write =
-    absurd (no_write ends.0)
-script-refused operator ending.DiskFault input input' out out' first last text number ends told leaves no_read
-    no_write =
-    absurd ends
-script-refused operator (ending.NotAJournal found) input input' out out' first last text number ends told leaves no_read
-    no_write =
-    absurd ends
-script-refused operator (ending.Damaged place) input input' out out' first last text number ends told leaves no_read
-    no_write =
-    absurd ends
-script-refused operator ending.OutOfMemory input input' out out' first last text number ends told leaves no_read
-    no_write =
-    inr refl
-script-refused operator ending.GateFault input input' out out' first last text number ends told leaves no_read
-    no_write =
-    absurd ends
-
-pub run-refused : (operator : List ℕ) (ended : Ending) (input input' : SourceState) (old new : Devices) (text : List ℕ)
-    (number : ℕ)
-    → RunEnds operator ended input input' old new
-    → HasHistory old.disk
-    → input.left ≡ Some text
-    → LeavesScript number (lines text)
-    → ¬ (Rose input.faults input'.faults)
-    → ¬ (Rose old.out.faults new.out.faults)
-    → ¬ (Rose old.disk.faults new.disk.faults)
-    → (status_of ended ≡ 3) ⊎ (status_of ended ≡ 9)
-run-refused operator ended input input' old new text number (inl ends) stands told leaves no_read no_write no_fault =
-    script-refused operator ended input input' old.out new.out ends.0 ends.1 text number ends.3 told leaves no_read
-    no_write
-run-refused operator ended input input' old new text number
-    (inr not_begun) stands told leaves no_read no_write no_fault =
-    inr (memory-not_begun ended input input' old new not_begun stands no_fault)
+-- so is `run`
+pub run-completes : (operator : List ℕ) (own : DiskEnding TextEnding) (input input' : SourceState) (old new : Devices)
+    → RunEnds operator own input input' old new
+    → Completes (command.Run operator) input old.disk (of_disk of_text own)
+run-completes operator (disk_ending.Opened own) input input' old new ends =
+    Opens-desk old.disk ends.0 (of_text own)
+    (WhereTold input.left (λ text. AnswersScript (of_text own) (HasScript (lines text))
+    ((number : ℕ) × LeavesScript number (lines text))))
+    ends.2.opened
+    (λ text told. script-answers operator own input input' old.out new.out ends.0 ends.1 text ends.3 told)
+run-completes operator (disk_ending.Unopened why) input input' old new none =
+    Opens-none why old.disk new.disk
+    (WhereTold input.left (λ text. AnswersScript (ending_of why) (HasScript (lines text))
+    ((number : ℕ) × LeavesScript number (lines text))))
+    none.unopened
 
 -- lines that ask up to an end are those of one text
 asking-one : (asking : List (List ℕ)) (last : List ℕ) (rest asking' : List (List ℕ)) (last' : List ℕ)

@@ -1,5 +1,5 @@
 -- Acting on a script, from line to line.
-use Rattle.std.proofs.Common.{◌≡◌, ℕ, ◌+◌, ◌<◌, ◌≤◌, List, [], ◌∷◌, ◌++◌, length, sym, subst, ap, ◌∙◌, refl, arith, append_assoc, append-nil, inl, inr}
+use Rattle.std.proofs.Common.{◌≡◌, ℕ, ◌+◌, ◌<◌, ◌≤◌, List, [], ◌∷◌, ◌++◌, length, sym, subst, ap, ◌∙◌, refl, arith, append_assoc, append-nil, Bool, false, inl, inr}
 use Rattle.std.specs.Prelude.{Option, Some, None, position}
 use Rattle.std.specs.List.{AllByRecursion}
 use Rattle.std.specs.Str.Lines.{lines}
@@ -10,20 +10,20 @@ use Rattle.tb_link.specs.Sinks.{SinkState, after_taken}
 use Rattle.tb_host.specs.DiskRun.{HasGrown}
 use Rattle.tb_host.specs.Grammars.{LeavesGrammar}
 use Rattle.tb_host.specs.LineEnds.{is_line_feed, most_lines}
-use Rattle.tb_host.specs.Lines.{ahead, unread}
-use Rattle.tb_host.specs.Reads.{ReadsNoMore, ReadsScriptAlone}
-use Rattle.tb_host.specs.RunEnds.{ActedOn, BrokenOff, CutOff, Finished, LeftOff, ScriptEnds, Stopped}
+use Rattle.tb_host.specs.Lines.{StaysAtEnd, ahead, still_left, unread}
+use Rattle.tb_host.specs.Reads.{ReadsLines, ReadsNoMore}
+use Rattle.tb_host.specs.RunEnds.{ActedOn, BrokenOff, CutOff, Finished, LeftOff, ReadsNext, ScriptEnds, Stopped}
 use Rattle.tb_host.specs.ScriptLines.{IsAsk, IsEnd}
 use Rattle.tb_host.specs.ScriptRun.{IsActedOn, IsRun}
 use Rattle.tb_host.specs.ScriptSteps.{Acts, ActsInVain, IsNext, NextEnds, NoneStands, RunState, Stay, TakesLine}
 use Rattle.tb_host.specs.Scripts.{MayStand}
 use Rattle.tb_host.specs.Standings.{Standing}
 use Rattle.tb_host.specs.Told.{WhereTold}
-use Rattle.tb_host.specs.declared.ending.Ending.{Ending}
-use Rattle.tb_host.specs.declared.ending.Ending.TheVariants as ending
+use Rattle.tb_host.specs.declared.command_endings.TextEnding.{TextEnding}
+use Rattle.tb_host.specs.declared.command_endings.TextEnding.TheVariants as ending
 use Rattle.tb_host.proofs.GrownLemmas.{run-goes}
-use Rattle.tb_host.proofs.ReadLemmas.{ahead-start}
-use Rattle.tb_host.proofs.ReadsLemmas.{ReadsNoMore-start, ReadsNoMore-then, some-text}
+use Rattle.tb_host.proofs.ReadLemmas.{ahead-start, same_rest}
+use Rattle.tb_host.proofs.ReadsLemmas.{ReadsLines-more, ReadsLines-whole, ReadsNoMore-start, ReadsNoMore-then}
 
 -- one line more was acted on
 pub IsRun-more : (operator : List ℕ) (first : Standing) (lines : List (List ℕ)) (replies : List ℕ) (now : Standing)
@@ -59,9 +59,10 @@ IsRun-asks operator first (line ∷ lines) replies last run = (
 )
 
 -- of a text these lines were acted on, and so much of it follows
-pub record IsReached (before after : ℕ) (acted : List (List ℕ)) (behind : Option (List ℕ)) (text : List ℕ) : Type 0
+pub record IsReached (before after : ℕ) (ended : Bool) (acted : List (List ℕ)) (behind : Option (List ℕ))
+    (text : List ℕ) : Type 0
   where
-    pub reads : ReadsNoMore before after behind text
+    pub reads : ReadsNoMore before after ended behind text
     pub lines_are : lines text ≡ acted ++ lines reads.rest
 
 -- what the loop over the lines keeps
@@ -75,11 +76,7 @@ pub record SoFar (operator : List ℕ) (count : ℕ) (source : SourceState) (out
   pub out_faults : now.out.faults ≡ out.faults
   pub faults : now.source.faults ≡ source.faults
   pub reached : WhereTold source.left
-      (IsReached source.reads now.source.reads acted (ahead now.reader now.source))
-
--- one rest follows
-pub same_rest : (behind : Option (List ℕ)) (one other : List ℕ) → behind ≡ Some one → behind ≡ Some other → one ≡ other
-same_rest behind one other is_one is_other = let same : Some one ≡ Some other = sym is_one ∙ is_other in cc
+      (IsReached source.reads now.source.reads now.reader.ended acted (ahead now.reader now.source))
 
 -- nothing behind what was taken is nothing more
 pub after_taken-nothing : (taken : Option (List ℕ)) → taken ≡ after_taken taken []
@@ -95,8 +92,9 @@ after_taken-more (Some bytes) one other = ap Some (append_assoc bytes one other)
 -- before the first line
 pub SoFar-start : (operator : List ℕ) (now : RunState)
     → unread now.reader ≡ []
+    → now.reader.ended ≡ false
     → SoFar operator 0 now.source now.out now.stands now
-SoFar-start operator now none = record {
+SoFar-start operator now none going = record {
   acted = [];
   replies = [];
   run = (refl, refl);
@@ -109,73 +107,54 @@ SoFar-start operator now none = record {
   where
     started : (text : List ℕ)
         → now.source.left ≡ Some text
-        → IsReached now.source.reads now.source.reads [] (ahead now.reader now.source) text
+        → IsReached now.source.reads now.source.reads now.reader.ended [] (ahead now.reader now.source) text
     started text told =
-        let is = ahead-start (unread now.reader) now.source.left text none told in
-        let start : ReadsNoMore now.source.reads now.source.reads (ahead now.reader now.source) text =
-        ReadsNoMore-start now.source.reads (ahead now.reader now.source) text is in
+        let is = ahead-start now.reader now.source text none going told in
+        let start : ReadsNoMore now.source.reads now.source.reads now.reader.ended (ahead now.reader now.source) text =
+        ReadsNoMore-start now.source.reads now.reader.ended (ahead now.reader now.source) text is in
         record {
           reads = start;
           lines_are = ap lines (same_rest (ahead now.reader now.source) text start.rest is start.behind_is);
         }
 
 -- a line was taken from the text that follows
-module _ (before between after : ℕ) (acted : List (List ℕ)) (middle behind : Option (List ℕ)) (line text : List ℕ)
-    (so_far : IsReached before between acted middle text) (next : WhereTold middle (IsNext between after line behind))
-  where
-    -- nothing behind it was read
-    pub line-reads : ReadsNoMore before after behind text
-    line-reads =
-        ReadsNoMore-then before between after middle behind text so_far.reads (λ t told. (next t told).reads)
-        (λ t told. some-text t line (lines (next t told).reads.rest) (next t told).lines_are)
+module _ (acted : List (List ℕ)) (line text : List ℕ) (before : ℕ) (now new : RunState)
+    (so_far : IsReached before now.source.reads now.reader.ended acted (ahead now.reader now.source) text)
+    (next : WhereTold (ahead now.reader now.source)
+    (IsNext now.source.reads new.source.reads new.reader.ended line (ahead new.reader new.source)))
+    (once : StaysAtEnd now.reader new.reader now.source new.source) where
+  -- nothing behind it was read
+  pub line-reads : ReadsNoMore before new.source.reads new.reader.ended (ahead new.reader new.source) text
+  line-reads =
+      ReadsNoMore-then before now.source.reads new.source.reads now.reader.ended (ahead now.reader now.source) text
+      so_far.reads (λ ended. (once ended).1) new.reader.ended (ahead new.reader new.source)
+      (λ t told. (next t told).reads) (λ ended. (once ended).0)
 
-    -- it stands behind the lines that were acted on
-    pub line-behind : lines text ≡ acted ++ line ∷ lines line-reads.rest
-    line-behind =
-        let found = next so_far.reads.rest so_far.reads.behind_is in
-        let same : found.reads.rest ≡ line-reads.rest =
-        same_rest behind found.reads.rest line-reads.rest found.reads.behind_is line-reads.behind_is in
-        so_far.lines_are
-        ∙ (ap (λ (ls : List (List ℕ)). acted ++ ls) found.lines_are
-        ∙ ap (λ (r : List ℕ). acted ++ line ∷ lines r) same)
+  -- it stands behind the lines that were acted on
+  pub line-behind : lines text ≡ acted ++ line ∷ lines line-reads.rest
+  line-behind =
+      let found = next so_far.reads.rest so_far.reads.behind_is in
+      let same : found.reads.rest ≡ line-reads.rest =
+      same_rest (ahead new.reader new.source) found.reads.rest line-reads.rest found.reads.behind_is
+      line-reads.behind_is in
+      so_far.lines_are
+      ∙ (ap (λ (ls : List (List ℕ)). acted ++ ls) found.lines_are
+      ∙ ap (λ (r : List ℕ). acted ++ line ∷ lines r) same)
 
-    -- one line more was acted on
-    pub IsReached-more : IsReached before after (acted ++ line ∷ []) behind text
-    IsReached-more = record {
-      reads = line-reads;
-      lines_are = line-behind ∙ sym (append_assoc acted (line ∷ []) (lines line-reads.rest));
-    }
-
-    -- the line ends the script
-    pub ReadsScriptAlone-here : AllByRecursion IsAsk acted → IsEnd line → ReadsScriptAlone before after text
-    ReadsScriptAlone-here ask end = record {
-      taken = line-reads.taken;
-      rest = line-reads.rest;
-      text_is = line-reads.text_is;
-      reads = line-reads.reads;
-      asking = acted;
-      last = line;
-      lines_are = line-behind;
-      ask = ask;
-      end = end;
-    }
+  -- one line more was acted on
+  pub IsReached-more : IsReached before new.source.reads new.reader.ended (acted ++ line ∷ [])
+      (ahead new.reader new.source) text
+  IsReached-more = record {
+    reads = line-reads;
+    lines_are = line-behind ∙ sym (append_assoc acted (line ∷ []) (lines line-reads.rest));
+  }
 
 -- from what the loop has kept, line by line
 module _ (operator : List ℕ) (count : ℕ) (source : SourceState) (out : SinkState) (first : Standing)
-    (now new : RunState) (so_far : SoFar operator count source out first now) where
+    (now : RunState) (so_far : SoFar operator count source out first now) where
   -- the history so far begins with the first one
   so_far-grown : HasGrown first now.stands
   so_far-grown = (run-goes operator first now.stands so_far.acted so_far.replies so_far.run).grown
-
-  -- so does it where it stays
-  grown_as : new.stands ≡ now.stands → HasGrown first new.stands
-  grown_as same = (so_far-grown.0, ap (λ (s : Standing). s.history) same ∙ so_far-grown.1)
-
-  -- and with one line more
-  grown_by : (line reply : List ℕ) → IsActedOn operator now.stands line reply new.stands → HasGrown first new.stands
-  grown_by line reply acted =
-      (run-goes operator first new.stands (so_far.acted ++ line ∷ []) (so_far.replies ++ reply)
-      (IsRun-more operator first so_far.acted so_far.replies now.stands line reply new.stands so_far.run acted)).grown
 
   -- the output has taken the replies so far
   acted_on : (last : Standing) (out' : SinkState)
@@ -187,65 +166,21 @@ module _ (operator : List ℕ) (count : ℕ) (source : SourceState) (out : SinkS
     taken = ap (λ (s : SinkState). s.taken) stay.1 ∙ so_far.taken;
   }
 
-  -- one line more
-  pub SoFar-more : TakesLine now new (λ line. Acts operator line now.stands new.stands now.out new.out)
-      → SoFar operator (count + 1) source out first new
-  SoFar-more takes =
-      let acts = takes.holds in record {
-        acted = so_far.acted ++ takes.line ∷ [];
-        replies = so_far.replies ++ acts.reply;
-        run = IsRun-more operator first so_far.acted so_far.replies now.stands takes.line acts.reply new.stands
-            so_far.run
-            acts.acted;
-        size = omega (arith, length-append so_far.acted (takes.line ∷ []), so_far.size);
-        taken = acts.takes.taken
-            ∙ (ap (λ (t : Option (List ℕ)). after_taken t acts.reply) so_far.taken
-            ∙ after_taken-more out.taken so_far.replies acts.reply);
-        out_faults = acts.takes.no_fault ∙ so_far.out_faults;
-        faults = takes.no_fault ∙ so_far.faults;
-        reached = λ text told. IsReached-more source.reads now.source.reads new.source.reads so_far.acted
-            (ahead now.reader now.source) (ahead new.reader new.source) takes.line text
-            (so_far.reached text told) takes.next;
-      }
-
-  -- the next line ends the script
-  pub Finished-here : TakesLine now new IsEnd
-      → Stay now.stands new.stands now.out new.out
-      → count < most_lines
-      → WhereTold source.left (Finished operator out new.out first new.stands)
-  Finished-here takes stay few text told =
-      let reached = so_far.reached text told in record {
-        acted = so_far.acted;
-        script = record {
-          last = takes.line;
-          rest = lines (line-reads source.reads now.source.reads new.source.reads so_far.acted
-              (ahead now.reader now.source) (ahead new.reader new.source) takes.line text reached takes.next).rest;
-          lines_are = line-behind source.reads now.source.reads new.source.reads so_far.acted
-              (ahead now.reader now.source) (ahead new.reader new.source) takes.line text reached takes.next;
-          ask = IsRun-asks operator first so_far.acted so_far.replies now.stands so_far.run;
-          end = takes.holds;
-          few = omega (arith, so_far.size);
-        };
-        replies = acted_on new.stands new.out stay;
-      }
-
-  -- and nothing behind it was read
-  pub ReadsScriptAlone-end : TakesLine now new IsEnd
-      → WhereTold source.left (ReadsScriptAlone source.reads new.source.reads)
-  ReadsScriptAlone-end takes text told =
-      ReadsScriptAlone-here source.reads now.source.reads new.source.reads so_far.acted
-      (ahead now.reader now.source) (ahead new.reader new.source) takes.line text (so_far.reached text told) takes.next
-      (IsRun-asks operator first so_far.acted so_far.replies now.stands so_far.run) takes.holds
+  -- the count of the output stays where the output does
+  out-same : (out' : SinkState) → out' ≡ now.out → out'.faults ≡ out.faults
+  out-same out' same = ap (λ (s : SinkState). s.faults) same ∙ so_far.out_faults
 
   -- the script is left by what comes next
-  stopped : (number : ℕ) (last : Standing) (out' : SinkState) (text : List ℕ)
-      (reached : IsReached source.reads now.source.reads so_far.acted (ahead now.reader now.source) text)
+  stopped : (number : ℕ) (source' : SourceState) (last : Standing) (out' : SinkState) (text : List ℕ)
+      (reached : IsReached source.reads now.source.reads now.reader.ended so_far.acted (ahead now.reader now.source)
+      text)
+      → ReadsNext so_far.acted source source' text
       → Stay now.stands last now.out out'
       → count + 1 ≡ number
       → count ≤ most_lines
       → LeavesGrammar MayStand (length so_far.acted) (lines reached.reads.rest)
-      → Stopped number operator out out' first last text
-  stopped number last out' text reached stay number_is few bad = record {
+      → Stopped number operator source source' out out' first last text
+  stopped number source' last out' text reached reads stay number_is few bad = record {
     acted = so_far.acted;
     stops = record {
       rest = lines reached.reads.rest;
@@ -255,149 +190,215 @@ module _ (operator : List ℕ) (count : ℕ) (source : SourceState) (out : SinkS
       bad = bad;
       number_is = omega (arith, so_far.size);
     };
+    reads = reads;
     replies = acted_on last out' stay;
   }
-
-  -- the next line may not stand in a script
-  pub Stopped-here : (number : ℕ)
-      → WhereTold (ahead now.reader now.source) (λ text. NoneStands (lines text))
-      → Stay now.stands new.stands now.out new.out
-      → count + 1 ≡ number
-      → count ≤ most_lines
-      → WhereTold source.left (Stopped number operator out new.out first new.stands)
-  Stopped-here number none stay number_is few text told =
-      let reached = so_far.reached text told in
-      stopped number new.stands new.out text reached stay number_is few
-      (none_stands (length so_far.acted) (lines reached.reads.rest) (none reached.reads.rest reached.reads.behind_is))
-    where
-      none_stands : (n : ℕ) (texts : List (List ℕ)) → NoneStands texts → LeavesGrammar MayStand n texts
-      none_stands n [] none = tt
-      none_stands n (t ∷ texts) none = inr none
 
   -- there have been as many lines as there may be
   pub Stopped-full : (number : ℕ)
       → count ≡ most_lines
       → count + 1 ≡ number
-      → WhereTold source.left (Stopped number operator out now.out first now.stands)
-  Stopped-full number full number_is text told =
-      let reached = so_far.reached text told in
-      stopped number now.stands now.out text reached (refl, refl) number_is (omega arith)
-      (too_many (length so_far.acted) (lines reached.reads.rest) (omega (arith, so_far.size)))
+      → ScriptEnds operator (ending.BadInput number) source now.source out now.out first now.stands
+  Stopped-full number full number_is = (
+    record {
+      no_fault = so_far.faults;
+      told = λ text told. let reached = so_far.reached text told in
+          stopped number now.source now.stands now.out text reached
+          (ReadsLines-whole source.reads now.source.reads now.reader.ended (ahead now.reader now.source) text so_far.acted
+          (length so_far.acted + 1) reached.reads reached.lines_are (omega arith)) (refl, refl) number_is (omega arith)
+          (too_many (length so_far.acted) (lines reached.reads.rest) (omega (arith, so_far.size)));
+    },
+    so_far.out_faults,
+  )
     where
       too_many : (n : ℕ) (texts : List (List ℕ)) → most_lines ≤ n → LeavesGrammar MayStand n texts
       too_many n [] many = tt
       too_many n (t ∷ texts) many = inl many
 
-  -- a read has failed
-  pub CutOff-here : ahead new.reader new.source ≡ ahead now.reader now.source
-      → position is_line_feed (unread new.reader) ≡ None
-      → Stay now.stands new.stands now.out new.out
-      → WhereTold source.left (CutOff operator new.source.left out new.out first new.stands)
-  CutOff-here still none stay text told =
-      let reached = so_far.reached text told in
-      let parts = told_parts (unread new.reader) new.source.left reached.reads.rest (still ∙ reached.reads.behind_is) in
+  -- the next line was looked for, and nothing behind it was read
+  module _ (new : RunState)
+      (alone : WhereTold (ahead now.reader now.source) (ReadsLines 1 now.source.reads new.source.reads))
+      (once : StaysAtEnd now.reader new.reader now.source new.source) where
+    -- so the lines so far were answered before more was read than that
+    reads-next : WhereTold source.left (ReadsNext so_far.acted source new.source)
+    reads-next text told =
+        let reached = so_far.reached text told in
+        ReadsLines-more source.reads now.source.reads new.source.reads now.reader.ended (ahead now.reader now.source)
+        text reached.reads (λ ended. (once ended).1) so_far.acted 1 reached.lines_are alone
+
+    -- the history has grown where it stays
+    grown_as : new.stands ≡ now.stands → HasGrown first new.stands
+    grown_as same = (so_far-grown.0, ap (λ (s : Standing). s.history) same ∙ so_far-grown.1)
+
+    -- and with one line more
+    grown_by : (line reply : List ℕ) → IsActedOn operator now.stands line reply new.stands → HasGrown first new.stands
+    grown_by line reply acted =
+        (run-goes operator first new.stands (so_far.acted ++ line ∷ []) (so_far.replies ++ reply)
+        (IsRun-more operator first so_far.acted so_far.replies now.stands line reply new.stands so_far.run acted)).grown
+
+    -- one line more
+    pub SoFar-more : TakesLine now new (λ line. Acts operator line now.stands new.stands now.out new.out)
+        → SoFar operator (count + 1) source out first new
+    SoFar-more takes =
+        let acts = takes.holds in record {
+          acted = so_far.acted ++ takes.line ∷ [];
+          replies = so_far.replies ++ acts.reply;
+          run = IsRun-more operator first so_far.acted so_far.replies now.stands takes.line acts.reply new.stands
+              so_far.run
+              acts.acted;
+          size = omega (arith, length-append so_far.acted (takes.line ∷ []), so_far.size);
+          taken = acts.takes.taken
+              ∙ (ap (λ (t : Option (List ℕ)). after_taken t acts.reply) so_far.taken
+              ∙ after_taken-more out.taken so_far.replies acts.reply);
+          out_faults = acts.takes.no_fault ∙ so_far.out_faults;
+          faults = takes.no_fault ∙ so_far.faults;
+          reached = λ text told. IsReached-more so_far.acted takes.line text source.reads now new
+              (so_far.reached text told) takes.next once;
+        }
+
+    -- the next line ends the script
+    pub Finished-here : TakesLine now new IsEnd
+        → Stay now.stands new.stands now.out new.out
+        → count < most_lines
+        → WhereTold source.left (Finished operator source new.source out new.out first new.stands)
+    Finished-here takes stay few text told =
+        let reached = so_far.reached text told in record {
+          acted = so_far.acted;
+          script = record {
+            last = takes.line;
+            rest = lines (line-reads so_far.acted takes.line text source.reads now new reached takes.next once).rest;
+            lines_are = line-behind so_far.acted takes.line text source.reads now new reached takes.next once;
+            ask = IsRun-asks operator first so_far.acted so_far.replies now.stands so_far.run;
+            end = takes.holds;
+            few = omega (arith, so_far.size);
+          };
+          reads = reads-next text told;
+          replies = acted_on new.stands new.out stay;
+        }
+
+    -- the next line may not stand in a script
+    pub Stopped-here : (number : ℕ)
+        → WhereTold (ahead now.reader now.source) (λ text. NoneStands (lines text))
+        → Stay now.stands new.stands now.out new.out
+        → count + 1 ≡ number
+        → count ≤ most_lines
+        → WhereTold source.left (Stopped number operator source new.source out new.out first new.stands)
+    Stopped-here number none stay number_is few text told =
+        let reached = so_far.reached text told in
+        stopped number new.source new.stands new.out text reached (reads-next text told) stay number_is few
+        (none_stands (length so_far.acted) (lines reached.reads.rest) (none reached.reads.rest reached.reads.behind_is))
+      where
+        none_stands : (n : ℕ) (texts : List (List ℕ)) → NoneStands texts → LeavesGrammar MayStand n texts
+        none_stands n [] none = tt
+        none_stands n (t ∷ texts) none = inr none
+
+    -- a read has failed
+    pub CutOff-here : ahead new.reader new.source ≡ ahead now.reader now.source
+        → new.reader.ended ≡ false
+        → position is_line_feed (unread new.reader) ≡ None
+        → Stay now.stands new.stands now.out new.out
+        → WhereTold source.left (CutOff operator source new.source out new.out first new.stands)
+    CutOff-here still going none stay text told =
+        let reached = so_far.reached text told in
+        let parts = told_parts (unread new.reader) new.source.left reached.reads.rest
+        (subst (λ (ended : Bool). before_left (unread new.reader) (still_left ended new.source.left)
+        ≡ Some reached.reads.rest) going (still ∙ reached.reads.behind_is)) in
+        record {
+          acted = so_far.acted;
+          front = reached.reads.taken;
+          begun = unread new.reader;
+          rest = parts.0;
+          left_is = parts.1;
+          text_is = reached.reads.text_is ∙ ap (λ (r : List ℕ). reached.reads.taken ++ r) parts.2;
+          lines_are = reached.lines_are ∙ ap (λ (r : List ℕ). so_far.acted ++ lines r) parts.2;
+          begun_only = none;
+          reads = reads-next text told;
+          replies = acted_on new.stands new.out stay;
+        }
+      where
+        told_parts : (front : List ℕ) (left : Option (List ℕ)) (t : List ℕ)
+            → before_left front left ≡ Some t
+            → (rest : List ℕ) × (left ≡ Some rest) × (t ≡ front ++ rest)
+        told_parts front None t is = absurd (cc)
+        told_parts front (Some rest) t is = (rest, refl, (cc))
+
+    -- memory has run out
+    pub LeftOff-here : Stay now.stands new.stands now.out new.out
+        → WhereTold source.left (LeftOff operator source new.source out new.out first new.stands)
+    LeftOff-here stay text told =
+        let reached = so_far.reached text told in record {
+          acted = so_far.acted;
+          rest = lines reached.reads.rest;
+          lines_are = reached.lines_are;
+          reads = reads-next text told;
+          replies = acted_on new.stands new.out stay;
+        }
+
+    -- the output has failed to take a reply
+    pub BrokenOff-here : TakesLine now new (λ line. ActsInVain operator line now.stands new.stands now.out new.out)
+        → WhereTold source.left (BrokenOff operator source new.source out new.out first new.stands)
+    BrokenOff-here takes text told =
+        let reached = so_far.reached text told in
+        let vain = takes.holds in
+        let prefix = vain.fails.prefix in
+        record {
+          acted = so_far.acted;
+          line = takes.line;
+          rest = lines (line-reads so_far.acted takes.line text source.reads now new reached takes.next once).rest;
+          lines_are = line-behind so_far.acted takes.line text source.reads now new reached takes.next once;
+          reads = reads-next text told;
+          replies = so_far.replies;
+          before = now.stands;
+          run = so_far.run;
+          part = prefix.0;
+          lost = prefix.1;
+          acted_last = subst (λ (r : List ℕ). IsActedOn operator now.stands takes.line r new.stands) prefix.2 vain.acted;
+          taken = prefix.3
+              ∙ (ap (λ (t : Option (List ℕ)). after_taken t prefix.0) so_far.taken
+              ∙ after_taken-more out.taken so_far.replies prefix.0);
+        }
+
+    -- the next line ends the run
+    pub ScriptEnds-here : (ended : TextEnding)
+        → count < most_lines
+        → NextEnds operator (count + 1) (Some ended) now new
+        → ScriptEnds operator ended source new.source out new.out first new.stands
+    ScriptEnds-here ending.Done few ends = (
+      record { no_fault = ends.0.no_fault ∙ so_far.faults; told = Finished-here ends.0 ends.1 few },
+      out-same new.out ends.1.1,
+    )
+    ScriptEnds-here (ending.BadInput number) few ends = (
       record {
-        acted = so_far.acted;
-        front = reached.reads.taken;
-        begun = unread new.reader;
-        rest = parts.0;
-        left_is = parts.1;
-        text_is = reached.reads.text_is ∙ ap (λ (r : List ℕ). reached.reads.taken ++ r) parts.2;
-        lines_are = reached.lines_are ∙ ap (λ (r : List ℕ). so_far.acted ++ lines r) parts.2;
-        begun_only = none;
-        replies = acted_on new.stands new.out stay;
-      }
-    where
-      told_parts : (front : List ℕ) (left : Option (List ℕ)) (t : List ℕ)
-          → before_left front left ≡ Some t
-          → (rest : List ℕ) × (left ≡ Some rest) × (t ≡ front ++ rest)
-      told_parts front None t is = absurd (cc)
-      told_parts front (Some rest) t is = (rest, refl, (cc))
+        no_fault = ends.1 ∙ so_far.faults;
+        told = Stopped-here number ends.2 ends.3 (sym ends.0) (omega arith);
+      },
+      out-same new.out ends.3.1,
+    )
+    ScriptEnds-here ending.ReadFault few ends = (
+      subst (λ (n : ℕ). Rose n new.source.faults) so_far.faults ends.0,
+      CutOff-here ends.1 ends.2 ends.3 ends.4,
+    )
+    ScriptEnds-here ending.WriteFault few ends = (
+      subst (λ (n : ℕ). Rose n new.out.faults) so_far.out_faults ends.holds.fails.rose,
+      record { no_fault = ends.no_fault ∙ so_far.faults; told = BrokenOff-here ends },
+    )
+    ScriptEnds-here ending.OutOfMemory few ends = LeftOff-here ends
 
-  -- memory has run out
-  pub LeftOff-here : Stay now.stands new.stands now.out new.out
-      → WhereTold source.left (LeftOff operator out new.out first new.stands)
-  LeftOff-here stay text told =
-      let reached = so_far.reached text told in record {
-        acted = so_far.acted;
-        rest = lines reached.reads.rest;
-        lines_are = reached.lines_are;
-        replies = acted_on new.stands new.out stay;
-      }
+    -- the history begins with the first one, whatever the next line did
+    pub HasGrown-end : (result : Option TextEnding)
+        → NextEnds operator (count + 1) result now new
+        → HasGrown first new.stands
+    HasGrown-end None ends = grown_by ends.line ends.holds.reply ends.holds.acted
+    HasGrown-end (Some ending.Done) ends = grown_as ends.1.0
+    HasGrown-end (Some (ending.BadInput number)) ends = grown_as ends.3.0
+    HasGrown-end (Some ending.ReadFault) ends = grown_as ends.4.0
+    HasGrown-end (Some ending.WriteFault) ends = grown_by ends.line ends.holds.reply ends.holds.acted
+    HasGrown-end (Some ending.OutOfMemory) ends = grown_as ends.0
 
-  -- the output has failed to take a reply
-  pub BrokenOff-here : TakesLine now new (λ line. ActsInVain operator line now.stands new.stands now.out new.out)
-      → WhereTold source.left (BrokenOff operator out new.out first new.stands)
-  BrokenOff-here takes text told =
-      let reached = so_far.reached text told in
-      let vain = takes.holds in
-      let prefix = vain.fails.prefix in
-      record {
-        acted = so_far.acted;
-        line = takes.line;
-        rest = lines (line-reads source.reads now.source.reads new.source.reads so_far.acted
-            (ahead now.reader now.source) (ahead new.reader new.source) takes.line text reached takes.next).rest;
-        lines_are = line-behind source.reads now.source.reads new.source.reads so_far.acted
-            (ahead now.reader now.source) (ahead new.reader new.source) takes.line text reached takes.next;
-        replies = so_far.replies;
-        before = now.stands;
-        run = so_far.run;
-        part = prefix.0;
-        lost = prefix.1;
-        acted_last = subst (λ (r : List ℕ). IsActedOn operator now.stands takes.line r new.stands) prefix.2 vain.acted;
-        taken = prefix.3
-            ∙ (ap (λ (t : Option (List ℕ)). after_taken t prefix.0) so_far.taken
-            ∙ after_taken-more out.taken so_far.replies prefix.0);
-      }
-
-  -- the next line ends the run
-  pub ScriptEnds-here : (ended : Ending)
-      → count < most_lines
-      → NextEnds operator (count + 1) (Some ended) now new
-      → ScriptEnds operator ended source new.source out new.out first new.stands
-  ScriptEnds-here ending.Done few ends = Finished-here ends.0 ends.1 few
-  ScriptEnds-here ending.Usage few ends = absurd ends
-  ScriptEnds-here (ending.BadInput number) few ends = Stopped-here number ends.1 ends.2 (sym ends.0) (omega arith)
-  ScriptEnds-here ending.ReadFault few ends = (
-    subst (λ (n : ℕ). Rose n new.source.faults) so_far.faults ends.0,
-    CutOff-here ends.1 ends.2 ends.3,
-  )
-  ScriptEnds-here ending.WriteFault few ends = (
-    subst (λ (n : ℕ). Rose n new.out.faults) so_far.out_faults ends.holds.fails.rose,
-    BrokenOff-here ends,
-  )
-  ScriptEnds-here ending.DiskFault few ends = absurd ends
-  ScriptEnds-here (ending.NotAJournal found) few ends = absurd ends
-  ScriptEnds-here (ending.Damaged place) few ends = absurd ends
-  ScriptEnds-here ending.OutOfMemory few ends = LeftOff-here ends
-  ScriptEnds-here ending.GateFault few ends = absurd ends
-
-  -- the history begins with the first one, whatever the next line did
-  pub HasGrown-end : (result : Option Ending) → NextEnds operator (count + 1) result now new → HasGrown first new.stands
-  HasGrown-end None ends = grown_by ends.line ends.holds.reply ends.holds.acted
-  HasGrown-end (Some ending.Done) ends = grown_as ends.1.0
-  HasGrown-end (Some ending.Usage) ends = absurd ends
-  HasGrown-end (Some (ending.BadInput number)) ends = grown_as ends.2.0
-  HasGrown-end (Some ending.ReadFault) ends = grown_as ends.3.0
-  HasGrown-end (Some ending.WriteFault) ends = grown_by ends.line ends.holds.reply ends.holds.acted
-  HasGrown-end (Some ending.DiskFault) ends = absurd ends
-  HasGrown-end (Some (ending.NotAJournal found)) ends = absurd ends
-  HasGrown-end (Some (ending.Damaged place)) ends = absurd ends
-  HasGrown-end (Some ending.OutOfMemory) ends = grown_as ends.0
-  HasGrown-end (Some ending.GateFault) ends = absurd ends
-
-  -- where it ends the script no fault was passed over
-  pub no_fault-end : NextEnds operator (count + 1) (Some ending.Done) now new
-      → (new.source.faults ≡ source.faults) × (new.out.faults ≡ out.faults)
-  no_fault-end ends = (
-    ends.0.no_fault ∙ so_far.faults,
-    ap (λ (s : SinkState). s.faults) ends.1.1 ∙ so_far.out_faults,
-  )
-
-  -- the script goes on
-  pub SoFar-next : (result : Option Ending)
-      → ((ended : Ending) → result ≡ Some ended → ⊥)
-      → NextEnds operator (count + 1) result now new
-      → SoFar operator (count + 1) source out first new
-  SoFar-next None on ends = SoFar-more ends
-  SoFar-next (Some ended) on ends = absurd (on ended refl)
+    -- the script goes on
+    pub SoFar-next : (result : Option TextEnding)
+        → ((ended : TextEnding) → result ≡ Some ended → ⊥)
+        → NextEnds operator (count + 1) result now new
+        → SoFar operator (count + 1) source out first new
+    SoFar-next None on ends = SoFar-more ends
+    SoFar-next (Some ended) on ends = absurd (on ended refl)

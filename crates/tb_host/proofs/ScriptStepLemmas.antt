@@ -1,6 +1,6 @@
 -- The next line of a script.
 use Rattle.std.proofs.Common.{◌≡◌, ℕ, ◌<◌, List, ◌∷◌, ◌-◌, length, take, drop, sym, subst, ap, ◌∙◌, arith, inl, inr}
-use Rattle.std.specs.Prelude.{Option, Some, None}
+use Rattle.std.specs.Prelude.{Bool, Option, Some, None}
 use Rattle.std.specs.Str.Lines.{lines}
 use Rattle.std.proofs.lemmas.List.{length-drop, take_all}
 use Rattle.tb_link.specs.Sinks.{SinkState, Takes, FailsToTake}
@@ -15,18 +15,18 @@ use Rattle.tb_host.specs.ScriptSteps.{Acts, ActsInVain, IsNext, LineEnds, NextEn
 use Rattle.tb_host.specs.Scripts.{MayStand}
 use Rattle.tb_host.specs.Standings.{Standing}
 use Rattle.tb_host.specs.Told.{WhereTold}
-use Rattle.tb_host.specs.declared.ending.Ending.{Ending}
-use Rattle.tb_host.specs.declared.ending.Ending.TheVariants as ending
+use Rattle.tb_host.specs.declared.command_endings.TextEnding.{TextEnding}
+use Rattle.tb_host.specs.declared.command_endings.TextEnding.TheVariants as ending
 use Rattle.tb_host.specs.declared.script_line.Ask.{Ask}
 use Rattle.tb_host.specs.declared.line_end.NextLine.TheVariants as next
-use Rattle.tb_host.proofs.ScriptLemmas.{same_rest}
+use Rattle.tb_host.proofs.ReadLemmas.{same_rest}
 
 -- a line that was found is the next one
-pub IsNext-found : (before after : ℕ) (line : List ℕ) (behind : Option (List ℕ)) (text : List ℕ)
+pub IsNext-found : (before after : ℕ) (ended : Bool) (line : List ℕ) (behind : Option (List ℕ)) (text : List ℕ)
     → Finds next.Line text line behind
-    → ReadsNoMore before after behind text
-    → IsNext before after line behind text
-IsNext-found before after line behind text found reads = record {
+    → ReadsNoMore before after ended behind text
+    → IsNext before after ended line behind text
+IsNext-found before after ended line behind text found reads = record {
   reads = reads;
   lines_are = found.1.2
       ∙ ap (λ (r : List ℕ). line ∷ lines r) (same_rest behind found.1.0 reads.rest found.1.1 reads.behind_is);
@@ -108,16 +108,16 @@ ActsInVain-here operator line ask old new reply out out' spells answered fails =
 }
 
 -- the next line was found, and acted on
-pub NextEnds-line : (operator : List ℕ) (number : ℕ) (result : Option Ending) (line : List ℕ) (old new : RunState)
+pub NextEnds-line : (operator : List ℕ) (number : ℕ) (result : Option TextEnding) (line : List ℕ) (old new : RunState)
     → FindsWhereTold (ahead old.reader old.source) next.Line line (ahead new.reader new.source)
     → WhereTold (ahead old.reader old.source)
-    (ReadsNoMore old.source.reads new.source.reads (ahead new.reader new.source))
+    (ReadsNoMore old.source.reads new.source.reads new.reader.ended (ahead new.reader new.source))
     → new.source.faults ≡ old.source.faults
     → LineEnds operator number line result old.stands new.stands old.out new.out
     → NextEnds operator number result old new
 NextEnds-line operator number None line old new found reads no_fault ends = record {
   line = line;
-  next = λ text told. IsNext-found old.source.reads new.source.reads line (ahead new.reader new.source) text
+  next = λ text told. IsNext-found old.source.reads new.source.reads new.reader.ended line (ahead new.reader new.source) text
       (found text told) (reads text told);
   no_fault = no_fault;
   holds = ends;
@@ -125,29 +125,25 @@ NextEnds-line operator number None line old new found reads no_fault ends = reco
 NextEnds-line operator number (Some ending.Done) line old new found reads no_fault ends = (
   record {
     line = line;
-    next = λ text told. IsNext-found old.source.reads new.source.reads line (ahead new.reader new.source) text
+    next = λ text told. IsNext-found old.source.reads new.source.reads new.reader.ended line (ahead new.reader new.source) text
         (found text told) (reads text told);
     no_fault = no_fault;
     holds = ends.0;
   },
   ends.1,
 )
-NextEnds-line operator number (Some ending.Usage) line old new found reads no_fault ends = absurd ends
-NextEnds-line operator number (Some ending.DiskFault) line old new found reads no_fault ends = absurd ends
-NextEnds-line operator number (Some (ending.NotAJournal bytes)) line old new found reads no_fault ends = absurd ends
-NextEnds-line operator number (Some (ending.Damaged place)) line old new found reads no_fault ends = absurd ends
 NextEnds-line operator number (Some (ending.BadInput at)) line old new found reads no_fault ends = (
   ends.0,
+  no_fault,
   λ text told. NoneStands-unread text line (ahead new.reader new.source) (found text told) ends.1,
   ends.2,
 )
 NextEnds-line operator number (Some ending.ReadFault) line old new found reads no_fault ends = absurd ends
 NextEnds-line operator number (Some ending.WriteFault) line old new found reads no_fault ends = record {
   line = line;
-  next = λ text told. IsNext-found old.source.reads new.source.reads line (ahead new.reader new.source) text
+  next = λ text told. IsNext-found old.source.reads new.source.reads new.reader.ended line (ahead new.reader new.source) text
       (found text told) (reads text told);
   no_fault = no_fault;
   holds = ends;
 }
 NextEnds-line operator number (Some ending.OutOfMemory) line old new found reads no_fault ends = ends
-NextEnds-line operator number (Some ending.GateFault) line old new found reads no_fault ends = absurd ends

@@ -18,7 +18,6 @@ use Rattle.tb_message.specs.declared.message.Entry.{Entry}
 use Rattle.tb_history.specs.Legal.{IsLegal}
 use Rattle.tb_desk.specs.Desks.{CrashesSince}
 use Rattle.tb_desk.specs.Replay.{IsExact}
-use Rattle.tb_desk.specs.declared.fault.OpenFault.{OpenFault}
 use Rattle.tb_desk.specs.declared.fault.OpenFault.TheVariants as fault
 use Rattle.tb_desk.proofs.GroupLemmas.{IsLegal-in_range}
 use Rattle.tb_session.specs.declared.room.Room.{Room}
@@ -26,12 +25,13 @@ use Rattle.tb_session.specs.Codes.{Made, fixed_code, spelled_all}
 use Rattle.tb_session.specs.Rooms.{house_of}
 use Rattle.tb_session.specs.Serve.{Run, AreRuns, IsHistoryOf, calls_of_gates, links_of_gates, some_failed}
 use Rattle.tb_host.specs.DiskRun.{CrashesKeep, HasGrown, Unopened}
-use Rattle.tb_host.specs.Endings.{ending_of}
-use Rattle.tb_host.specs.ServeRun.{Handed, HasAdded, LinksEnd, OneRose, OnServed, RoomEnds, RoomServed, ServeEnds, Serves, ToldEnds, WereServed, fixed_at, served_text}
+use Rattle.tb_host.specs.ServeRun.{Handed, LinksEnd, LinksServed, OneRose, RoomEnds, RoomServed, ServeEnds, ToldEnds, fixed_at, served_text}
+use Rattle.tb_host.specs.Headline.{OneHistory}
 use Rattle.tb_host.specs.Standings.{Standing, standing}
-use Rattle.tb_host.specs.declared.ending.Ending.{Ending}
-use Rattle.tb_host.specs.declared.ending.Ending.TheVariants as ending
+use Rattle.tb_host.specs.declared.command_endings.ServeEnding.{ServeEnding}
+use Rattle.tb_host.specs.declared.command_endings.ServeEnding.TheVariants as ending
 use Rattle.tb_host.proofs.DiskLemmas.{CrashesKeep-here, Unopened-here, Unopened-untouched}
+use Rattle.tb_host.proofs.HeadlineLemmas.{Headline-here}
 use Rattle.tb_host.proofs.OneHistoryLemmas.{Begins-spelled, OneHistory-spelled}
 use Rattle.tb_host.proofs.WriteLemmas.{Fails-first, Fails-second, Takes-both}
 
@@ -66,6 +66,7 @@ pub record IsOpenedFrom {D C : Type 0} (disk : D → DiskState) (clock : C → C
   pub recovered : room.desk.recovered ≡ length room.desk.host.history
   pub sure : room.desk.doubt ≡ []
   pub unmet : room.desk.faults ≡ 0
+  pub none : room.desk.doubted ≡ []
   pub no_fault : (disk room.desk.disk).faults ≡ old.faults
   pub same : room.desk.opened ≡ room.desk.disk
   pub operator_is : room.operator ≡ operator
@@ -102,23 +103,27 @@ module _ {D C G K : Type 0} (disk : D → DiskState) (clock : C → ClockState) 
       ∙ ap (λ (m : Option (List ℕ)). fixed_code operator (is_some old.past) old.faults m) moment))
 
   -- Where the desk was opened and its room's gates were served, links were served.
-  pub Serves-room : (operator : List ℕ) (moments : ClockState) (ended : Ending) (old mid new : Handed G)
+  pub Serves-room : (operator : List ℕ) (moments : ClockState) (ended : ServeEnding) (old mid new : Handed G)
       (room : Room D C)
       → IsOpenedFrom disk clock operator moments old.disk room
       → mid.disk ≡ disk room.desk.disk
       → mid.gates ≡ old.gates
       → mid.out ≡ old.out
       → RoomServed disk clock gate source sink room ended mid new
-      → OnServed gate source sink operator moments old new
-      (λ first last runs. (accepted : ℕ) × HasAdded first last accepted
-      × LinksEnd ended old.out new.out runs accepted)
+      → LinksServed gate source sink operator moments ended old new
   Serves-room operator moments ended old mid new room opened disk_is gates_is out_is done = (
     first,
     last,
     done.all.runs,
     record {
       keeps = record {
-        opened = record { stood = opened.exact; legal = opened.legal; sure = opened.sure; count = opened.no_fault };
+        opened = record {
+          stood = opened.exact;
+          legal = opened.legal;
+          sure = opened.sure;
+          none = opened.none;
+          count = opened.no_fault;
+        };
         grown = grown;
         stays = done.stays;
         since = since;
@@ -127,15 +132,15 @@ module _ {D C G K : Type 0} (disk : D → DiskState) (clock : C → ClockState) 
       are_runs = subst (λ (olds : List G). AreRuns gate source sink (fixed_at operator old.disk moments) olds new.gates
           done.all.runs) gates_is (subst (λ (f : List ℕ). AreRuns gate source sink f mid.gates new.gates done.all.runs)
           fixed done.all.are_runs);
-      one = OneHistory-spelled (fixed_at operator old.disk moments) first last grown.0 room.desk.faults
-          done.after.desk.faults (calls_of_gates done.all.runs) opened.legal done.stays.legal done.stays.accepted
-          grown.1 history;
+      headline = Headline-here (fixed_at operator old.disk moments) new.disk first last grown.0
+          (calls_of_gates done.all.runs) one done.stays;
       counts = record {
         met = done.after.desk.faults;
         each = λ k d within. ((history.counts k d within).1, (history.counts k d within).2);
         within = subst (λ (n : ℕ). (n + done.after.desk.faults ≤ new.disk.faults) ⊎ (new.disk.faults ≡ last_count))
             faults done.counted;
       };
+      apart = done.all.apart;
     },
     (
       done.accepted,
@@ -178,6 +183,11 @@ module _ {D C G K : Type 0} (disk : D → DiskState) (clock : C → ClockState) 
       grown = Begins-spelled first.history last.history (IsLegal-in_range first.history opened.legal)
           (IsLegal-in_range last.history done.stays.legal) (history.later, history.grown)
 
+      one : OneHistory (fixed_at operator old.disk moments) first last grown.0 (calls_of_gates done.all.runs)
+      one = OneHistory-spelled (fixed_at operator old.disk moments) first last grown.0 room.desk.faults
+          done.after.desk.faults (calls_of_gates done.all.runs) opened.legal done.stays.legal done.stays.accepted
+          grown.1 history
+
       told : LinksEnd ended mid.out new.out done.all.runs done.accepted
       told = subst (λ (b : Bool). ToldEnds b ended mid.out new.out (served_text (links_of_gates done.all.runs)
           done.accepted)) done.all.failed_is
@@ -207,37 +217,22 @@ module _ {D C G K : Type 0} (disk : D → DiskState) (clock : C → ClockState) 
             grown = grown;
             final_count = refl;
             since = subst (λ (d : DiskState). CrashesSince d new.disk last.history last.doubt done.after.desk.recovered
-                done.after.desk.faults) same done.since;
+                done.after.desk.faults done.after.desk.doubted) same done.since;
             counted = subst (λ (d : DiskState). (d.faults + done.after.desk.faults ≤ new.disk.faults)
                 ⊎ (new.disk.faults ≡ last_count)) same done.counted;
           })
 
-  -- what follows wherever links were served
-  pub served-part : (operator : List ℕ) (moments : ClockState) (ended : Ending) (old new : Handed G)
-      (Q : Standing → Standing → List (Run K) → Type 0)
-      → ((first last : Standing) (runs : List (Run K))
-      → Serves gate source sink operator moments old new first last runs → Q first last runs)
+  -- where links were served, the command ends so
+  ServeEnds-linked : (operator : List ℕ) (moments : ClockState) (ended : ServeEnding) (old new : Handed G)
+      → LinksServed gate source sink operator moments ended old new
       → ServeEnds gate source sink operator moments ended old new
-      → WereServed ended
-      → OnServed gate source sink operator moments old new Q
-  served-part operator moments ended old new Q follows (inl served) were = (
-    served.0,
-    served.1,
-    served.2,
-    served.3,
-    follows served.0 served.1 served.2 served.3,
-  )
-  served-part operator moments ended old new Q follows (inr unserved) were =
-      absurd (never unserved.why (subst WereServed unserved.ended_is were))
-    where
-      never : (why : OpenFault) → WereServed (ending_of why) → ⊥
-      never fault.DiskFault were = were
-      never (fault.NotAJournal found) were = were
-      never (fault.Damaged place) were = were
-      never fault.OutOfMemory were = were
+  ServeEnds-linked operator moments ending.Done old new served = served
+  ServeEnds-linked operator moments ending.WriteFault old new served = served
+  ServeEnds-linked operator moments ending.GateFault old new served = served
+  ServeEnds-linked operator moments (ending.Unserved why) old new served = absurd served.4.2
 
   -- Where the desk was opened, the command ends as its room does.
-  pub ServeEnds-room : (operator : List ℕ) (moments : ClockState) (ended : Ending) (old mid new : Handed G)
+  pub ServeEnds-room : (operator : List ℕ) (moments : ClockState) (ended : ServeEnding) (old mid new : Handed G)
       (room : Room D C)
       → IsOpenedFrom disk clock operator moments old.disk room
       → mid.disk ≡ disk room.desk.disk
@@ -246,11 +241,10 @@ module _ {D C G K : Type 0} (disk : D → DiskState) (clock : C → ClockState) 
       → RoomEnds disk clock gate source sink room ended mid new
       → ServeEnds gate source sink operator moments ended old new
   ServeEnds-room operator moments ended old mid new room opened disk_is gates_is out_is (inl done) =
-      inl (Serves-room operator moments ended old mid new room opened disk_is gates_is out_is done)
+      ServeEnds-linked operator moments ended old new
+      (Serves-room operator moments ended old mid new room opened disk_is gates_is out_is done)
   ServeEnds-room operator moments ended old mid new room opened disk_is gates_is out_is (inr (ended_is, same)) =
-      inr (record {
-        why = fault.OutOfMemory;
-        ended_is = ended_is;
+      subst (λ (e : ServeEnding). ServeEnds gate source sink operator moments e old new) (sym ended_is) (record {
         unopened = subst (λ (d : DiskState). Unopened fault.OutOfMemory old.disk d)
             (sym (ap (λ (h : Handed G). h.disk) same ∙ disk_is))
             (Unopened-left old.disk (disk room.desk.disk) opened.harmless opened.opens opened.no_fault);
@@ -286,10 +280,11 @@ pub told-first : (failed : Bool) (served accepted : ℕ) (old new : SinkState)
     → failed ≡ false
     → FailsToTake old new (codes "served " ++ decimal served ++ line_feed ∷ [])
     → ToldEnds failed ending.WriteFault old new (served_text served accepted)
-told-first failed served accepted old new none fails =
-    subst (λ (b : Bool). ToldEnds b ending.WriteFault old new (served_text served accepted)) (sym none)
-    (Fails-first old new (codes "served " ++ decimal served ++ line_feed ∷ [])
-    (codes "accepted " ++ decimal accepted ++ line_feed ∷ []) fails)
+told-first failed served accepted old new none fails = (
+  none,
+  Fails-first old new (codes "served " ++ decimal served ++ line_feed ∷ [])
+      (codes "accepted " ++ decimal accepted ++ line_feed ∷ []) fails,
+)
 
 -- the second did
 pub told-second : (failed : Bool) (served accepted : ℕ) (old mid new : SinkState)
@@ -297,10 +292,11 @@ pub told-second : (failed : Bool) (served accepted : ℕ) (old mid new : SinkSta
     → Takes old mid (codes "served " ++ decimal served ++ line_feed ∷ [])
     → FailsToTake mid new (codes "accepted " ++ decimal accepted ++ line_feed ∷ [])
     → ToldEnds failed ending.WriteFault old new (served_text served accepted)
-told-second failed served accepted old mid new none takes fails =
-    subst (λ (b : Bool). ToldEnds b ending.WriteFault old new (served_text served accepted)) (sym none)
-    (Fails-second old mid new (codes "served " ++ decimal served ++ line_feed ∷ [])
-    (codes "accepted " ++ decimal accepted ++ line_feed ∷ []) takes fails)
+told-second failed served accepted old mid new none takes fails = (
+  none,
+  Fails-second old mid new (codes "served " ++ decimal served ++ line_feed ∷ [])
+      (codes "accepted " ++ decimal accepted ++ line_feed ∷ []) takes fails,
+)
 
 -- both lines were written
 pub told-both : (failed : Bool) (served accepted : ℕ) (old mid new : SinkState)
@@ -308,7 +304,8 @@ pub told-both : (failed : Bool) (served accepted : ℕ) (old mid new : SinkState
     → Takes old mid (codes "served " ++ decimal served ++ line_feed ∷ [])
     → Takes mid new (codes "accepted " ++ decimal accepted ++ line_feed ∷ [])
     → ToldEnds failed ending.Done old new (served_text served accepted)
-told-both failed served accepted old mid new none takes then =
-    subst (λ (b : Bool). ToldEnds b ending.Done old new (served_text served accepted)) (sym none)
-    (Takes-both old mid new (codes "served " ++ decimal served ++ line_feed ∷ [])
-    (codes "accepted " ++ decimal accepted ++ line_feed ∷ []) takes then)
+told-both failed served accepted old mid new none takes then = (
+  none,
+  Takes-both old mid new (codes "served " ++ decimal served ++ line_feed ∷ [])
+      (codes "accepted " ++ decimal accepted ++ line_feed ∷ []) takes then,
+)

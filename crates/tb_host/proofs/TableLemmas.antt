@@ -1,5 +1,5 @@
 -- Tables of bids that are read from the input.
-use Rattle.std.proofs.Common.{◌≡◌, ◌⊎◌, ℕ, ◌<◌, List, [], ◌++◌, length, Option, Some, None, inl, inr, sym, subst, ap, ◌∙◌, refl, arith, append_assoc, append-nil}
+use Rattle.std.proofs.Common.{◌≡◌, ◌⊎◌, ℕ, ◌+◌, ◌<◌, ◌≤◌, List, [], ◌++◌, length, Option, Some, None, inl, inr, sym, subst, ap, ◌∙◌, refl, arith, append_assoc, append-nil}
 use Rattle.std.specs.Prelude.{IfSome}
 use Rattle.std.proofs.lemmas.List.{length-append}
 use Rattle.tb_link.specs.Sources.{SourceState, before_left}
@@ -8,6 +8,7 @@ use Rattle.tb_core.specs.House.{IsBid}
 use Rattle.tb_desk.specs.Turn.{AreBids, AreNumbered}
 use Rattle.tb_import.specs.Tables.{IsFirstBad, IsTable, most_bytes}
 use Rattle.tb_import.proofs.CallerLemmas.{table-sound}
+use Rattle.tb_host.specs.Reads.{ReadsToEnd, ReadsWithoutFault}
 use Rattle.tb_host.specs.TableInput.{HasRows, HasText}
 use Rattle.tb_host.specs.Told.{WhereTold}
 
@@ -46,6 +47,16 @@ read-more old mid new text piece text' first second more =
     ∙ (ap (before_left text) second
     ∙ (before_left-more text piece new ∙ ap (λ (t : List ℕ). before_left t new) (sym more)))
 
+-- each read gave a byte of the text so far, and then there was at most one more
+pub ReadsToEnd-text : (before now after : ℕ) (text : List ℕ) (old left : Option (List ℕ))
+    → old ≡ before_left text left
+    → now ≤ before + length text
+    → after ≤ now + 1
+    → WhereTold old (ReadsToEnd before after)
+ReadsToEnd-text before now after text old left is few one = λ bytes told.
+    let parts = told-left text old left bytes is told in
+    omega (arith, ap length parts.2, length-append text parts.0)
+
 -- the input was read to its end
 pub HasText-end : (text : List ℕ) (input input' : SourceState)
     → input.left ≡ before_left text input'.left
@@ -75,10 +86,9 @@ pub HasRows-text : (text : List ℕ) (input input' : SourceState) (rows : List (
     → input'.faults ≡ input.faults
     → HasRows input input' rows
 HasRows-text text input input' rows has table same = record {
-  table = λ bytes told. whole bytes (has bytes told);
+  table = record { no_fault = same; told = λ bytes told. whole bytes (has bytes told) };
   bids = (sendable text rows table).0;
   numbered = (sendable text rows table).1;
-  no_fault = same;
 }
   where
     whole : (bytes : List ℕ)
@@ -98,8 +108,10 @@ HasRows-text text input input' rows has table same = record {
 pub IsFirstBad-text : (text : List ℕ) (input input' : SourceState) (record_at : ℕ)
     → HasText text input input'
     → IsFirstBad text record_at
-    → WhereTold input.left (λ bytes. IsFirstBad bytes record_at)
-IsFirstBad-text text input input' record_at has bad = λ bytes told. whole bytes (has bytes told)
+    → input'.faults ≡ input.faults
+    → ReadsWithoutFault input input' (λ bytes. IsFirstBad bytes record_at)
+IsFirstBad-text text input input' record_at has bad same =
+    record { no_fault = same; told = λ bytes told. whole bytes (has bytes told) }
   where
     whole : (bytes : List ℕ)
         → (rest : List ℕ) × (input'.left ≡ Some rest) × (bytes ≡ text ++ rest)

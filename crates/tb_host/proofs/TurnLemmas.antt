@@ -8,7 +8,7 @@ use Rattle.tb_message.specs.declared.message.Message.{Message}
 use Rattle.tb_message.specs.declared.verdict.Verdict.{Verdict}
 use Rattle.tb_history.specs.Legal.{running}
 use Rattle.tb_history.specs.Verdict.{verdict_on}
-use Rattle.tb_desk.specs.Desks.{replies_of}
+use Rattle.tb_desk.specs.Desks.{PlacedGroup, doubted_by, replies_of}
 use Rattle.tb_desk.specs.Turn.{Asked, Held, IsTurn, Replies, Turns, group, verdicts}
 use Rattle.tb_desk.specs.declared.reply.Reply.{Reply}
 use Rattle.tb_desk.specs.declared.reply.Reply.TheVariants as turned
@@ -18,19 +18,22 @@ use Rattle.tb_host.specs.Standings.{Standing, held_at}
 use Rattle.tb_host.specs.Turns.{Counts, GoesOneWay, MakesTurn}
 
 -- where a script stands, by its parts
-abbrev pub stands_at : List Entry → List Entry → ℕ → Standing
-stands_at history doubt faults = record { history = history; doubt = doubt; faults = faults }
+abbrev pub stands_at : List Entry → List Entry → ℕ → List PlacedGroup → Standing
+stands_at history doubt faults doubted =
+    record { history = history; doubt = doubt; faults = faults; doubted = doubted }
 
 -- it is told by them
-pub stands-is : (one : Standing) (history doubt : List Entry) (faults : ℕ)
+pub stands-is : (one : Standing) (history doubt : List Entry) (faults : ℕ) (doubted : List PlacedGroup)
     → one.history ≡ history
     → one.doubt ≡ doubt
     → one.faults ≡ faults
-    → one ≡ stands_at history doubt faults
-stands-is one history doubt faults histories doubts counts =
-    ap (λ (h : List Entry). stands_at h one.doubt one.faults) histories
-    ∙ (ap (λ (d : List Entry). stands_at history d one.faults) doubts
-    ∙ ap (λ (f : ℕ). stands_at history doubt f) counts)
+    → one.doubted ≡ doubted
+    → one ≡ stands_at history doubt faults doubted
+stands-is one history doubt faults doubted histories doubts counts groups =
+    ap (λ (h : List Entry). stands_at h one.doubt one.faults one.doubted) histories
+    ∙ (ap (λ (d : List Entry). stands_at history d one.faults one.doubted) doubts
+    ∙ (ap (λ (f : ℕ). stands_at history doubt f one.doubted) counts
+    ∙ ap (λ (g : List PlacedGroup). stands_at history doubt faults g) groups))
 
 -- the count after replies, by its clauses
 counts-of : (replies : Replies) (old new : ℕ)
@@ -61,13 +64,15 @@ pub MakesTurn-of : (gate : ℕ) (disk : DiskState) (asked : Asked) (old new : St
     → NeverFalls old.faults new.faults
     → (replies ≡ None → Rose old.faults new.faults)
     → (replies ≢ None → new.faults ≡ old.faults)
+    → new.doubted ≡ old.doubted ++ doubted_by replies (held_at new)
     → MakesTurn asked old new replies
-MakesTurn-of gate disk asked old new replies turns never fault no_fault = record {
+MakesTurn-of gate disk asked old new replies turns never fault no_fault doubted = record {
   at = turns.at;
   resolved = resolved-of gate disk asked (held_at old) (held_at new) replies turns.at turns.turn;
   legal = turns.legal;
   way = way-of gate disk asked (held_at old) (held_at new) replies turns.at turns.turn;
   counts = counts-of replies old.faults new.faults never fault no_fault;
+  doubted = doubted;
 }
 
 -- the same of a single message
@@ -76,15 +81,16 @@ pub MakesTurn-single : (gate : ℕ) (disk : DiskState) (asked : Asked) (old new 
     → NeverFalls old.faults new.faults
     → (answer ≡ turned.DiskFault → Rose old.faults new.faults)
     → (answer ≢ turned.DiskFault → new.faults ≡ old.faults)
+    → new.doubted ≡ old.doubted ++ doubted_by (replies_of answer) (held_at new)
     → MakesTurn asked old new (replies_of answer)
-MakesTurn-single gate disk asked old new (turned.Verdict said) turns never fault no_fault =
+MakesTurn-single gate disk asked old new (turned.Verdict said) turns never fault no_fault doubted =
     MakesTurn-of gate disk asked old new (Some (said ∷ [])) turns never (λ is. absurd (cc))
-    (λ some. no_fault (λ is. absurd (cc)))
-MakesTurn-single gate disk asked old new turned.DiskFault turns never fault no_fault =
-    MakesTurn-of gate disk asked old new None turns never (λ is. fault refl) (λ some. absurd (some refl))
+    (λ some. no_fault (λ is. absurd (cc))) doubted
+MakesTurn-single gate disk asked old new turned.DiskFault turns never fault no_fault doubted =
+    MakesTurn-of gate disk asked old new None turns never (λ is. fault refl) (λ some. absurd (some refl)) doubted
 
 -- the history on which a verdict stands begins with the one before
-at-grown : (old at doubt : List Entry)
+pub at-grown : (old at doubt : List Entry)
     → (at ≡ old) ⊎ (at ≡ old ++ doubt)
     → (more : List Entry) × (at ≡ old ++ more)
 at-grown old at doubt (inl same) = ([], same ∙ sym (append-nil old))

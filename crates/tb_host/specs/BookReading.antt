@@ -2,8 +2,9 @@
 use Rattle.std.specs.Prelude.{◌≡◌, ℕ, ◌+◌, ◌<◌, ◌≤◌, List, [], ◌∷◌, ◌++◌, length, Option, Some}
 use Rattle.std.specs.Str.Lines.{lines}
 use Rattle.tb_host.specs.BookLines.{Spells}
-use Rattle.tb_host.specs.Books.{AreEntries, Book, empty_book, IsBadNext}
+use Rattle.tb_host.specs.Books.{AreEntries, BeginsWithBook, Book, empty_book, IsBadLine, IsBadNext}
 use Rattle.tb_host.specs.LineEnds.{most_lines}
+use Rattle.tb_host.specs.Reads.{ReadsLines}
 use Rattle.tb_host.specs.declared.book_line.BookLine.{BookLine}
 use Rattle.tb_host.specs.declared.book_line.BookLine.TheVariants as kind
 use Rattle.tb_host.specs.declared.book_line.Offering.{Offering}
@@ -42,8 +43,9 @@ pub record EndsEntries (offering : Offering) (book : Book) (behind : Option (Lis
   pub end : Spells last kind.End
   pub few : length read + 1 < most_lines
 
--- behind the offering and some entries stands the first line outside the grammar, the line of this number in the input
-pub record StopsEntries (number : ℕ) (offering : Offering) (text : List ℕ) : Type 0 where
+-- behind the offering and some entries stands the first line outside the grammar, the line of this number in the
+-- input, and nothing behind it was read
+pub record StopsEntries (number before after : ℕ) (offering : Offering) (text : List ℕ) : Type 0 where
   pub book : Book
   pub read : List (List ℕ)
   pub rest : List (List ℕ)
@@ -52,3 +54,14 @@ pub record StopsEntries (number : ℕ) (offering : Offering) (text : List ℕ) :
   pub few : length read + 1 ≤ most_lines
   pub bad : IsBadNext offering book (length read + 1) rest
   pub number_is : length read + 2 ≡ number
+  pub reads : ReadsLines (length read + 1) before after text
+
+-- a text begins with this book, and nothing behind the line that ends it was read
+pub record ReadsBook (before after : ℕ) (offering : Offering) (book : Book) (text : List ℕ) : Type 0 where
+  pub begins : BeginsWithBook (lines text) offering book
+  pub reads : ReadsLines (length begins.front + 1) before after text
+
+-- the line of this number is the first outside the grammar of books, and nothing behind it was read
+pub record ReadsBadLine (number before after : ℕ) (text : List ℕ) : Type 0 where
+  pub bad : IsBadLine number (lines text)
+  pub reads : ReadsLines number before after text

@@ -1,48 +1,47 @@
--- The words of the command line.
-use Rattle.std.specs.Prelude.{ℕ, ◌⊎◌, List, Bool, ⊤}
+-- What commands use.
+use Rattle.std.specs.Prelude.{◌≡◌, ℕ, List, Bool, true, false, ⊤}
 use Rattle.tb_words.specs.Commands as all
-use Rattle.tb_words.specs.declared.command.Command as declared
-use Rattle.tb_words.specs.declared.command.Command.TheVariants as every
-use Rattle.tb_host.specs.declared.report_command.Inquiry.{Inquiry}
-use Rattle.tb_host.specs.declared.sender.Sender.{Sender}
+use Rattle.tb_words.specs.declared.command.Command.{Command}
+use Rattle.tb_words.specs.declared.command.Command.TheVariants as command
+use Rattle.tb_host.specs.declared.planned.Plan.{Plan}
 
--- the words are the command `award`, or `award full`
-abbrev pub AreAward : Bool → List (List ℕ) → Type 0
-AreAward full words = all.AreWordsOf (every.Award full) words
+-- which of the objects that it is handed a command may touch
+pub record Uses : Type 0 where
+  pub input : Bool
+  pub out : Bool
+  pub disk : Bool
+  pub gates : Bool
 
--- the words are the command `run` with the option `--op` and this name
-abbrev pub AreRun : List ℕ → List (List ℕ) → Type 0
-AreRun operator words = all.AreWordsOf (every.Run operator) words
+-- the table of it
+abbrev pub uses_of : Command → Uses
+uses_of (command.Award full) = record { input = true; out = true; disk = false; gates = false }
+uses_of (command.Run operator) = record { input = true; out = true; disk = true; gates = false }
+uses_of (command.Serve operator port workers links) =
+    record { input = false; out = true; disk = true; gates = true }
+uses_of (command.Import operator caller) = record { input = true; out = true; disk = true; gates = false }
+uses_of (command.Report operator caller asked csv) =
+    record { input = false; out = true; disk = true; gates = false }
+uses_of (command.Trial seed count) = record { input = false; out = true; disk = false; gates = false }
 
--- the words are the command `import` in this name
-abbrev pub AreImport : Sender → List (List ℕ) → Type 0
-AreImport sender words = all.AreWordsOf (every.Import sender.operator sender.key) words
+-- an object that isn't used is as it was
+abbrev pub Stays : {A : Type 0} → Bool → A → A → Type 0
+Stays used old new = used ≡ false → new ≡ old
 
--- the words are the command `report` that asks this
-abbrev pub AreReport : Inquiry → List (List ℕ) → Type 0
-AreReport asked words =
-    all.AreWordsOf (every.Report asked.sender.operator asked.sender.key asked.query asked.csv) words
+-- the words are a command that works on the disk
+abbrev pub AreOnDisk : List (List ℕ) → Type 0
+AreOnDisk words = (said : Command) × all.AreWordsOf said words × ((uses_of said).disk ≡ true)
 
--- the words are the command `trial` with this seed and this count
-abbrev pub AreTrial : ℕ → ℕ → List (List ℕ) → Type 0
-AreTrial seed count words = all.AreWordsOf (every.Trial seed count) words
+-- there are as many gates as the command has workers
+abbrev pub HasGates : Command → ℕ → Type 0
+HasGates (command.Serve operator port workers links) gates = gates ≡ workers
+HasGates other gates = ⊤
 
--- the commands that serve no links: all but `serve`
-abbrev pub ServesNoLinks : declared.Command → Type 0
-ServesNoLinks (every.Award full) = ⊤
-ServesNoLinks (every.Run operator) = ⊤
-ServesNoLinks (every.Serve operator port workers links) = ⊥
-ServesNoLinks (every.Import operator caller) = ⊤
-ServesNoLinks (every.Report operator caller asked csv) = ⊤
-ServesNoLinks (every.Trial seed count) = ⊤
+-- what has to be made for a command
+abbrev pub plan_of : Command → Plan
+plan_of (command.Serve operator port workers links) =
+    record { journal = true; port = port; workers = workers; links = links }
+plan_of other = record { journal = (uses_of other).disk; port = 0; workers = 0; links = 0 }
 
--- the words are a command that serves no links
-abbrev pub AreCommand : List (List ℕ) → Type 0
-AreCommand words = (said : declared.Command) × ServesNoLinks said × all.AreWordsOf said words
-
--- the words open the disk, if it can be opened: those of `run`, `import` and `report`
-abbrev pub OpenDisk : List (List ℕ) → Type 0
-OpenDisk words =
-    ((operator : List ℕ) × AreRun operator words)
-    ⊎ ((sender : Sender) × AreImport sender words)
-    ⊎ ((asked : Inquiry) × AreReport asked words)
+-- and for words that are none
+abbrev pub nothing : Plan
+nothing = record { journal = false; port = 0; workers = 0; links = 0 }

@@ -7,7 +7,7 @@ use Rattle.tb_journal.specs.Journal.{Told}
 use Rattle.tb_journal.specs.Opening.{IsHarmless}
 use Rattle.tb_message.specs.declared.message.Entry.{Entry}
 use Rattle.tb_history.specs.Legal.{IsLegal}
-use Rattle.tb_desk.specs.Desks.{PlacedGroup, IsBeginningOr, WasAccepted}
+use Rattle.tb_desk.specs.Desks.{IsBeginningOr, WasAccepted}
 use Rattle.tb_desk.specs.Replay.{IsExact, LeavesRefused}
 use Rattle.tb_desk.specs.Stands.{LeavesEither, StandsForEither, StandsForHistory}
 use Rattle.tb_desk.specs.declared.fault.OpenFault.{OpenFault}
@@ -15,11 +15,12 @@ use Rattle.tb_desk.specs.declared.fault.OpenFault.TheVariants as fault
 use Rattle.tb_host.specs.Standings.{Standing}
 
 -- the desk was opened on the disk: this history is what the file stood for, and nothing else is true of the file;
--- nothing is in doubt, and no fault was counted
+-- nothing is in doubt or was, and no fault was counted
 pub record Opened (disk : DiskState) (first : Standing) : Type 0 where
   pub stood : IfSome disk.past (λ past. IsExact (contents_of past) (Ok first.history))
   pub legal : IsLegal first.history
   pub sure : first.doubt ≡ []
+  pub none : first.doubted ≡ []
   pub count : first.faults ≡ disk.faults
 
 -- the disk stands for the last history, or for it followed by the group in doubt, and so does what each crash leaves
@@ -31,15 +32,14 @@ pub record Stays (last : Standing) (disk : DiskState) : Type 0 where
   pub count : last.faults ≡ disk.faults
 
 -- Every crash during the command left what a crash before it could leave; or a beginning of the last history that has
--- all that the file stood for; or one followed by a group that was accepted there. There are no more such groups than
--- the disk's count of faults rose, unless it has reached its last value.
+-- all that the file stood for; or one followed by one of the groups that were in doubt after a turn, which was accepted
+-- there. There are no more of these than the disk's count of faults rose, unless it has reached its last value.
 pub record CrashesKeep (old new : DiskState) (first last : Standing) : Type 0 where
-  pub groups : List PlacedGroup
-  pub each : All (WasAccepted last.history (length first.history)) groups
-  pub few : (first.faults + length groups ≤ last.faults) ⊎ (last_count ≤ last.faults)
+  pub each : All (WasAccepted last.history (length first.history)) last.doubted
+  pub few : (first.faults + length last.doubted ≤ last.faults) ⊎ (last_count ≤ last.faults)
   pub leaves : Told old new
       (λ before now. Leaves
-      (λ file. MayLeave before file ⊎ IsBeginningOr groups last.history (length first.history) file) before now)
+      (λ file. MayLeave before file ⊎ IsBeginningOr last.doubted last.history (length first.history) file) before now)
 
 -- the last history begins with the first
 abbrev pub HasGrown : Standing → Standing → Type 0

@@ -6,6 +6,14 @@ use Rattle.tb_link.specs.Sinks.{SinkState, Takes, FailsToTake}
 use Rattle.tb_units.specs.Bytes.{line_feed}
 use Rattle.tb_desk.specs.declared.fault.OpenFault.{OpenFault}
 use Rattle.tb_desk.specs.declared.fault.OpenFault.TheVariants as fault
+use Rattle.tb_host.specs.declared.command_endings.DiskEnding.{DiskEnding}
+use Rattle.tb_host.specs.declared.command_endings.DiskEnding.TheVariants as disk_ending
+use Rattle.tb_host.specs.declared.command_endings.PrintEnding.{PrintEnding}
+use Rattle.tb_host.specs.declared.command_endings.PrintEnding.TheVariants as print_ending
+use Rattle.tb_host.specs.declared.command_endings.ServeEnding.{ServeEnding}
+use Rattle.tb_host.specs.declared.command_endings.ServeEnding.TheVariants as serve_ending
+use Rattle.tb_host.specs.declared.command_endings.TextEnding.{TextEnding}
+use Rattle.tb_host.specs.declared.command_endings.TextEnding.TheVariants as text_ending
 use Rattle.tb_host.specs.declared.ending.Ending.{Ending}
 use Rattle.tb_host.specs.declared.ending.Ending.TheVariants as ending
 
@@ -28,6 +36,32 @@ ending_of fault.DiskFault = ending.DiskFault
 ending_of (fault.NotAJournal found) = ending.NotAJournal found
 ending_of (fault.Damaged place) = ending.Damaged place
 ending_of fault.OutOfMemory = ending.OutOfMemory
+
+-- the program's ending where a command that reads a text ended so
+abbrev pub of_text : TextEnding → Ending
+of_text text_ending.Done = ending.Done
+of_text (text_ending.BadInput number) = ending.BadInput number
+of_text text_ending.ReadFault = ending.ReadFault
+of_text text_ending.WriteFault = ending.WriteFault
+of_text text_ending.OutOfMemory = ending.OutOfMemory
+
+-- where one that only prints did
+abbrev pub of_print : PrintEnding → Ending
+of_print print_ending.Done = ending.Done
+of_print print_ending.WriteFault = ending.WriteFault
+of_print print_ending.OutOfMemory = ending.OutOfMemory
+
+-- where one that opens the disk did, whose ending on a desk is that of the program
+abbrev pub of_disk : {E : Type 0} → (E → Ending) → DiskEnding E → Ending
+of_disk of_own (disk_ending.Opened own) = of_own own
+of_disk of_own (disk_ending.Unopened why) = ending_of why
+
+-- where `serve` did
+abbrev pub of_serve : ServeEnding → Ending
+of_serve serve_ending.Done = ending.Done
+of_serve serve_ending.WriteFault = ending.WriteFault
+of_serve serve_ending.GateFault = ending.GateFault
+of_serve (serve_ending.Unserved why) = ending_of why
 
 -- the disk failed, or was refused, before anything was read
 abbrev pub IsUnopened : Ending → Type 0

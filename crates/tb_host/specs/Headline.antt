@@ -18,7 +18,6 @@ use Rattle.tb_history.specs.declared.roster.Registration.{Registration}
 use Rattle.tb_history.specs.Answer.{asks_on}
 use Rattle.tb_history.specs.Holdings.{bidding_in, held_of, issued}
 use Rattle.tb_history.specs.Legal.{IsLegal, IsOther, running}
-use Rattle.tb_history.specs.Moves.{has_bill}
 use Rattle.tb_history.specs.OwnPart.{own_part, moves_par}
 use Rattle.tb_history.specs.Readings.{IsReading}
 use Rattle.tb_history.specs.Roster.{registrations, announcements, redemptions, announcement_of, is_published, is_redeemed}
@@ -162,10 +161,24 @@ AreSealed fixed calls =
 -- what all participants hold of a bill is what was issued of it, and nothing once it is redeemed
 abbrev pub AddsUp : List Entry → Type 0
 AddsUp history = (cusip : Cusip)
-    → has_bill (announcements history) cusip.bytes ≡ true
     → sum_by (λ (r : Registration). held_of history r.submitter cusip) (registrations history)
     ≡ (if is_redeemed (redemptions history) cusip then 0 else issued history cusip)
 
 -- it is so on the history of each call, and on the last one
 abbrev pub HoldingsAddUp : List Entry → List Made → Type 0
 HoldingsAddUp last calls = All (λ m. AddsUp m.history) calls × AddsUp last
+
+-- ---- the headline
+
+-- The headline, of one run from the first history to the last, which has these entries more, and of all its calls: the
+-- replies belong to one legal history; the disk keeps every acknowledged message, once; published awards and price are
+-- the circular's rule on the bids accepted before closing; until publication replies depend only on the submitter's own
+-- messages, the operator's and the moments; and holdings sum to the unredeemed issue.
+pub record Headline (fixed : List ℕ) (disk : DiskState) (first last : Standing) (more : List Entry)
+    (calls : List Made) : Type 0
+  where
+    pub one_history : OneHistory fixed first last more calls
+    pub keeps : KeepsAcknowledged disk calls
+    pub by_the_rule : TellsByTheRule fixed last.history calls
+    pub sealed : AreSealed fixed calls
+    pub holdings : HoldingsAddUp last.history calls

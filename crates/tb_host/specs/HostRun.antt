@@ -1,67 +1,87 @@
 -- How the program ends.
-use Rattle.std.specs.Prelude.{◌≡◌, ℕ, List, Option, Some}
+use Rattle.std.specs.Prelude.{◌≡◌, ℕ, List, Some}
+use Rattle.tb_link.specs.Counts.{Rose}
 use Rattle.tb_link.specs.Sources.{SourceState}
 use Rattle.tb_link.specs.Sinks.{SinkState}
 use Rattle.tb_disk.specs.Disks.{DiskState}
 use Rattle.tb_disk.specs.Past.{Past, contents_of}
 use Rattle.tb_gates.specs.Clocks.{ClockState}
+use Rattle.tb_gates.specs.Gates.{GateState}
 use Rattle.tb_message.specs.declared.message.Entry.{Entry}
 use Rattle.tb_history.specs.Legal.{IsLegal}
 use Rattle.tb_desk.specs.Stands.{StandsForHistory}
-use Rattle.tb_desk.specs.declared.fault.OpenFault.{OpenFault}
-use Rattle.tb_host.specs.DiskRun.{Unopened}
 use Rattle.tb_host.specs.AwardRun.{AwardEnds}
-use Rattle.tb_host.specs.Reads.{ReadsBookAlone, ReadsScriptAlone}
 use Rattle.tb_host.specs.ImportRun.{ImportEnds}
 use Rattle.tb_host.specs.ReportRun.{ReportEnds, inquiry}
 use Rattle.tb_host.specs.RunEnds.{Devices, RunEnds}
+use Rattle.tb_host.specs.ServeRun.{Handed, OneRose, ServeEnds}
 use Rattle.tb_host.specs.TrialRun.{TrialEnds}
 use Rattle.tb_words.specs.declared.command.Command.{Command}
 use Rattle.tb_words.specs.declared.command.Command.TheVariants as command
-use Rattle.tb_host.specs.Told.{WhereTold}
-use Rattle.tb_host.specs.Endings.{status_of, ending_of, message_of, bad_input_message, Tells}
+use Rattle.tb_host.specs.Endings.{Tells, message_of, of_disk, of_print, of_serve, of_text, status_of}
 use Rattle.tb_host.specs.declared.ending.Ending.{Ending}
 use Rattle.tb_host.specs.declared.ending.Ending.TheVariants as ending
 
--- how a command ends that serves no links, where the clock goes from the first state to the second
-abbrev pub EndsAs : Command → ClockState → ClockState → Ending → SourceState → SourceState → Devices → Devices → Type 0
-EndsAs (command.Award full) clock clock' ended input input' old new = AwardEnds full ended input input' old.out new.out
-EndsAs (command.Run operator) clock clock' ended input input' old new = RunEnds operator ended input input' old new
-EndsAs (command.Import operator caller) clock clock' ended input input' old new =
-    ImportEnds (record { operator = operator; key = caller }) clock clock' ended input input' old new
-EndsAs (command.Report operator caller asked csv) clock clock' ended input input' old new =
-    ReportEnds (inquiry operator caller asked csv) ended input input' old new
-EndsAs (command.Trial seed count) clock clock' ended input input' old new = TrialEnds seed count ended old.out new.out
-EndsAs other clock clock' ended input input' old new = ⊥
+-- what a command is handed, as contracts see it
+pub record Objects (G : Type 0) : Type 0 where
+  pub input : SourceState
+  pub out : SinkState
+  pub disk : DiskState
+  pub gates : List G
 
--- a text was read up to the line that ends what the command reads, and nothing behind that; a report and a trial read
--- nothing
-abbrev pub ReadsAlone : Command → ℕ → ℕ → List ℕ → Type 0
-ReadsAlone (command.Award full) before after text = ReadsBookAlone before after text
-ReadsAlone (command.Run operator) before after text = ReadsScriptAlone before after text
-ReadsAlone (command.Report operator caller asked csv) before after text = after ≡ before
-ReadsAlone other before after text = Unit {0}
+-- of that, what a command on the disk writes on
+abbrev pub devices : {G : Type 0} → Objects G → Devices
+devices objects = record { out = objects.out; disk = objects.disk }
+
+-- and what `serve` uses
+abbrev pub handed : {G : Type 0} → Objects G → Handed G
+handed objects = record { disk = objects.disk; gates = objects.gates; out = objects.out }
+
+-- the program's ending is that of an ending of the command's own, of which this is so
+abbrev pub Ends : {E : Type 0} → (E → Ending) → Ending → (E → Type 0) → Type 0
+Ends of_own ended Holds = (own : _) × (ended ≡ of_own own) × Holds own
+
+module _ {G K : Type 0} (gate : G → GateState K) (source : K → SourceState) (sink : K → SinkState) where
+  -- Each command ends as its record says, where the objects go from the first states to the second. The clock is in
+  -- the given state when the command begins.
+  abbrev pub EndsAs : Command → ClockState → Ending → Objects G → Objects G → Type 0
+  EndsAs (command.Award full) clock ended old new =
+      Ends of_text ended (λ own. AwardEnds full own old.input new.input old.out new.out)
+  EndsAs (command.Run operator) clock ended old new =
+      Ends (of_disk of_text) ended (λ own. RunEnds operator own old.input new.input (devices old) (devices new))
+  EndsAs (command.Serve operator port workers links) clock ended old new =
+      Ends of_serve ended (λ own. ServeEnds gate source sink operator clock own (handed old) (handed new))
+  EndsAs (command.Import operator caller) clock ended old new =
+      Ends (of_disk of_text) ended (λ own. (read : ClockState) × ImportEnds
+      (record { operator = operator; key = caller }) clock read own old.input new.input (devices old) (devices new))
+  EndsAs (command.Report operator caller asked csv) clock ended old new =
+      Ends (of_disk of_print) ended (λ own. ReportEnds (inquiry operator caller asked csv) own old.input new.input
+      (devices old) (devices new))
+  EndsAs (command.Trial seed count) clock ended old new =
+      Ends of_print ended (λ own. TrialEnds seed count own old.out new.out)
+
+module _ {G K : Type 0} (gate : G → GateState K) where
+  -- A fault of input, output, disk or gates ends a command only where the count of that object has risen; and where all
+  -- was done no fault of input or output was passed over.
+  pub record HasCause (ended : Ending) (old new : Objects G) : Type 0 where
+    pub read : ended ≡ ending.ReadFault → Rose old.input.faults new.input.faults
+    pub write : ended ≡ ending.WriteFault → Rose old.out.faults new.out.faults
+    pub disk : ended ≡ ending.DiskFault → Rose old.disk.faults new.disk.faults
+    pub gates : ended ≡ ending.GateFault → OneRose gate old.gates new.gates
+    pub none : ended ≡ ending.Done
+        → (new.input.faults ≡ old.input.faults) × (new.out.faults ≡ old.out.faults)
 
 -- where all was done nothing is told, and else the message of the ending
 abbrev pub Reports : Ending → SinkState → SinkState → Type 0
 Reports ending.Done err err' = err' ≡ err
 Reports ended err err' = Tells err err' (message_of ended)
 
--- a line number is told, and where the input is told, this is so of that number and the input
-abbrev pub TellsLine : Option (List ℕ) → (ℕ → List ℕ → Type 0) → SinkState → SinkState → Type 0
-TellsLine told Holds err err' =
-    (number : ℕ) × Tells err err' (bad_input_message number) × WhereTold told (Holds number)
-
--- a command ended so, with this status, and told so
-abbrev pub EndsWith : ℕ → SinkState → SinkState → (Ending → Type 0) → Type 0
-EndsWith status err err' Holds = (ended : Ending) × (status_of ended ≡ status) × Reports ended err err' × Holds ended
-
--- at this status the desk wasn't opened, for a reason that is told
-pub record ToldUnopened (status : ℕ) (disk disk' : DiskState) (err err' : SinkState) : Type 0 where
-  pub why : OpenFault
-  pub status_is : status ≡ status_of (ending_of why)
-  pub told : Tells err err' (message_of (ending_of why))
-  pub unopened : Unopened why disk disk'
+-- the program ended so: this is its status, that is told, and this is so of the ending
+pub record EndsWith (status : ℕ) (err err' : SinkState) (Holds : Ending → Type 0) : Type 0 where
+  pub ended : Ending
+  pub status_is : status ≡ status_of ended
+  pub told : Reports ended err err'
+  pub holds : Holds ended
 
 -- the disk tells that it stands for a legal history
 abbrev pub HasHistory : DiskState → Type 0

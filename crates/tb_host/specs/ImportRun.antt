@@ -16,13 +16,15 @@ use Rattle.tb_history.specs.Roster.{registrations}
 use Rattle.tb_desk.specs.Turn.{Replies}
 use Rattle.tb_import.specs.Tables.{IsFirstBad, IsTable}
 use Rattle.tb_host.specs.Replies.{refused}
+use Rattle.tb_host.specs.Reads.{ReadsToEnd, ReadsWithoutFault}
 use Rattle.tb_host.specs.RunEnds.{Devices, EndsOnDisk}
 use Rattle.tb_host.specs.Standings.{Standing}
 use Rattle.tb_host.specs.Told.{WhereTold}
 use Rattle.tb_host.specs.Turns.{MakesTurn, told, unavailable}
 use Rattle.tb_host.specs.declared.sender.Sender.{Sender}
-use Rattle.tb_host.specs.declared.ending.Ending.{Ending}
-use Rattle.tb_host.specs.declared.ending.Ending.TheVariants as ending
+use Rattle.tb_host.specs.declared.command_endings.DiskEnding.{DiskEnding}
+use Rattle.tb_host.specs.declared.command_endings.TextEnding.{TextEnding}
+use Rattle.tb_host.specs.declared.command_endings.TextEnding.TheVariants as ending
 
 -- a row of a table of bids: the number that its sender gave it, and the bid
 abbrev pub SentRow : Type 0
@@ -91,7 +93,7 @@ pub record HasSent (sender : Sender) (clock clock' : ClockState) (input input' :
     (text : List ℕ) (rest : List SentRow) : Type 0
   where
     pub rows : List SentRow
-    pub table : WhereTold input.left (λ bytes. IsTable bytes rows × (input'.left ≡ Some []))
+    pub table : ReadsWithoutFault input input' (λ bytes. IsTable bytes rows × (input'.left ≡ Some []))
     pub sent : HasSentRuns sender clock clock' rows first last text rest
 
 -- all rows of the table were sent, and the output has taken the text
@@ -132,7 +134,7 @@ pub record ImportBrokenOff (sender : Sender) (clock clock' : ClockState) (input 
     (out out' : SinkState) (first last : Standing) : Type 0
   where
     pub rows : List SentRow
-    pub table : WhereTold input.left (λ bytes. IsTable bytes rows × (input'.left ≡ Some []))
+    pub table : ReadsWithoutFault input input' (λ bytes. IsTable bytes rows × (input'.left ≡ Some []))
     pub sent : SentInVain sender clock clock' rows out out' first last
 
 -- no row was sent, nothing written, and the clock not read
@@ -140,23 +142,24 @@ abbrev pub NoneSent : ClockState → ClockState → SinkState → SinkState → 
 NoneSent clock clock' out out' first last = (last ≡ first) × (out' ≡ out) × (clock' ≡ clock)
 
 -- how an import ends on a desk
-abbrev pub TableEnds : Sender → ClockState → ClockState → Ending → SourceState → SourceState → SinkState → SinkState
+abbrev pub TableEnds : Sender → ClockState → ClockState → TextEnding → SourceState → SourceState → SinkState → SinkState
     → Standing → Standing
     → Type 0
 TableEnds sender clock clock' ending.Done input input' out out' first last =
-    Imported sender clock clock' input input' out out' first last
+    Imported sender clock clock' input input' out out' first last × (out'.faults ≡ out.faults)
 TableEnds sender clock clock' (ending.BadInput number) input input' out out' first last =
-    NoneSent clock clock' out out' first last × WhereTold input.left (λ bytes. IsFirstBad bytes number)
+    NoneSent clock clock' out out' first last × ReadsWithoutFault input input' (λ bytes. IsFirstBad bytes number)
 TableEnds sender clock clock' ending.ReadFault input input' out out' first last =
     NoneSent clock clock' out out' first last × Rose input.faults input'.faults
 TableEnds sender clock clock' ending.WriteFault input input' out out' first last =
     Rose out.faults out'.faults × ImportBrokenOff sender clock clock' input input' out out' first last
 TableEnds sender clock clock' ending.OutOfMemory input input' out out' first last =
     NoneSent clock clock' out out' first last ⊎ ImportedInPart sender clock clock' input input' out out' first last
-TableEnds sender clock clock' ended input input' out out' first last = ⊥
 
--- how the command ends
-abbrev pub ImportEnds : Sender → ClockState → ClockState → Ending → SourceState → SourceState → Devices → Devices
-    → Type 0
-ImportEnds sender clock clock' ended input input' old new =
-    EndsOnDisk (TableEnds sender clock clock' ended input input' old.out new.out) ended input input' old new
+-- how the command ends; however it does, each read gave at least one byte, but for one that found the end of the input
+pub record ImportEnds (sender : Sender) (clock clock' : ClockState) (ended : DiskEnding TextEnding)
+    (input input' : SourceState)
+    (old new : Devices) : Type 0
+  where
+    pub ends : EndsOnDisk (λ own. TableEnds sender clock clock' own input input' old.out new.out) ended input input' old new
+    pub reads : WhereTold input.left (ReadsToEnd input.reads input'.reads)

@@ -7,8 +7,8 @@ use Rattle.tb_desk.specs.Turn.{Replies}
 use Rattle.tb_host.specs.ImportRun.{HasSentRuns, IsImport, NoneSent, SentInVain, SentRow}
 use Rattle.tb_host.specs.Standings.{Standing}
 use Rattle.tb_host.specs.declared.sender.Sender.{Sender}
-use Rattle.tb_host.specs.declared.ending.Ending.{Ending}
-use Rattle.tb_host.specs.declared.ending.Ending.TheVariants as ending
+use Rattle.tb_host.specs.declared.command_endings.TextEnding.{TextEnding}
+use Rattle.tb_host.specs.declared.command_endings.TextEnding.TheVariants as ending
 
 -- a run has as many verdicts as rows
 abbrev pub AreAsMany : List SentRow → Replies → Type 0
@@ -23,7 +23,7 @@ SendsRuns sender clock clock' rows first last rest Holds =
     (text : List ℕ) × HasSentRuns sender clock clock' rows first last text rest × Holds text
 
 -- a run was sent, and the import goes on, or ends so
-abbrev pub GroupEnds : Sender → ClockState → ClockState → List SentRow → Option Ending → SinkState → SinkState
+abbrev pub GroupEnds : Sender → ClockState → ClockState → List SentRow → Option TextEnding → SinkState → SinkState
     → Standing → Standing
     → Type 0
 GroupEnds sender clock clock' run None out out' old new =
@@ -34,7 +34,7 @@ GroupEnds sender clock clock' run (Some ending.OutOfMemory) out out' old new = N
 GroupEnds sender clock clock' run (Some ended) out out' old new = ⊥
 
 -- how the sending of rows ends
-abbrev pub RowsEnd : Sender → ClockState → ClockState → List SentRow → Ending → SinkState → SinkState
+abbrev pub RowsEnd : Sender → ClockState → ClockState → List SentRow → TextEnding → SinkState → SinkState
     → Standing → Standing
     → Type 0
 RowsEnd sender clock clock' rows ending.Done out out' first last =

@@ -32,7 +32,9 @@ pub mod ReportRun
 pub mod ImportRun
 pub mod ImportSteps
 pub mod TableInput
-pub mod HostRun
 pub mod Headline
+pub mod ScriptHeadline
 pub mod ServeRun
-pub mod ServeWords
+pub mod HostRun
+pub mod Completeness
+pub mod Doubted

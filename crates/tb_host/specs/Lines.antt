@@ -1,5 +1,6 @@
 -- The lines that a source still has, and what reading one of them does.
-use Rattle.std.specs.Prelude.{◌≡◌, ℕ, ◌<◌, ◌≤◌, List, [], ◌∷◌, ◌++◌, length, drop, slice_range, Option, Some}
+use Rattle.std.specs.Prelude.{◌≡◌, ℕ, ◌<◌, ◌≤◌, List, [], ◌∷◌, ◌++◌, length, drop, slice_range, Bool, true, false, Option, Some}
+use Rattle.std.specs.Option.{option_map}
 use Rattle.std.specs.Str.Lines.{lines}
 use Rattle.tb_link.specs.Sources.{SourceState, before_left}
 use Rattle.tb_host.specs.LineEnds.{longest_line}
@@ -16,9 +17,18 @@ unread reader = drop reader.at reader.text.items
 abbrev pub current : LineReader → List ℕ
 current reader = slice_range reader.text.items reader.from reader.to
 
+-- what is still to be read of a source: nothing once its end was found, and else what it has left
+abbrev pub still_left : Bool → Option (List ℕ) → Option (List ℕ)
+still_left false left = left
+still_left true left = option_map (λ _. []) left
+
 -- the bytes to come, where the source tells those left
 abbrev pub ahead : LineReader → SourceState → Option (List ℕ)
-ahead reader source = before_left (unread reader) source.left
+ahead reader source = before_left (unread reader) (still_left reader.ended source.left)
+
+-- where the end of the source was found it isn't read again
+abbrev pub StaysAtEnd : LineReader → LineReader → SourceState → SourceState → Type 0
+StaysAtEnd old new source source' = old.ended ≡ true → (new.ended ≡ true) × (source'.reads ≡ source.reads)
 
 -- what is found in front of a text to come: a line that is short enough, and the text behind it; the end; or a line
 -- that is too long
@@ -39,5 +49,5 @@ GaveLine old new = (more : List ℕ) → lines (unread old ++ more) ≡ current 
 
 -- what the reader gives last, behind which nothing comes: the end, or a line without a line feed
 abbrev pub GaveLast : NextLine → LineReader → LineReader → Type 0
-GaveLast next.End old new = unread old ≡ []
+GaveLast next.End old new = (unread old ≡ []) × (unread new ≡ [])
 GaveLast found old new = (lines (unread old) ≡ current new ∷ []) × (unread new ≡ []) × FitsLine found (current new)

@@ -21,8 +21,9 @@ use Rattle.tb_host.specs.Replies.{refused}
 use Rattle.tb_host.specs.RunEnds.{Devices, EndsOnDisk}
 use Rattle.tb_host.specs.Standings.{Standing}
 use Rattle.tb_host.specs.declared.report_command.Inquiry.{Inquiry}
-use Rattle.tb_host.specs.declared.ending.Ending.{Ending}
-use Rattle.tb_host.specs.declared.ending.Ending.TheVariants as ending
+use Rattle.tb_host.specs.declared.command_endings.DiskEnding.{DiskEnding}
+use Rattle.tb_host.specs.declared.command_endings.PrintEnding.{PrintEnding}
+use Rattle.tb_host.specs.declared.command_endings.PrintEnding.TheVariants as ending
 
 -- what is asked, by its parts
 abbrev pub inquiry : List ℕ → Key → Query → Bool → Inquiry
@@ -61,20 +62,21 @@ ReportedInPart asked history out out' =
     (text : List ℕ) × IsReport history asked text × TakesPrefix out out' text × Rose out.faults out'.faults
 
 -- how a report ends that reads this history
-abbrev pub Reads : Inquiry → Ending → List Entry → SinkState → SinkState → Type 0
+abbrev pub Reads : Inquiry → PrintEnding → List Entry → SinkState → SinkState → Type 0
 Reads asked ending.Done history out out' = Reported asked history out out'
 Reads asked ending.WriteFault history out out' = ReportedInPart asked history out out'
 Reads asked ending.OutOfMemory history out out' = out' ≡ out
-Reads asked ended history out out' = ⊥
 
 -- on a desk a report leaves all as it stands: it is answered by the history that the file stood for
-abbrev pub ReadsDesk : Inquiry → Ending → SinkState → SinkState → Standing → Standing → Type 0
+abbrev pub ReadsDesk : Inquiry → PrintEnding → SinkState → SinkState → Standing → Standing → Type 0
 ReadsDesk asked ended out out' first last = (last ≡ first) × Reads asked ended first.history out out'
 
 -- How the command ends. It reads no input, and does no more to its disk than an opening does: what each crash leaves
 -- stands for what the file stood for, or could be left before.
-pub record ReportEnds (asked : Inquiry) (ended : Ending) (input input' : SourceState) (old new : Devices) : Type 0 where
-  pub ends : EndsOnDisk (ReadsDesk asked ended old.out new.out) ended input input' old new
-  pub unread : input' ≡ input
-  pub steps : Told old.disk new.disk BreaksOff
-  pub harmless : Told old.disk new.disk IsHarmless
+pub record ReportEnds (asked : Inquiry) (ended : DiskEnding PrintEnding) (input input' : SourceState)
+    (old new : Devices) : Type 0
+  where
+    pub ends : EndsOnDisk (λ own. ReadsDesk asked own old.out new.out) ended input input' old new
+    pub unread : input' ≡ input
+    pub steps : Told old.disk new.disk BreaksOff
+    pub harmless : Told old.disk new.disk IsHarmless

@@ -6,9 +6,10 @@ use Rattle.tb_link.specs.Sources.{SourceState}
 use Rattle.tb_message.specs.declared.message.Message.{Message}
 use Rattle.tb_desk.specs.Turn.{AreBids, AreNumbered}
 use Rattle.tb_import.specs.Tables.{IsFirstBad, IsTable, most_bytes}
+use Rattle.tb_host.specs.Reads.{ReadsWithoutFault}
 use Rattle.tb_host.specs.Told.{WhereTold}
-use Rattle.tb_host.specs.declared.ending.Ending.{Ending}
-use Rattle.tb_host.specs.declared.ending.Ending.TheVariants as ending
+use Rattle.tb_host.specs.declared.command_endings.TextEnding.{TextEnding}
+use Rattle.tb_host.specs.declared.command_endings.TextEnding.TheVariants as ending
 
 -- the input was read to its end, and this is its text; or the text is more of it than a table may have
 abbrev pub HasText : List ℕ → SourceState → SourceState → Type 0
@@ -19,15 +20,15 @@ HasText text input input' =
 
 -- the input was read to its end, and is a table of these rows, each of which can be sent as a bid
 pub record HasRows (input input' : SourceState) (rows : List (ℕ × Message)) : Type 0 where
-  pub table : WhereTold input.left (λ bytes. IsTable bytes rows × (input'.left ≡ Some []))
+  pub table : ReadsWithoutFault input input' (λ bytes. IsTable bytes rows × (input'.left ≡ Some []))
   pub bids : AreBids rows
   pub numbered : AreNumbered rows
-  pub no_fault : input'.faults ≡ input.faults
 
 -- the rows of the input, or how the command ends without them
-abbrev pub AnswersInput : SourceState → SourceState → Result (Vec (ℕ × Message)) Ending → Type 0
+abbrev pub AnswersInput : SourceState → SourceState → Result (Vec (ℕ × Message)) TextEnding → Type 0
 AnswersInput input input' (Ok rows) = HasRows input input' rows.items
-AnswersInput input input' (Err (ending.BadInput number)) = WhereTold input.left (λ bytes. IsFirstBad bytes number)
+AnswersInput input input' (Err (ending.BadInput number)) =
+    ReadsWithoutFault input input' (λ bytes. IsFirstBad bytes number)
 AnswersInput input input' (Err ending.ReadFault) = Rose input.faults input'.faults
 AnswersInput input input' (Err ending.OutOfMemory) = ⊤
 AnswersInput input input' (Err ended) = ⊥

@@ -16,13 +16,13 @@ use Rattle.std.specs.Prelude.{
   true,
   false,
 }
-use Rattle.std.specs.Str.Lines.{lines}
+use Rattle.tb_link.specs.Sources.{SourceState}
 use Rattle.tb_units.specs.declared.lines.RateLine.{RateLine}
 use Rattle.tb_award.specs.Recognition.{bid_in}
-use Rattle.tb_host.specs.Books.{Book, Numbered, BeginsWithBook, has_entry, is_competitive, is_noncompetitive}
+use Rattle.tb_host.specs.Books.{Book, Numbered, has_entry, is_competitive, is_noncompetitive}
 use Rattle.tb_host.specs.LineEnds.{most_lines}
 use Rattle.tb_host.specs.Bids.{bid_at, noncompetitive_in, noncompetitive_of, position_of}
-use Rattle.tb_host.specs.BookReading.{EndsEntries}
+use Rattle.tb_host.specs.BookReading.{EndsEntries, ReadsBook}
 use Rattle.tb_host.specs.Told.{WhereTold}
 use Rattle.tb_host.specs.SoundLines.{IsSoundLine, IsSoundOffering}
 use Rattle.tb_host.specs.declared.way.Way.{Way}
@@ -88,8 +88,8 @@ pub record HasReadEntries (told behind : Option (List ℕ)) (kept : TextBook) : 
   pub few : length book.entries < most_lines
   pub ends : WhereTold told (EndsEntries kept.offering book behind)
 
--- the text book stands for the book with which the input begins, where that is told
-pub record IsReadFrom (told : Option (List ℕ)) (kept : TextBook) : Type 0 where
+-- the text book stands for the book with which the input begins, where that is told, and nothing behind that was read
+pub record IsReadFrom (input input' : SourceState) (kept : TextBook) : Type 0 where
   pub book : Book
   pub is_kept : IsKept book kept
-  pub begins : WhereTold told (λ text. BeginsWithBook (lines text) kept.offering book)
+  pub read : WhereTold input.left (ReadsBook input.reads input'.reads kept.offering book)

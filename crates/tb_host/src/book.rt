@@ -2,12 +2,12 @@
 ghost use Rattle.std.specs.Prelude.{◌≡◌, ◌≢◌, ◌<◌, ℕ, length, Err, IfOk, OnOk, IsErrOf};
 ghost use Rattle.std.specs.Str.Lines.{lines};
 ghost use Rattle.tb_link.specs.Counts.{NeverFalls, Rose};
-ghost use Rattle.tb_host.specs.Books.{Adds, Book, IsBadLine, empty_book};
+ghost use Rattle.tb_host.specs.Books.{Adds, Book, empty_book};
 ghost use Rattle.tb_host.specs.LineEnds.{most_lines};
-ghost use Rattle.tb_host.specs.BookReading.{ReadsLine, HasNoLine, StopsEntries};
+ghost use Rattle.tb_host.specs.BookReading.{ReadsBadLine, ReadsLine, HasNoLine, StopsEntries};
 ghost use Rattle.tb_host.specs.Told.{WhereTold};
-ghost use Rattle.tb_host.specs.Lines.{ahead};
-ghost use Rattle.tb_host.specs.Reads.{ReadsBookAlone, ReadsNoMore};
+ghost use Rattle.tb_host.specs.Lines.{ahead, StaysAtEnd};
+ghost use Rattle.tb_host.specs.Reads.{ReadsLines, ReadsNoMore, ReadsWithoutFault};
 ghost use Rattle.tb_host.specs.SoundLines.{IsLine, IsSoundOffering};
 ghost use Rattle.tb_host.specs.Tallies.{HasReadEntries, IsReadFrom, IsTally};
 ghost use Rattle.tb_host.specs.BookFaults.{of_input};
@@ -53,9 +53,14 @@ fn next_book_line<I: Source>(
         (ReadsLine line (ahead reader.new (I.source input.new)))) }
     ensures spelled { IfOk result IsLine }
     ensures reads { OnOk result (WhereTold (ahead reader.old (I.source input.old))
-        (ReadsNoMore (I.source input.old).reads (I.source input.new).reads (ahead reader.new (I.source input.new)))) }
+        (ReadsNoMore (I.source input.old).reads (I.source input.new).reads reader.new.ended
+        (ahead reader.new (I.source input.new)))) }
+    ensures alone { WhereTold (ahead reader.old (I.source input.old))
+        (ReadsLines 1 (I.source input.old).reads (I.source input.new).reads) }
+    ensures once { StaysAtEnd reader.old reader.new (I.source input.old) (I.source input.new) }
     ensures no_fault { OnOk result ((I.source input.new).faults ≡ (I.source input.old).faults) }
     ensures bad { (line : ℕ) → IsErrOf result (fault.BadLine line) → (line ≡ number)
+        × ((I.source input.new).faults ≡ (I.source input.old).faults)
         × WhereTold (ahead reader.old (I.source input.old)) (λ text. HasNoLine (lines text)) }
     ensures fault { IsErrOf result BookFault.Read → Rose (I.source input.old).faults (I.source input.new).faults }
     ensures count { NeverFalls (I.source input.old).faults (I.source input.new).faults }
@@ -70,14 +75,13 @@ fn next_book_line<I: Source>(
     }
 }
 
-/// Reads a book up to its line `end`. Nothing behind that is looked at.
+/// Reads a book up to its line `end`, or to the first line outside the grammar. Nothing behind that is read.
 pub fn read_book<I: Source>(alloc: Global, input: &mut I) -> Result<TextBook, BookFault>
-    ensures book { IfOk result (IsReadFrom (I.source input.old).left) }
-    ensures reads { OnOk result (WhereTold (I.source input.old).left
-        (ReadsBookAlone (I.source input.old).reads (I.source input.new).reads)) }
+    ensures book { IfOk result (IsReadFrom (I.source input.old) (I.source input.new)) }
     ensures no_fault { OnOk result ((I.source input.new).faults ≡ (I.source input.old).faults) }
     ensures bad { (line : ℕ) → IsErrOf result (fault.BadLine line)
-        → WhereTold (I.source input.old).left (λ text. IsBadLine line (lines text)) }
+        → ReadsWithoutFault (I.source input.old) (I.source input.new)
+        (ReadsBadLine line (I.source input.old).reads (I.source input.new).reads) }
     ensures fault { IsErrOf result BookFault.Read → Rose (I.source input.old).faults (I.source input.new).faults }
     ensures count { NeverFalls (I.source input.old).faults (I.source input.new).faults }
 {
@@ -104,10 +108,14 @@ fn read_entries<I: Source>(
     ensures book { OnOk result (HasReadEntries (ahead reader.old (I.source input.old))
         (ahead reader.new (I.source input.new)) book.new) }
     ensures reads { OnOk result (WhereTold (ahead reader.old (I.source input.old))
-        (ReadsNoMore (I.source input.old).reads (I.source input.new).reads (ahead reader.new (I.source input.new)))) }
+        (ReadsNoMore (I.source input.old).reads (I.source input.new).reads reader.new.ended
+        (ahead reader.new (I.source input.new)))) }
+    ensures once { StaysAtEnd reader.old reader.new (I.source input.old) (I.source input.new) }
     ensures no_fault { OnOk result ((I.source input.new).faults ≡ (I.source input.old).faults) }
     ensures bad { (line : ℕ) → IsErrOf result (fault.BadLine line)
-        → WhereTold (ahead reader.old (I.source input.old)) (StopsEntries line book.old.offering) }
+        → ((I.source input.new).faults ≡ (I.source input.old).faults)
+        × WhereTold (ahead reader.old (I.source input.old))
+        (StopsEntries line (I.source input.old).reads (I.source input.new).reads book.old.offering) }
     ensures fault { IsErrOf result BookFault.Read → Rose (I.source input.old).faults (I.source input.new).faults }
     ensures count { NeverFalls (I.source input.old).faults (I.source input.new).faults }
 {

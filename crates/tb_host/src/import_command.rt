@@ -5,18 +5,20 @@ ghost use Rattle.tb_gates.specs.Clocks.{ReadsClock};
 ghost use Rattle.tb_terms.specs.declared.refusal.Refusal.TheVariants as refusal;
 ghost use Rattle.tb_desk.specs.Desks.{Tells};
 ghost use Rattle.tb_desk.specs.Turn.{Replies, AreBids, AreNumbered};
+ghost use Rattle.tb_desk.specs.declared.fault.OpenFault.{OpenFault};
 ghost use Rattle.tb_history.specs.Answer.{caller_of};
 ghost use Rattle.tb_history.specs.Roster.{registrations};
 ghost use Rattle.tb_host.specs.DiskRun.{HasGrown};
-ghost use Rattle.tb_host.specs.Endings.{IsUnopened};
 ghost use Rattle.tb_host.specs.ImportRun.{AreSent, ImportEnds, TableEnds, group_text, same_lines};
 ghost use Rattle.tb_host.specs.ImportSteps.{AreAsMany, GroupEnds, RowsEnd};
+ghost use Rattle.tb_host.specs.Reads.{ReadsToEnd};
 ghost use Rattle.tb_host.specs.Replies.{refused};
 ghost use Rattle.tb_host.specs.Standings.{standing};
+ghost use Rattle.tb_host.specs.Told.{WhereTold};
 ghost use Rattle.tb_host.specs.Turns.{MakesTurn};
 
 use crate::answer::caller;
-use crate::ending::Ending;
+use crate::command_endings::{DiskEnding, TextEnding};
 use crate::row_lines::{LONGEST_ROW, push_same, push_verdicts};
 use crate::sender::Sender;
 use crate::table_input::read_table;
@@ -47,21 +49,19 @@ pub fn import<D: Disk, C: Clock, I: Source, O: Sink>(
     out: &mut O,
     disk: D,
     clock: &mut C,
-) -> (Ending, D)
+) -> (DiskEnding<TextEnding>, D)
     ensures ends { ImportEnds sender.now (C.clock clock.old) (C.clock clock.new) result.0
         (I.source input.old) (I.source input.new)
         (record { out = O.sink out.old; disk = D.disk disk })
         (record { out = O.sink out.new; disk = D.disk result.1 }) }
-    ensures no_fault { result.0 ≡ Ending.Done → ((I.source input.new).faults ≡ (I.source input.old).faults)
-        × ((O.sink out.new).faults ≡ (O.sink out.old).faults) }
-    ensures unbegun { IsUnopened result.0 → (input.new ≡ input.old) × (out.new ≡ out.old) }
+    ensures unbegun { (why : OpenFault) → result.0 ≡ DiskEnding.Unopened why → (input.new ≡ input.old) × (out.new ≡ out.old) }
 {
     match Desk::open(alloc, disk) {
         Ok(mut desk) => {
             let ending = import_table(alloc, &mut desk, sender, input, out, clock);
-            (ending, desk.into_disk())
+            (DiskEnding::Opened(ending), desk.into_disk())
         }
-        Err((disk, fault)) => (Ending::of(fault), disk),
+        Err((disk, fault)) => (DiskEnding::Unopened(fault), disk),
     }
 }
 
@@ -72,13 +72,15 @@ fn import_table<D: Disk, C: Clock, I: Source, O: Sink>(
     input: &mut I,
     out: &mut O,
     clock: &mut C,
-) -> Ending
+) -> TextEnding
     ensures ends { TableEnds sender.now (C.clock clock.old) (C.clock clock.new) result
         (I.source input.old) (I.source input.new) (O.sink out.old) (O.sink out.new)
         (standing (D.disk desk.old.disk) desk.old) (standing (D.disk desk.new.disk) desk.new) }
+    ensures reads { WhereTold (I.source input.old).left
+        (ReadsToEnd (I.source input.old).reads (I.source input.new).reads) }
     ensures grown { HasGrown (standing (D.disk desk.old.disk) desk.old) (standing (D.disk desk.new.disk) desk.new) }
     ensures kept { (desk.new.opened ≡ desk.old.opened) × (desk.new.recovered ≡ desk.old.recovered) }
-    ensures no_fault { result ≡ Ending.Done → ((I.source input.new).faults ≡ (I.source input.old).faults)
+    ensures no_fault { result ≡ TextEnding.Done → ((I.source input.new).faults ≡ (I.source input.old).faults)
         × ((O.sink out.new).faults ≡ (O.sink out.old).faults) }
 {
     match read_table(alloc, input) {
@@ -95,7 +97,7 @@ fn send_rows<D: Disk, C: Clock, O: Sink>(
     rows: &[(u64, Message)],
     out: &mut O,
     clock: &mut C,
-) -> Ending
+) -> TextEnding
     requires bids { AreBids rows.now }
     requires numbered { AreNumbered rows.now }
     ensures ends { RowsEnd sender.now (C.clock clock.old) (C.clock clock.new) rows.now result
@@ -105,7 +107,7 @@ fn send_rows<D: Disk, C: Clock, O: Sink>(
     ensures kept { (desk.new.opened ≡ desk.old.opened) × (desk.new.recovered ≡ desk.old.recovered) }
 {
     let Ok(mut text) = Vec::with_capacity(alloc, LONGEST_TEXT) else {
-        return Ending::OutOfMemory;
+        return TextEnding::OutOfMemory;
     };
     let mut rest = rows;
     while !rest.is_empty() {
@@ -115,7 +117,7 @@ fn send_rows<D: Disk, C: Clock, O: Sink>(
         }
         rest = others;
     }
-    Ending::Done
+    TextEnding::Done
 }
 
 // Sends a run of rows, and writes what they are answered, in one write. `None` where the import goes on.
@@ -126,7 +128,7 @@ fn send_run<D: Disk, C: Clock, O: Sink>(
     text: &mut Vec<u8>,
     out: &mut O,
     clock: &mut C,
-) -> Option<Ending>
+) -> Option<TextEnding>
     requires size { (1 ≤ length run.now) × (length run.now ≤ 64) }
     requires bids { AreBids run.now }
     requires numbered { AreNumbered run.now }
@@ -141,9 +143,9 @@ fn send_run<D: Disk, C: Clock, O: Sink>(
     match send(desk, sender, run, text, clock) {
         Ok(()) => match out.write(text) {
             Ok(()) => None,
-            Err(_) => Some(Ending::WriteFault),
+            Err(_) => Some(TextEnding::WriteFault),
         },
-        Err(OutOfMemory) => Some(Ending::OutOfMemory),
+        Err(OutOfMemory) => Some(TextEnding::OutOfMemory),
     }
 }
 

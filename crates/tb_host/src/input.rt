@@ -61,29 +61,42 @@ pub struct LineReader {
     // The line that was given last.
     from: usize,
     to: usize,
+    // The source's end was found.
+    ended: bool,
     ghost given: { at ≤ vec_len text },
     ghost line: { from ≤ to },
     ghost within: { to ≤ vec_len text },
 }
 
 impl LineReader {
-    ghost use Rattle.tb_host.specs.Lines.{unread, current, ahead, FindsWhereTold, GaveLine, GaveLast};
-    ghost use Rattle.tb_host.specs.Reads.{ReadsNoMore};
+    ghost use Rattle.tb_host.specs.Lines.{
+      unread,
+      current,
+      ahead,
+      still_left,
+      FindsWhereTold,
+      GaveLine,
+      GaveLast,
+      StaysAtEnd,
+    };
+    ghost use Rattle.tb_host.specs.Reads.{ReadsLines, ReadsNoMore};
     ghost use Rattle.tb_host.specs.Told.{WhereTold};
     ghost use Rattle.tb_host.specs.LineEnds.{FitsLine, is_line_feed};
 
     pub fn new(alloc: Global) -> LineReader
-        ensures { unread result ≡ [] }
+        ensures empty { unread result ≡ [] }
+        ensures going { result.ended ≡ false }
     {
         LineReader {
             text: Vec::new(alloc),
             at: 0,
             from: 0,
             to: 0,
+            ended: false,
         }
     }
 
-    /// Reads the next line.
+    /// Reads the next line. The source's end is found once, and not read again.
     pub fn next_line<I: Source>(
         &mut self,
         alloc: Global,
@@ -92,13 +105,18 @@ impl LineReader {
         ensures finds { IfOk result (λ found. FindsWhereTold (ahead self.old (I.source input.old)) found
             (current self.new) (ahead self.new (I.source input.new))) }
         ensures reads { result ≡ Ok NextLine.Line → WhereTold (ahead self.old (I.source input.old))
-            (ReadsNoMore (I.source input.old).reads (I.source input.new).reads (ahead self.new (I.source input.new))) }
+            (ReadsNoMore (I.source input.old).reads (I.source input.new).reads self.new.ended
+            (ahead self.new (I.source input.new))) }
+        // Whatever is found, nothing behind the next line was read.
+        ensures alone { WhereTold (ahead self.old (I.source input.old))
+            (ReadsLines 1 (I.source input.old).reads (I.source input.new).reads) }
+        ensures once { StaysAtEnd self.old self.new (I.source input.old) (I.source input.new) }
         ensures no_fault { OnOk result ((I.source input.new).faults ≡ (I.source input.old).faults) }
         ensures fault { IsErrOf result InputFault.Read → Rose (I.source input.old).faults (I.source input.new).faults }
         // Where a read failed, no line was whole, and what was taken is kept.
         ensures failed { IsErrOf result InputFault.Read
             → (ahead self.new (I.source input.new) ≡ ahead self.old (I.source input.old))
-            × (position is_line_feed (unread self.new) ≡ None) }
+            × (position is_line_feed (unread self.new) ≡ None) × (self.new.ended ≡ false) }
         ensures count { NeverFalls (I.source input.old).faults (I.source input.new).faults }
     {
         loop {
@@ -127,32 +145,39 @@ impl LineReader {
         &self.text[self.at..]
     }
 
-    // Reads a piece of the source: true where it gave some bytes, false at its end.
+    // Reads a piece of the source, unless its end was found: true where it gave some bytes, false at its end.
     fn fill<I: Source>(&mut self, alloc: Global, input: &mut I) -> Result<bool, InputFault>
         ensures same { OnOk result (ahead self.new (I.source input.new) ≡ ahead self.old (I.source input.old)) }
-        ensures more { result ≡ Ok true → length (unread self.old) < length (unread self.new) }
+        ensures more { result ≡ Ok true → (length (unread self.old) < length (unread self.new))
+            × (self.new.ended ≡ self.old.ended) }
         ensures kept { OnOk result ((piece : List ℕ) × (unread self.new ≡ unread self.old ++ piece)) }
-        ensures end { result ≡ Ok false → (unread self.new ≡ unread self.old)
-            × IfSome (I.source input.old).left (λ left. left ≡ []) }
-        ensures one_read { OnOk result ((I.source input.new).reads ≤ (I.source input.old).reads + 1) }
+        ensures end { result ≡ Ok false → (unread self.new ≡ unread self.old) × (self.new.ended ≡ true)
+            × IfSome (still_left self.old.ended (I.source input.old).left) (λ left. left ≡ []) }
+        ensures one_read { (I.source input.new).reads ≤ (I.source input.old).reads + 1 }
+        ensures once { StaysAtEnd self.old self.new (I.source input.old) (I.source input.new) }
         ensures no_fault { OnOk result ((I.source input.new).faults ≡ (I.source input.old).faults) }
         ensures fault { IsErrOf result InputFault.Read → Rose (I.source input.old).faults (I.source input.new).faults }
         ensures failed { IsErrOf result InputFault.Read → (unread self.new ≡ unread self.old)
-            × ((I.source input.new).left ≡ (I.source input.old).left) }
+            × (self.new.ended ≡ false) × ((I.source input.new).left ≡ (I.source input.old).left) }
         ensures count { NeverFalls (I.source input.old).faults (I.source input.new).faults }
     {
+        if self.ended {
+            return Ok(false);
+        }
         let mut piece = [0; PIECE];
         let count = match input.read(&mut piece) {
             Ok(count) => count,
             Err(Failed) => return Err(InputFault::Read),
         };
         self.keep(alloc, &piece[..count])?;
+        self.ended = count == 0;
         Ok(count > 0)
     }
 
     // Drops what was given, and appends the piece.
     fn keep(&mut self, alloc: Global, piece: &[u8]) -> Result<(), OutOfMemory>
-        ensures { OnOk result (unread self.new ≡ unread self.old ++ piece.now) }
+        ensures kept { OnOk result (unread self.new ≡ unread self.old ++ piece.now) }
+        ensures ended { self.new.ended ≡ self.old.ended }
     {
         let rest = self.unread();
         let mut text = Vec::with_capacity(alloc, rest.len().saturating_add(piece.len()))?;
@@ -171,6 +196,7 @@ impl LineReader {
         ensures line { GaveLine self.old self.new }
         ensures rest { unread self.new ≡ drop (end + 1) (unread self.old) }
         ensures fits { FitsLine result (current self.new) }
+        ensures ended { self.new.ended ≡ self.old.ended }
     {
         let line = &self.unread()[..end];
         let count = without_carriage_return(line);
@@ -183,7 +209,8 @@ impl LineReader {
     // Gives what the source's end cuts off, where there is anything.
     fn give_last(&mut self) -> NextLine
         requires { position is_line_feed (unread self.old) ≡ None }
-        ensures { GaveLast result self.old self.new }
+        ensures gave { GaveLast result self.old self.new }
+        ensures ended { self.new.ended ≡ self.old.ended }
     {
         let count = self.unread().len();
         if count == 0 {

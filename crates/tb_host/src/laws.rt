@@ -1,19 +1,20 @@
 //! Laws of the definitions: a text has at most one book or script, one line outside the grammar, and one text of its
-//! auction; a script has one run.
-ghost use Rattle.std.specs.Prelude.{◌≡◌, ◌≢◌, ℕ, List, [], Bool, Result};
-ghost use Rattle.tb_units.specs.declared.moment.Moment.{Moment};
-ghost use Rattle.tb_terms.specs.declared.refusal.Refusal.{Refusal};
-ghost use Rattle.tb_message.specs.declared.query.Request.{Request};
-ghost use Rattle.tb_history.specs.Legal.{IsLegal, running};
-ghost use Rattle.tb_history.specs.OwnPart.{own_part};
+//! auction; a script has one run; the headline of `run` and `import`; and whose a group in doubt is.
+ghost use Rattle.std.specs.Prelude.{◌≡◌, ℕ, List, [], ◌∷◌, ◌++◌, All, Any, Bool};
+ghost use Rattle.tb_disk.specs.Disks.{DiskState};
+ghost use Rattle.tb_gates.specs.Clocks.{ClockState};
+ghost use Rattle.tb_message.specs.declared.message.Entry.{Entry};
 ghost use Rattle.tb_host.specs.Books.{BeginsWithBook, Book, HasBadLine, HasBook, IsBadLine};
 ghost use Rattle.tb_host.specs.BookRun.{IsBookRun};
-ghost use Rattle.tb_host.specs.Replies.{IsReply, IsSaid, IsSealed};
-ghost use Rattle.tb_host.specs.ScriptRun.{IsFaultless};
+ghost use Rattle.tb_host.specs.DiskRun.{Stays};
+ghost use Rattle.tb_host.specs.Doubted.{IsOfLines, IsOfRuns};
+ghost use Rattle.tb_host.specs.ImportRun.{IsImport, SentRow};
+ghost use Rattle.tb_host.specs.ScriptHeadline.{HasHeadline, IsOfLine, IsOfRow, RunHasHeadline};
+ghost use Rattle.tb_host.specs.ScriptRun.{IsFaultless, IsRun};
 ghost use Rattle.tb_host.specs.Scripts.{BeginsWithScript, HasScript, LeavesScript};
 ghost use Rattle.tb_host.specs.Standings.{Standing};
-ghost use Rattle.tb_host.specs.Turns.{unavailable};
 ghost use Rattle.tb_host.specs.declared.book_line.Offering.{Offering};
+ghost use Rattle.tb_host.specs.declared.sender.Sender.{Sender};
 
 /// Lines begin with at most one book, have at most one line that is the first outside the grammar, and never both.
 pub fn one_book_or_bad_line()
@@ -68,17 +69,50 @@ pub fn one_run()
         → last ≡ last' }
 {}
 
-/// Replies are sealed: where nothing is in doubt, the reply to a message that moves no par, or to a query on an auction
-/// that isn't published, is what the sender's own part of the history says, wherever the running moments agree. Of a
-/// disk fault nothing is said.
-pub fn sealed_replies()
-    ensures { (old new : Standing) (caller : List ℕ) (moment other : Moment) (asked : Result Request Refusal)
-        (reply : List ℕ)
-        → IsReply old caller moment asked reply new
-        → IsLegal old.history
-        → old.doubt ≡ []
-        → reply ≢ unavailable
-        → IsSealed old.history asked
-        → running old.history moment ≡ running (own_part caller old.history) other
-        → IsSaid (own_part caller old.history) caller other asked reply }
+/// The headline of `run`: where the disk keeps the last history, it holds of the reply to each line; and past the first
+/// history there are only entries of the lines.
+pub fn run_headline()
+    ensures each { (operator : List ℕ) (disk : DiskState) (first last : Standing) (before : List (List ℕ)) (line : List ℕ)
+        (behind : List (List ℕ)) (replies : List ℕ)
+        → IsRun operator first (before ++ line ∷ behind) replies last
+        → Stays last disk
+        → HasHeadline operator disk first last before line behind replies }
+    ensures own { (operator : List ℕ) (first last : Standing) (lines : List (List ℕ)) (replies : List ℕ)
+        (more : List Entry)
+        → IsRun operator first lines replies last
+        → first.doubt ≡ []
+        → last.history ≡ first.history ++ more
+        → All (λ e. Any (IsOfLine operator last.history e) lines) (more ++ last.doubt) }
+{}
+
+/// The headline of `import`: where the disk keeps the last history, it holds of the answers to each run of rows; and past
+/// the first history there are only entries of the rows.
+pub fn import_headline()
+    ensures each { (sender : Sender) (disk : DiskState) (clock clock' : ClockState) (first last : Standing)
+        (before : List (List SentRow)) (run : List SentRow) (behind : List (List SentRow)) (text : List ℕ)
+        → IsImport sender clock clock' first (before ++ run ∷ behind) text last
+        → Stays last disk
+        → RunHasHeadline sender disk clock clock' first last before run behind text }
+    ensures own { (sender : Sender) (clock clock' : ClockState) (first last : Standing) (runs : List (List SentRow))
+        (text : List ℕ) (more : List Entry)
+        → IsImport sender clock clock' first runs text last
+        → first.doubt ≡ []
+        → last.history ≡ first.history ++ more
+        → All (λ e. Any (Any (IsOfRow sender last.history e)) runs) (more ++ last.doubt) }
+{}
+
+/// Each group that was in doubt is somebody's: that of a line's message, or of a run of rows, as the history stood then.
+/// So is each that a crash during `run` or `import` may have left behind a beginning of the history.
+pub fn groups_are_sent()
+    ensures by_lines { (operator : List ℕ) (first last : Standing) (lines : List (List ℕ)) (replies : List ℕ)
+        → IsRun operator first lines replies last
+        → first.doubt ≡ []
+        → first.doubted ≡ []
+        → All (IsOfLines operator lines last.history) last.doubted }
+    ensures by_rows { (sender : Sender) (clock clock' : ClockState) (runs : List (List SentRow)) (first last : Standing)
+        (text : List ℕ)
+        → IsImport sender clock clock' first runs text last
+        → first.doubt ≡ []
+        → first.doubted ≡ []
+        → All (IsOfRuns sender runs last.history) last.doubted }
 {}

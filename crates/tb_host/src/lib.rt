@@ -6,7 +6,7 @@ mod auction_text;
 mod award_command;
 mod book;
 mod book_line;
-mod command;
+mod command_endings;
 mod ending;
 mod fields;
 mod host;
@@ -24,7 +24,6 @@ mod run_command;
 mod script_line;
 mod sender;
 mod serve_command;
-mod serve_words;
 mod table_input;
 mod text_book;
 mod trial_command;
@@ -32,7 +31,9 @@ mod way;
 mod word;
 
 pub use host::{Ended, host_main};
-pub use laws::{one_book_or_bad_line, one_run, one_script_or_bad_line, one_text, sealed_replies};
+pub use laws::{
+    groups_are_sent, import_headline, one_book_or_bad_line, one_run, one_script_or_bad_line,
+    one_text, run_headline,
+};
 pub use plan_words::plan;
 pub use planned::Plan;
-pub use serve_words::Serving;

@@ -1,15 +1,15 @@
 //! The command `report`.
 ghost use Rattle.std.specs.Prelude.{◌≡◌, Some, IfOk};
+ghost use Rattle.tb_desk.specs.declared.fault.OpenFault.{OpenFault};
 ghost use Rattle.tb_history.specs.Answer.{query_refusal};
 ghost use Rattle.tb_link.specs.Sources.{SourceState};
 ghost use Rattle.tb_report.specs.Readings.{IsPrintable};
 ghost use Rattle.tb_host.specs.Answers.{reply_text};
-ghost use Rattle.tb_host.specs.Endings.{IsUnopened};
 ghost use Rattle.tb_host.specs.ReportRun.{IsReport, IsShown, Reads, ReportEnds};
 ghost use Rattle.tb_host.specs.ReportRun as spec;
 
 use crate::answer::caller;
-use crate::ending::Ending;
+use crate::command_endings::{DiskEnding, PrintEnding};
 use crate::reply::Reply;
 use crate::sender::Sender;
 use std::alloc::Global;
@@ -34,20 +34,24 @@ pub struct Inquiry {
 
 /// Answers one query by the history that the disk stands for, in one write, and hands the disk back. It reads no input
 /// and adds nothing to the history.
-pub fn report<D: Disk, O: Sink>(alloc: Global, asked: &Inquiry, out: &mut O, disk: D) -> (Ending, D)
+pub fn report<D: Disk, O: Sink>(
+    alloc: Global,
+    asked: &Inquiry,
+    out: &mut O,
+    disk: D,
+) -> (DiskEnding<PrintEnding>, D)
     ensures ends { (input : SourceState) → ReportEnds asked.now result.0 input input
         (record { out = O.sink out.old; disk = D.disk disk })
         (record { out = O.sink out.new; disk = D.disk result.1 }) }
-    ensures no_fault { result.0 ≡ Ending.Done → (O.sink out.new).faults ≡ (O.sink out.old).faults }
     // The desk was opened before anything was written.
-    ensures unbegun { IsUnopened result.0 → out.new ≡ out.old }
+    ensures unbegun { (why : OpenFault) → result.0 ≡ DiskEnding.Unopened why → out.new ≡ out.old }
 {
     match Desk::open(alloc, disk) {
         Ok(desk) => {
             let ending = write_answer(alloc, &desk, asked, out);
-            (ending, desk.into_disk())
+            (DiskEnding::Opened(ending), desk.into_disk())
         }
-        Err((disk, fault)) => (Ending::of(fault), disk),
+        Err((disk, fault)) => (DiskEnding::Unopened(fault), disk),
     }
 }
 
@@ -56,16 +60,15 @@ fn write_answer<D: Disk, O: Sink>(
     desk: &Desk<D>,
     asked: &Inquiry,
     out: &mut O,
-) -> Ending
+) -> PrintEnding
     ensures reads { Reads asked.now result desk.now.host.history (O.sink out.old) (O.sink out.new) }
-    ensures no_fault { result ≡ Ending.Done → (O.sink out.new).faults ≡ (O.sink out.old).faults }
 {
     match answered(alloc, desk, asked) {
         Ok(reply) => match reply.write(out) {
-            Ok(()) => Ending::Done,
-            Err(_) => Ending::WriteFault,
+            Ok(()) => PrintEnding::Done,
+            Err(_) => PrintEnding::WriteFault,
         },
-        Err(_) => Ending::OutOfMemory,
+        Err(_) => PrintEnding::OutOfMemory,
     }
 }
 

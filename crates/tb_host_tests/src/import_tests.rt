@@ -8,12 +8,12 @@ use std::sync::Wait;
 use std::test::Fail;
 use std::thread::Threads;
 
-const IMPORT: [&str; 5] = ["import", "--key", "k1", "--op", "root"];
+pub const IMPORT: [&str; 5] = ["import", "--key", "k1", "--op", "root"];
 
 /// An auction that is open, from before the moment of the clock.
 const OPEN: &str = opening::opened!(at "1730690000", "\nend\n");
 
-const TWO: &str =
+pub const TWO: &str =
     "number,auction,bidder,rate,amount\n7,bill13,fund1,4.300,100\n8,bill13,fund1,4.305,100\n";
 
 /// The journal of the open auction.

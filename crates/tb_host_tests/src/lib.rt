@@ -11,6 +11,8 @@ mod import_tests;
 #[cfg(test)]
 mod opening;
 #[cfg(test)]
+mod read_tests;
+#[cfg(test)]
 mod report_tests;
 #[cfg(test)]
 mod run_tests;

@@ -279,7 +279,7 @@ fn faulty_words_are_told(rt: HostRuntime) -> Result<(), Fail> {
     Ok(())
 }
 
-const TWO: &str = registered!("\n1730700000 k1 {}\nend\n");
+pub const TWO: &str = registered!("\n1730700000 k1 {}\nend\n");
 
 #[test]
 fn whole_lines_are_acted_on_where_a_read_fails(rt: HostRuntime) -> Result<(), Fail> {

@@ -7,10 +7,10 @@ use std::thread::Threads;
 use tb_disk::MemoryDisk;
 use tb_gates::{ListClock, ListGate};
 use tb_host::*;
-use tb_link::{TextSink, TextSource};
+use tb_link::{Source, TextSink, TextSource};
 use tb_units::Moment;
 
-const BOOK: &str = "offering 1000000000 1000000 91\n\
+pub const BOOK: &str = "offering 1000000000 1000000 91\n\
     n n1 100000000\n\
     c a 5.320 300000000\n\
     c b 5.325 350000000\n\
@@ -220,6 +220,24 @@ pub fn serve_on<R: Threads + Wait + Sync>(
     failing_reads: &[u64],
     failing_writes: &[u64],
     disk: MemoryDisk,
+    gates: Vec<ListGate>,
+) -> Result<(Outcome, Vec<ListGate>), Fail> {
+    let mut input = TextSource::new(
+        text.as_bytes().to_vec(alloc)?,
+        piece.max(1),
+        failing_reads.to_vec(alloc)?,
+    );
+    serve_from(rt, alloc, words, &mut input, failing_writes, disk, gates)
+}
+
+/// Runs the host on an input, a disk and these gates.
+pub fn serve_from<R: Threads + Wait + Sync, I: Source>(
+    rt: &R,
+    alloc: Global,
+    words: &[&str],
+    input: &mut I,
+    failing_writes: &[u64],
+    disk: MemoryDisk,
     mut gates: Vec<ListGate>,
 ) -> Result<(Outcome, Vec<ListGate>), Fail> {
     let mut owned = Vec::new(alloc);
@@ -231,17 +249,12 @@ pub fn serve_on<R: Threads + Wait + Sync>(
     if gates.len() != plan.workers as usize {
         return Err("other gates")?;
     }
-    let mut input = TextSource::new(
-        text.as_bytes().to_vec(alloc)?,
-        piece.max(1),
-        failing_reads.to_vec(alloc)?,
-    );
     let mut out = TextSink::new(alloc, ROOM, failing_writes.to_vec(alloc)?)?;
     let mut err = TextSink::new(alloc, ROOM, Vec::new(alloc))?;
     let mut spare = MemoryDisk::new(alloc, b"spare", 5, 0, Vec::new(alloc), 0)?;
     let clock = ListClock::new(Vec::from_array(alloc, [NOON])?);
     let ended = host_main(
-        rt, alloc, owned, &mut input, &mut out, &mut err, disk, &mut spare, &mut gates, clock,
+        rt, alloc, owned, input, &mut out, &mut err, disk, &mut spare, &mut gates, clock,
     );
     let outcome = Outcome {
         status: ended.status,

@@ -1,6 +1,6 @@
 -- The rule of a new lock, and what it says of a closed one.
 use Rattle.std.proofs.Common.{◌+◌, ◌<◌, ◌≡◌, ◌≢◌, ◌⊎◌, ℕ, zero, suc, ◌-◌, ◌%◌, ◌^◌, List, [], ◌∷◌, ◌++◌, length, Some, refl, sym, ap, ◌∙◌, subst, ⊎_elim, inl, arith}
-use Rattle.std.specs.Prelude.{slice_index, Option, None, All, Any, Contains}
+use Rattle.std.specs.Prelude.{slice_index, Option, None, All, AllPairs, Any, Contains}
 use Rattle.std.proofs.lemmas.List.{append-nil}
 use Rattle.std.proofs.lemmas.List.Elements.{All-nil, All-same, All-weaker}
 use mathlib.Core.Logic.{dite}
@@ -8,10 +8,11 @@ use native.Mathlib.Decide.{ℕ_discrete}
 use mathlib.Core.Option.{some, some-injective, some-ne-none}
 use lib.ListN.{get_elem?}
 use Rattle.atomic_table.specs.Table.{opening}
+use Rattle.tb_units.proofs.ListLemmas.{AllPairs-nil}
 use Rattle.tb_lock.specs.declared.view.View.{View}
 use Rattle.tb_lock.specs.declared.view.Stage.TheVariants.{Idle}
 use Rattle.tb_lock.specs.Meanings.{History, IsPrefix, repeated, Meanings, RepeatsStand}
-use Rattle.tb_lock.specs.Calls.{IsBetween, IsReadBy, entry_of, Stands, Makes}
+use Rattle.tb_lock.specs.Calls.{IsBetween, IsReadBy, EndsBy, LieApart, AllApart, entry_of, Stands, Makes}
 use Rattle.tb_lock.specs.Views.{IsLive, spent, newcomer, SomeView, tickets_of, HasTicket, HasTurn, HasTaken, total}
 use Rattle.tb_lock.specs.Rule.{Homes, IsHome, HasSeen, IsMade, Rule}
 use Rattle.tb_lock.specs.Turns.{HasOnlyOwn, Closes, AreOut}
@@ -38,6 +39,7 @@ starts m x no_doubt =
       opening_faults = m.faults x;
       counted = m.history x;
       faults = m.faults x;
+      met = m.faults x;
       read = m.readings x;
       words = refl;
       queue = record {
@@ -95,6 +97,14 @@ starts m x no_doubt =
         taken = λ j n v at has. absurd (first-only (λ (u : View). HasTaken n u.stage → ⊥) first (λ h. h) j v at has);
         calls = first-only (λ (u : View). All (IsReadBy (m.readings x)) u.mine) first
             (All-nil (IsReadBy (m.readings x)));
+      };
+      spans = record {
+        value = λ y home. ap m.faults (sym (home-value (some (Some x) ∷ []) x y refl home));
+        taken = λ j n v at has. absurd (first-only (λ (u : View). HasTaken n u.stage → ⊥) first (λ h. h) j v at has);
+        ended = first-only (λ (u : View). All (EndsBy (m.faults x)) u.spans) first (All-nil (EndsBy (m.faults x)));
+        within = first-only (λ (u : View). AllPairs LieApart u.spans) first (AllPairs-nil LieApart);
+        between = λ j k v w at there ne. first-only (λ (u : View). AllApart u.spans w.spans) first
+            (All-nil (λ one. All (LieApart one) w.spans)) j v at;
       };
     }
 
@@ -275,6 +285,7 @@ module _ {T : Type 0} (m : Meanings T) (id : ℕ) (last : View) (ticket serving 
           counts = subst (λ (y : ℕ × ℕ). All (IsBetween y.0 y.1) last.mine)
               (λ i. (sym opened i, sym faults i)) (rule.failed.calls id last at);
           read = subst (λ (n : ℕ). All (IsReadBy n) last.mine) (sym readings) (rule.readings.calls id last at);
+          apart = rule.spans.within id last at;
           least = omega arith;
           whole = only-own value home.1 live;
         },

@@ -22,6 +22,7 @@ use Rattle.tb_lock.proofs.OnceLemmas.{once-set, once-back}
 use Rattle.tb_lock.proofs.SeenLemmas.{count-same, count-back, seen-same, seen-longer}
 use Rattle.tb_lock.proofs.FaultLemmas.{faults-raised, faults-back}
 use Rattle.tb_lock.proofs.ReadLemmas.{read-set, read-back}
+use Rattle.tb_lock.proofs.SpanLemmas.{spans-set, spans-back}
 
 -- a word that is added to, where the sum fits
 sum-word : (word more sum : ℕ) → more + word ≡ sum → sum < 2 ^ 64 → (word + more) % 2 ^ 64 ≡ sum
@@ -101,6 +102,7 @@ module _ {T : Type 0} (m : Meanings T) where
         opening_faults = r.opening_faults;
         counted = r.counted;
         faults = r.faults + more;
+        met = r.met;
         read = r.read;
         words = ap (λ (ws : List ℕ). slice_set ws 3 ((slice_index ws 3 + more) % 2 ^ 64)) r.words
             ∙ ap (λ (k : ℕ). (r.drawn % 2 ^ 64) ∷ (r.served % 2 ^ 64) ∷ length r.counted ∷ k ∷ [])
@@ -120,6 +122,7 @@ module _ {T : Type 0} (m : Meanings T) where
             (others-free s r id n v at turn) refl (ap (λ (k : ℕ). k + more) known) refl refl refl;
         readings = read-set m r.read s.homes s.views id w r.readings (λ _ _. r.readings.taken id n v at took)
             (r.readings.calls id v at);
+        spans = spans-set m r.met s.homes s.views id v w r.spans at (λ _ _. r.spans.taken id n v at took) refl;
       }
 
   -- the step that raises the faults keeps the rule
@@ -165,6 +168,7 @@ module _ {T : Type 0} (m : Meanings T) where
       λ j k. each-set (λ _ u. HasTaken k u.stage → ⊥) s.views id w
       (λ i u ne there. others-free s r id n me.0 at turn i k u ne there) (λ none_left. none_left) j in
       let known = r.failed.known id n me.0 at took in
+      let met = r.spans.taken id n me.0 at took in
       record {
         drawn = r.drawn;
         served = r.served;
@@ -173,6 +177,7 @@ module _ {T : Type 0} (m : Meanings T) where
         opening_faults = r.opening_faults;
         counted = m.history x;
         faults = r.faults;
+        met = m.faults x;
         read = m.readings x;
         words = ap (λ (ws : List ℕ). slice_set ws 2 ((slice_index ws 2 + new) % 2 ^ 64)) r.words
             ∙ ap (λ (k : ℕ). (r.drawn % 2 ^ 64) ∷ (r.served % 2 ^ 64) ∷ k ∷ r.faults ∷ [])
@@ -215,6 +220,9 @@ module _ {T : Type 0} (m : Meanings T) where
             (All-weaker (λ c. (c.faults_before ≡ me.0.faults_taken) × (c.faults_after ≡ m.faults x)
             × (c.readings ≡ m.readings x))
             (IsReadBy (m.readings x)) (λ c count. let is = count.2 in omega arith) calls asked.counts);
+        spans = spans-back m r.met s.homes s.views id me.0 w x
+            (record { before = me.0.faults_taken; after = m.faults x }) r.spans at met refl
+            (let rose = may.faults in omega arith) free refl;
       }
 
   -- the step that raises the count keeps the rule

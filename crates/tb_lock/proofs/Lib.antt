@@ -11,6 +11,7 @@ pub mod ReadLemmas
 pub mod SeatLemmas
 pub mod SeenLemmas
 pub mod ShareLemmas
+pub mod SpanLemmas
 pub mod StepLemmas
 pub mod TakeLemmas
 pub mod ViewLemmas

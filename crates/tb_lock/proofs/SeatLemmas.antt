@@ -19,6 +19,7 @@ use Rattle.tb_lock.proofs.OnceLemmas.{once-set, once-more, once-joined}
 use Rattle.tb_lock.proofs.SeenLemmas.{count-same, count-more, seen-same, seen-more, seen-joined}
 use Rattle.tb_lock.proofs.FaultLemmas.{faults-free, faults-more}
 use Rattle.tb_lock.proofs.ReadLemmas.{read-set, read-one-more}
+use Rattle.tb_lock.proofs.SpanLemmas.{spans-set, spans-more, spans-joined}
 
 module _ {T : Type 0} (m : Meanings T) where
   -- a pass between turns, with a share of at least 2, may be split
@@ -39,6 +40,7 @@ module _ {T : Type 0} (m : Meanings T) where
         opening_faults = r.opening_faults;
         counted = r.counted;
         faults = r.faults;
+        met = r.met;
         read = r.read;
         words = r.words;
         queue = queue-more r.drawn r.served (set s.views id left) right
@@ -75,6 +77,9 @@ module _ {T : Type 0} (m : Meanings T) where
         readings = read-one-more m r.read s.homes (set s.views id left) right
             (read-set m r.read s.homes s.views id left r.readings (λ n has. absurd (idle-taken n v.stage idle has))
             (r.readings.calls id v at)) refl refl;
+        spans = spans-more m r.met s.homes (set s.views id left) right
+            (spans-set m r.met s.homes s.views id v left r.spans at
+            (λ n has. absurd (idle-taken n v.stage idle has)) refl) refl refl;
       }
 
   -- two passes between turns may be joined
@@ -91,6 +96,7 @@ module _ {T : Type 0} (m : Meanings T) where
         opening_faults = r.opening_faults;
         counted = r.counted;
         faults = r.faults;
+        met = r.met;
         read = r.read;
         words = r.words;
         queue = queue-same r.drawn r.served (set s.views id both) other w spent
@@ -127,4 +133,6 @@ module _ {T : Type 0} (m : Meanings T) where
             (read-set m r.read s.homes s.views id both r.readings (λ n has. absurd (idle-taken n v.stage idle has))
             (All-append (IsReadBy r.read) v.mine w.mine (r.readings.calls id v at) (r.readings.calls other w was)))
             (λ n has. absurd has) (All-nil (IsReadBy r.read));
+        spans = spans-joined m r.met s.homes s.views id v other w r.spans at was
+            (λ same. apart (sym same)) idle;
       }

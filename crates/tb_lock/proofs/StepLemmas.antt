@@ -23,6 +23,7 @@ use Rattle.tb_lock.proofs.OnceLemmas.{once-set}
 use Rattle.tb_lock.proofs.SeenLemmas.{count-same, seen-same}
 use Rattle.tb_lock.proofs.FaultLemmas.{faults-free}
 use Rattle.tb_lock.proofs.ReadLemmas.{read-set}
+use Rattle.tb_lock.proofs.SpanLemmas.{spans-set}
 
 -- a word that counts up
 next-word : (n : ℕ) → (n % 2 ^ 64 + 1) % 2 ^ 64 ≡ (n + 1) % 2 ^ 64
@@ -35,6 +36,7 @@ pub stepped-view : {T : Type 0} (m : Meanings T) (s : State (Option T) View) (r 
     → IsLive w
     → w.seen ≡ v.seen
     → w.mine ≡ v.mine
+    → w.spans ≡ v.spans
     → w.opening ≡ v.opening
     → w.opening_faults ≡ v.opening_faults
     → ((n : ℕ) → HasTaken n w.stage → ⊥)
@@ -44,32 +46,35 @@ pub stepped-view : {T : Type 0} (m : Meanings T) (s : State (Option T) View) (r 
     → AreShares (set s.views id w)
     → IsKept m served r.fixed s.homes (set s.views id w)
     → Rule m record { words = ws; homes = s.homes; views = set s.views id w }
-stepped-view m s r id v w at live live' seen mine opening least free drawn served ws words queue shares kept = record {
-  drawn = drawn;
-  served = served;
-  fixed = r.fixed;
-  opening = r.opening;
-  opening_faults = r.opening_faults;
-  counted = r.counted;
-  faults = r.faults;
-  read = r.read;
-  words = words;
-  queue = queue;
-  shares = shares;
-  kept = kept;
-  count = count-same m r.counted s.homes s.views id v w r.count at (λ n has. absurd (free n has));
-  seen = seen-same r.opening r.counted s.views id v w r.seen at live live' seen opening;
-  answered = answered-set m r.fixed r.counted s.views id w r.answered
-      (subst (λ (l : List Call). All (Stands m r.fixed r.counted) l) (sym mine) (r.answered id v at));
-  once = once-set m s.views id v w r.once at mine;
-  made = entries-set m r.fixed r.opening r.counted s.homes s.views id v w r.made at live' mine
-      (λ n has. absurd (free n has));
-  failed = faults-free m r.opening_faults r.faults s.homes s.views id w r.failed free
-      (λ _. least ∙ r.failed.same id v at live)
-      (subst (λ (l : List Call). All (IsBetween r.opening_faults r.faults) l) (sym mine) (r.failed.calls id v at));
-  readings = read-set m r.read s.homes s.views id w r.readings (λ n has. absurd (free n has))
-      (subst (λ (l : List Call). All (IsReadBy r.read) l) (sym mine) (r.readings.calls id v at));
-}
+stepped-view m s r id v w at live live' seen mine had opening least free drawn served ws words queue shares kept =
+    record {
+      drawn = drawn;
+      served = served;
+      fixed = r.fixed;
+      opening = r.opening;
+      opening_faults = r.opening_faults;
+      counted = r.counted;
+      faults = r.faults;
+      met = r.met;
+      read = r.read;
+      words = words;
+      queue = queue;
+      shares = shares;
+      kept = kept;
+      count = count-same m r.counted s.homes s.views id v w r.count at (λ n has. absurd (free n has));
+      seen = seen-same r.opening r.counted s.views id v w r.seen at live live' seen opening;
+      answered = answered-set m r.fixed r.counted s.views id w r.answered
+          (subst (λ (l : List Call). All (Stands m r.fixed r.counted) l) (sym mine) (r.answered id v at));
+      once = once-set m s.views id v w r.once at mine;
+      made = entries-set m r.fixed r.opening r.counted s.homes s.views id v w r.made at live' mine
+          (λ n has. absurd (free n has));
+      failed = faults-free m r.opening_faults r.faults s.homes s.views id w r.failed free
+          (λ _. least ∙ r.failed.same id v at live)
+          (subst (λ (l : List Call). All (IsBetween r.opening_faults r.faults) l) (sym mine) (r.failed.calls id v at));
+      readings = read-set m r.read s.homes s.views id w r.readings (λ n has. absurd (free n has))
+          (subst (λ (l : List Call). All (IsReadBy r.read) l) (sym mine) (r.readings.calls id v at));
+      spans = spans-set m r.met s.homes s.views id v w r.spans at (λ n has. absurd (free n has)) had;
+    }
 
 module _ {T : Type 0} (m : Meanings T) where
   -- the step that draws a ticket keeps the rule
@@ -80,7 +85,7 @@ module _ {T : Type 0} (m : Meanings T) where
         w,
         keeps,
         tt,
-        stepped-view m s r id me.0 w at live live refl refl refl refl (λ n has. has) (r.drawn + 1) r.served _
+        stepped-view m s r id me.0 w at live live refl refl refl refl refl (λ n has. has) (r.drawn + 1) r.served _
             (ap (λ (ws : List ℕ). slice_set ws 0 ((slice_index ws 0 + 1) % 2 ^ 64)) r.words
             ∙ ap (λ (n : ℕ). n ∷ (r.served % 2 ^ 64) ∷ length r.counted ∷ r.faults ∷ []) (next-word r.drawn))
             (queue-drawn r.drawn r.served s.views id me.0 w r.queue at idle refl (λ n is. is))
@@ -121,7 +126,7 @@ module _ {T : Type 0} (m : Meanings T) where
       let w : View = at_stage (Come n) v in
       let has : HasTicket n v.stage = subst (HasTicket n) (sym waits) refl in
       let live = live-by_ticket s.views id n v r.shares at has in
-      stepped-view m s r id v w at live live refl refl refl refl (λ k taken. taken) r.drawn r.served _
+      stepped-view m s r id v w at live live refl refl refl refl refl (λ k taken. taken) r.drawn r.served _
       (read-same r.drawn r.served (length r.counted) r.faults s.words r.words ∙ r.words)
       (queue-same r.drawn r.served s.views id v w r.queue at (sym (tickets-of_ticket n v.stage has))
       (λ k mine. subst (λ (i : ℕ). HasTicket i v.stage) mine has))
@@ -173,7 +178,7 @@ module _ {T : Type 0} (m : Meanings T) where
         w,
         keeps,
         tt,
-        stepped-view m s r id me.0 w at live live refl refl refl refl (λ k theirs. theirs) r.drawn (r.served + 1) _
+        stepped-view m s r id me.0 w at live live refl refl refl refl refl (λ k theirs. theirs) r.drawn (r.served + 1) _
             (ap (λ (ws : List ℕ). slice_set ws 1 ((slice_index ws 1 + 1) % 2 ^ 64)) r.words
             ∙ ap (λ (k : ℕ). (r.drawn % 2 ^ 64) ∷ k ∷ length r.counted ∷ r.faults ∷ []) (next-word r.served))
             (queue-passed r.drawn r.served s.views id me.0 w r.queue at has refl)

@@ -22,6 +22,7 @@ use Rattle.tb_lock.proofs.OnceLemmas.{view-once, once-set}
 use Rattle.tb_lock.proofs.SeenLemmas.{count-away, seen-taken}
 use Rattle.tb_lock.proofs.FaultLemmas.{faults-away}
 use Rattle.tb_lock.proofs.ReadLemmas.{read-away}
+use Rattle.tb_lock.proofs.SpanLemmas.{spans-away}
 
 module _ {T : Type 0} (m : Meanings T) where
   -- a word that is read stays
@@ -55,6 +56,7 @@ module _ {T : Type 0} (m : Meanings T) where
         opening_faults = r.opening_faults;
         counted = r.counted;
         faults = r.faults;
+        met = r.met;
         read = r.read;
         words = read-same r.drawn r.served (length r.counted) r.faults s.words r.words ∙ r.words;
         queue = queue-same r.drawn r.served s.views id me.0 w r.queue at (sym (tickets-of_ticket n me.0.stage has))
@@ -71,6 +73,7 @@ module _ {T : Type 0} (m : Meanings T) where
         failed = faults-away m r.opening_faults r.faults s.homes s.views id me.0 w r.failed at live failed failed refl
             refl;
         readings = read-away m r.read s.homes s.views id me.0 w r.readings at (r.readings.value x home) refl;
+        spans = spans-away m r.met s.homes s.views id me.0 w r.spans at (r.spans.value x home) refl;
       }
 
   -- and the pass learns what the value stands for
@@ -100,6 +103,7 @@ module _ {T : Type 0} (m : Meanings T) where
             (r.failed.calls id me.0 at);
         read = subst (λ (n : ℕ). All (IsReadBy n) me.0.mine) (sym (r.readings.value x home))
             (r.readings.calls id me.0 at);
+        apart = r.spans.within id me.0 at;
         least = omega arith;
       }
 

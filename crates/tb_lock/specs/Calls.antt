@@ -1,6 +1,7 @@
 -- Calls, and the entries that they make.
-use Rattle.std.specs.Prelude.{◌≡◌, ◌≢◌, ℕ, List, [], ◌∷◌, ◌++◌, ◌+◌, ◌≤◌, length, take, nat_eq, if◌then◌else◌, AllPairs}
+use Rattle.std.specs.Prelude.{◌≡◌, ◌≢◌, ℕ, List, [], ◌∷◌, ◌++◌, ◌+◌, ◌≤◌, ◌⊎◌, length, take, nat_eq, if◌then◌else◌, All, AllPairs}
 use Rattle.tb_lock.specs.declared.view.Call.{Call}
+use Rattle.tb_lock.specs.declared.view.Span.{Span}
 use Rattle.tb_lock.specs.Meanings.{History, IsPrefix, Answer, accepted, repeated, faulted, entryless, Meanings}
 
 -- a call so answered may add an entry: it was accepted, or met a fault
@@ -40,6 +41,18 @@ pub record IsBetween (low high : ℕ) (c : Call) : Type 0 where
 -- the turn of the call ended at no more readings of the clock than these
 abbrev pub IsReadBy : ℕ → Call → Type 0
 IsReadBy readings c = c.readings ≤ readings
+
+-- the turn ended at no more faults than these
+abbrev pub EndsBy : ℕ → Span → Type 0
+EndsBy met span = span.after ≤ met
+
+-- one of the two turns ended at no more faults than the other began with
+abbrev pub LieApart : Span → Span → Type 0
+LieApart one other = (one.after ≤ other.before) ⊎ (other.after ≤ one.before)
+
+-- so lie each of these turns and each of those
+abbrev pub AllApart : List Span → List Span → Type 0
+AllApart these those = All (λ one. All (LieApart one) those) these
 
 -- one, where a call so answered behind so many entries has its entry at place n of the history
 abbrev pub one_at : ℕ → Answer → ℕ → ℕ

@@ -1,11 +1,11 @@
 -- The rule of the lock, in parts. It holds between any two steps.
-use Rattle.std.specs.Prelude.{◌≡◌, ℕ, ◌+◌, ◌-◌, ◌%◌, ◌^◌, ◌<◌, ◌≤◌, ◌⊎◌, List, [], ◌∷◌, ◌++◌, length, Option, Some, All, Any}
+use Rattle.std.specs.Prelude.{◌≡◌, ℕ, ◌+◌, ◌-◌, ◌%◌, ◌^◌, ◌<◌, ◌≤◌, ◌⊎◌, List, [], ◌∷◌, ◌++◌, ◌≢◌, length, Option, Some, All, AllPairs, Any}
 use mathlib.Core.Option.{none, some}
 use Rattle.atomic_table.specs.Table.{State}
 use Rattle.tb_lock.specs.declared.view.View.{View}
 use Rattle.tb_lock.specs.declared.view.Stage.TheVariants.{Holding}
 use Rattle.tb_lock.specs.Meanings.{History, IsPrefix, Meanings}
-use Rattle.tb_lock.specs.Calls.{IsBetween, IsReadBy, Stands, Makes, accepted_at}
+use Rattle.tb_lock.specs.Calls.{IsBetween, IsReadBy, EndsBy, LieApart, AllApart, Stands, Makes, accepted_at}
 use Rattle.tb_lock.specs.Views.{IsLive, spent, IsView, EachView, SomeView, total, share_of, tickets_of, HasTicket, HasTurn, HasTaken}
 
 -- Tickets. As many views have one as were drawn and not yet served. Their numbers are the one served now and those
@@ -106,12 +106,21 @@ pub record AreRead {T : Type 0} (m : Meanings T) (read : ℕ) (homes : Homes T) 
   pub taken : (j n : ℕ) (v : View) → IsView views j v → HasTaken n v.stage → v.readings ≡ read
   pub calls : EachView views (λ v. All (IsReadBy read) v.mine)
 
+-- Spans. So many faults the value at home has met, and had met as it was taken. No turn ended at more of them. Of any
+-- two turns, of one view or of two, one ended at no more faults than the other began with.
+pub record AreSpans {T : Type 0} (m : Meanings T) (met : ℕ) (homes : Homes T) (views : List View) : Type 0 where
+  pub value : (value : T) → IsHome homes value → m.faults value ≡ met
+  pub taken : (j n : ℕ) (v : View) → IsView views j v → HasTaken n v.stage → v.faults_taken ≡ met
+  pub ended : EachView views (λ v. All (EndsBy met) v.spans)
+  pub within : EachView views (λ v. AllPairs LieApart v.spans)
+  pub between : (j k : ℕ) (v w : View) → IsView views j v → IsView views k w → j ≢ k → AllApart v.spans w.spans
+
 -- the words: the numbers of the next ticket and of the turn, the count, and the faults
 abbrev pub words_of : ℕ → ℕ → ℕ → ℕ → List ℕ
 words_of drawn served count faults = (drawn % 2 ^ 64) ∷ (served % 2 ^ 64) ∷ count ∷ faults ∷ []
 
 -- the rule: of the tickets drawn and served since the lock was made, the fixed part, the opening, the counted history,
--- the faults and the number of the clock's readings
+-- the faults, those that the value had met as it was given back last, and the number of the clock's readings
 pub record Rule {T : Type 0} (m : Meanings T) (s : State (Option T) View) : Type 0 where
   pub drawn : ℕ
   pub served : ℕ
@@ -120,6 +129,7 @@ pub record Rule {T : Type 0} (m : Meanings T) (s : State (Option T) View) : Type
   pub opening_faults : ℕ
   pub counted : History
   pub faults : ℕ
+  pub met : ℕ
   pub read : ℕ
   pub words : s.words ≡ words_of drawn served (length counted) faults
   pub queue : IsQueue drawn served s.views
@@ -132,3 +142,4 @@ pub record Rule {T : Type 0} (m : Meanings T) (s : State (Option T) View) : Type
   pub made : AreMade m fixed opening counted s.homes s.views
   pub failed : AreFaults m opening_faults faults s.homes s.views
   pub readings : AreRead m read s.homes s.views
+  pub spans : AreSpans m met s.homes s.views

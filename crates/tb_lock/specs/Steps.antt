@@ -1,11 +1,11 @@
 -- What each kind of step tells the pass that makes it: its view before, the number found, and its view after.
-use Rattle.std.specs.Prelude.{◌≡◌, ◌≢◌, ℕ, ◌+◌, ◌%◌, ◌^◌, ◌<◌, ◌≤◌, List, [], ◌∷◌, length, Option, Some, All}
+use Rattle.std.specs.Prelude.{◌≡◌, ◌≢◌, ℕ, ◌+◌, ◌%◌, ◌^◌, ◌<◌, ◌≤◌, List, [], ◌∷◌, length, Option, Some, All, AllPairs}
 use Rattle.atomic_table.specs.Table.{Me, Step}
 use Rattle.tb_lock.specs.declared.view.Call.{Call}
 use Rattle.tb_lock.specs.declared.view.View.{View}
 use Rattle.tb_lock.specs.declared.view.Stage.TheVariants.{Idle, Waiting, Come, Holding, Raised}
 use Rattle.tb_lock.specs.Meanings.{IsPrefix, Meanings}
-use Rattle.tb_lock.specs.Calls.{IsBetween, IsReadBy, IsOnce, Stands}
+use Rattle.tb_lock.specs.Calls.{IsBetween, IsReadBy, LieApart, IsOnce, Stands}
 use Rattle.tb_lock.specs.Views.{at_stage, raised}
 use Rattle.tb_lock.specs.Turns.{taken, counted, HaveCounts, MayGive}
 
@@ -39,6 +39,7 @@ module _ {T : Type 0} (m : Meanings T) where
     pub once : IsOnce m me.0.mine
     pub counts : All (IsBetween me.0.opening_faults (m.faults value)) me.0.mine
     pub read : All (IsReadBy (m.readings value)) me.0.mine
+    pub apart : AllPairs LieApart me.0.spans
     pub least : me.0.opening_faults ≤ m.faults value
 
   abbrev pub LooksAtFaults : Step (Option T) → Me (Option T) View → ℕ → Me (Option T) View → Type 0

@@ -1,11 +1,11 @@
 -- What the calls of the lock promise, and what a turn has to show at its end.
-use Rattle.std.specs.Prelude.{◌≡◌, ℕ, ◌+◌, ◌-◌, ◌%◌, ◌^◌, ◌<◌, ◌≤◌, ◌⊎◌, List, [], ◌++◌, Some, All, Any, Contains}
+use Rattle.std.specs.Prelude.{◌≡◌, ℕ, ◌+◌, ◌-◌, ◌%◌, ◌^◌, ◌<◌, ◌≤◌, ◌⊎◌, List, [], ◌∷◌, ◌++◌, Some, All, AllPairs, Any, Contains}
 use Rattle.tb_lock.specs.declared.view.Call.{Call}
 use Rattle.tb_lock.specs.declared.view.View.{View}
 use Rattle.tb_lock.specs.declared.view.Stage.TheVariants.{Idle, Holding, Counted}
 use Rattle.tb_lock.specs.Meanings.{History, IsPrefix, repeated, Meanings}
 use Rattle.tb_lock.specs.Views.{at_stage}
-use Rattle.tb_lock.specs.Calls.{IsBetween, IsReadBy, calls_on, entry_of, IsOnce, Stands, Makes, Leaves, accepted_of}
+use Rattle.tb_lock.specs.Calls.{IsBetween, IsReadBy, LieApart, calls_on, entry_of, IsOnce, Stands, Makes, Leaves, accepted_of}
 
 -- a clock whose readings were counted before and after was read in between: the number rose, or stands at its last
 -- value
@@ -25,8 +25,8 @@ module _ {T : Type 0} (m : Meanings T) where
     faults = m.faults value;
   }
 
-  -- what a turn begins with: the pass shows the value as it was taken, and keeps its share, its calls, the fixed part
-  -- and the opening
+  -- what a turn begins with: the pass shows the value as it was taken, and keeps its share, its calls, its turns, the
+  -- fixed part and the opening
   pub record IsTaken (before after : View) (value : T) : Type 0 where
     pub seen : after.seen ≡ m.history value
     pub doubt : after.doubt ≡ m.doubt value
@@ -35,6 +35,7 @@ module _ {T : Type 0} (m : Meanings T) where
     pub readings : after.readings ≡ m.readings value
     pub share : after.share ≡ before.share
     pub mine : after.mine ≡ before.mine
+    pub spans : after.spans ≡ before.spans
     pub same_fixed : after.fixed ≡ before.fixed
     pub opening : after.opening ≡ before.opening
     pub opening_faults : after.opening_faults ≡ before.opening_faults
@@ -50,6 +51,8 @@ module _ {T : Type 0} (m : Meanings T) where
     pub counts : All (IsBetween before.opening_faults (m.faults value)) before.mine
     -- and the turn of none of them ended at more readings of the clock than the value has
     pub read : All (IsReadBy (m.readings value)) before.mine
+    -- of any two turns of the pass one ended at no more faults than the other began with
+    pub apart : AllPairs LieApart before.spans
     pub least : before.opening_faults ≤ m.faults value
 
   -- the calls that are told of a turn at whose end the value is this one: each on as many first entries as are told,
@@ -94,12 +97,14 @@ module _ {T : Type 0} (m : Meanings T) where
     pub adds : Adds v calls (m.history value)
     pub doubts : Doubts v calls (m.history value) (m.doubt value)
 
-  -- the view that has raised the count: it has seen the value's history, and the calls are its own
+  -- the view that has raised the count: it has seen the value's history, and the calls are its own, and the turn with
+  -- its two counts of faults
   abbrev pub counted : ℕ → View → List Call → T → View
   counted n v calls value = record v {
     stage = Counted n;
     seen = m.history value;
     mine = v.mine ++ calls;
+    spans = v.spans ++ (record { before = v.faults_taken; after = m.faults value }) ∷ [];
     doubt = [];
     faults_taken = 0;
     reading = 0;
@@ -134,6 +139,8 @@ module _ {T : Type 0} (m : Meanings T) where
     pub counts : All (IsBetween last.opening_faults (m.faults value)) last.mine
     -- the turn of none of them ended at more readings of the clock than the value has
     pub read : All (IsReadBy (m.readings value)) last.mine
+    -- of any two turns, of whichever passes that it took in, one ended at no more faults than the other began with
+    pub apart : AllPairs LieApart last.spans
     -- which itself is at least the opening's, also where the pass made no call
     pub least : last.opening_faults ≤ m.faults value
     pub whole : last.share ≡ 2 ^ 64 - 1 → HasOnlyOwn last value

@@ -18,6 +18,7 @@ newcomer m given = record {
   share = 2 ^ 64 - 1;
   seen = m.history given;
   mine = [];
+  spans = [];
   fixed = m.fixed given;
   opening = m.history given;
   opening_faults = m.faults given;
@@ -35,6 +36,7 @@ spent = record {
   share = 0;
   seen = [];
   mine = [];
+  spans = [];
   fixed = [];
   opening = [];
   opening_faults = 0;
@@ -56,18 +58,22 @@ raised n more v = record v { stage = Raised n; faults = v.faults + more }
 abbrev pub kept_half : View → View
 kept_half v = record v { share = v.share - v.share / 2 }
 
--- and what the new view has: half of the share, rounded down, and no calls
+-- and what the new view has: half of the share, rounded down, and no calls and no turns
 abbrev pub given_half : View → View
-given_half v = record v { stage = Idle; share = v.share / 2; mine = [] }
+given_half v = record v { stage = Idle; share = v.share / 2; mine = []; spans = [] }
 
 -- the longer of two histories
 abbrev pub longer : History → History → History
 longer xs ys = if nat_lt (length xs) (length ys) then ys else xs
 
--- a view that has taken in another: its share, what it has seen, and its calls
+-- a view that has taken in another: its share, what it has seen, its calls and its turns
 abbrev pub joined : View → View → View
-joined v other = record v
-    { share = v.share + other.share; seen = longer v.seen other.seen; mine = v.mine ++ other.mine }
+joined v other = record v {
+  share = v.share + other.share;
+  seen = longer v.seen other.seen;
+  mine = v.mine ++ other.mine;
+  spans = v.spans ++ other.spans;
+}
 
 -- the view number j is v
 abbrev pub IsView : List View → ℕ → View → Type 0

@@ -26,6 +26,12 @@ pub struct Call {
     pub readings: u64,
 }
 
+/// The counts of faults at the beginning and at the end of a turn.
+pub struct Span {
+    pub before: u64,
+    pub after: u64,
+}
+
 /// A pass, as contracts see it. The last five fields are of its turn.
 pub struct View {
     pub stage: Stage,
@@ -34,6 +40,8 @@ pub struct View {
     pub seen: LinkedList<LinkedList<u64>>,
     /// The calls that it made.
     pub mine: LinkedList<Call>,
+    /// The turns that it had, also those without a call.
+    pub spans: LinkedList<Span>,
     /// The fixed part of the lock's value.
     pub fixed: LinkedList<u64>,
     /// The history and the count of faults of the value that was given to `new`.

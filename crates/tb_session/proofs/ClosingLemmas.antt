@@ -23,11 +23,12 @@ use Rattle.tb_session.specs.Codes.{Made, call_of, kind_at, outcome_code, entry_o
 use Rattle.tb_session.specs.CodeLaws.{entry-code, get_or-map}
 use Rattle.tb_session.specs.Rooms.{room_means, house_of}
 use Rattle.tb_session.specs.Serve.{calls_of_gates, AreApart, MayHaveMade, ServesAll, Turns}
+use Rattle.tb_session.proofs.ApartLemmas.{count-apart}
 use Rattle.tb_session.proofs.OpeningLemmas.{same-start, operator-house, moments-house}
 use Rattle.tb_session.proofs.HouseLemmas.{IsAnswered-house, AreRuns-house}
 
 -- what holds of all elements of a mapped list
-all-unmapped : {A B : Type 0} (P : B → Type 0) (f : A → B) (xs : List A) → All P (map f xs) → All (λ x. P (f x)) xs
+pub all-unmapped : {A B : Type 0} (P : B → Type 0) (f : A → B) (xs : List A) → All P (map f xs) → All (λ x. P (f x)) xs
 all-unmapped P f xs all = λ k d within.
     subst P (get_or-map f xs k d within) (all k (f d) (omega (arith, length-map xs f)))
 
@@ -177,6 +178,7 @@ module _ {D C G K : Type 0} (disk : D → DiskState) (clock : C → ClockState) 
         counts = λ k d within. let one = counts k d within in
             (omega (arith, one.least, turns.same.opening_faults), one.rising, one.most);
       };
+      apart = count-apart turns.runs v'.spans closes.apart turns.had;
       read = read;
       served_is = turns.counted;
       accepted_is = omega (arith, is, longer);

@@ -8,6 +8,7 @@ use Rattle.tb_units.proofs.ident.Ident.TheSendSync as ident
 use Rattle.tb_disk.specs.declared.disk.Disk.{Ghosts}
 use Rattle.tb_message.proofs.message.Entry.TheSendSync as entry
 use Rattle.tb_core.proofs.host.Host.TheSendSync as host
+use Rattle.http_server.proofs.log.Log.TheSendSync as log
 use Rattle.tb_journal.specs.contracts.journal.Journal as Journal
 use Rattle.tb_desk.specs.contracts.desk.Desk as Desk
 use Rattle.tb_lock.proofs.pass.Pass.TheSendSync as pass
@@ -23,7 +24,7 @@ module _ (D : RattleType) (g : Ghosts D.Denot) where
   desk_send : IsSend D → IsSend (Desk.the_row D g)
   desk_send d =
       let journal = journal_send d in
-      search (sendable, crosses, host.the_send, entry.the_send) depth 60 fits 20000
+      search (sendable, crosses, host.the_send, entry.the_send, log.the_send) depth 60 fits 20000
 
   -- so may a room, where its clock may too
   pub room_send : (C : RattleType) → IsSend D → IsSend C → IsSend (Room.the_row D C g)

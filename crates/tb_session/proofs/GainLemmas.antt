@@ -1,13 +1,14 @@
 -- What a pass gains in several steps.
 use Rattle.std.proofs.Common.{List, [], ◌++◌, map, ℕ, refl, sym, ap, ◌∙◌, subst, append_assoc}
-use Rattle.std.specs.Prelude.{All}
+use Rattle.std.specs.Prelude.{All, Contains}
 use Rattle.std.proofs.lemmas.List.{append-nil, map-append}
-use Rattle.std.proofs.lemmas.List.Elements.{All-nil, All-append, All-weaker}
+use Rattle.std.proofs.lemmas.List.Elements.{All-nil, All-append, All-weaker, Contains-append_left, Contains-append_right}
 use Rattle.tb_lock.specs.declared.view.Call.{Call}
+use Rattle.tb_lock.specs.declared.view.Span.{Span}
 use Rattle.tb_lock.specs.declared.view.View.{View}
 use Rattle.tb_lock.specs.Meanings.{IsPrefix}
 use Rattle.tb_lock.proofs.PrefixLemmas.{prefix-self, prefix-trans}
-use Rattle.tb_session.specs.Codes.{Made, call_of, spelled_all, IsAnswered}
+use Rattle.tb_session.specs.Codes.{Made, call_of, span_of, spelled_all, IsAnswered}
 use Rattle.tb_session.specs.Gains.{AreInOrder, Gains, IsTurn, joined, turns_of}
 use Rattle.tb_session.proofs.OrderLemmas.{joined-append, joined-turns}
 
@@ -18,6 +19,9 @@ gains-nothing v = record {
   answered = All-nil (λ (m : Made). IsAnswered v.fixed m.history m.called m.before m.after m.readings);
   begin = All-nil (λ (m : Made). IsPrefix v.seen (spelled_all m.history));
   seen = prefix-self v.seen;
+  spans = [];
+  had = sym (append-nil v.spans);
+  counts = All-nil (λ (m : Made). Contains [] (span_of m));
   turns = [];
   cut = refl;
   each = All-nil IsTurn;
@@ -45,6 +49,15 @@ gains-then a b c first later one two = record {
       (λ (m : Made). IsPrefix a.seen (spelled_all m.history))
       (λ m begins. prefix-trans a.seen b.seen (spelled_all m.history) one.seen begins) later two.begin);
   seen = prefix-trans a.seen b.seen c.seen one.seen two.seen;
+  spans = one.spans ++ two.spans;
+  had = two.had ∙ (ap (λ (l : List Span). l ++ two.spans) one.had ∙ append_assoc a.spans one.spans two.spans);
+  counts = All-append (λ (m : Made). Contains (one.spans ++ two.spans) (span_of m)) first later
+      (All-weaker (λ (m : Made). Contains one.spans (span_of m))
+      (λ (m : Made). Contains (one.spans ++ two.spans) (span_of m))
+      (λ m. Contains-append_left one.spans two.spans (span_of m)) first one.counts)
+      (All-weaker (λ (m : Made). Contains two.spans (span_of m))
+      (λ (m : Made). Contains (one.spans ++ two.spans) (span_of m))
+      (λ m. Contains-append_right one.spans two.spans (span_of m)) later two.counts);
   turns = one.turns ++ two.turns;
   cut = ap (λ (l : List Made). l ++ later) one.cut
       ∙ (ap (λ (l : List Made). joined one.turns ++ l) two.cut ∙ sym (joined-append one.turns two.turns));

@@ -12,7 +12,7 @@ use Rattle.tb_lock.specs.Views.{kept_half, given_half, joined}
 use Rattle.tb_session.specs.declared.room.Room.{Room}
 use Rattle.tb_session.specs.declared.worker.Worker.{Worker}
 use Rattle.tb_session.specs.Work.{IsReady}
-use Rattle.tb_session.specs.Serve.{SameLock, IsHired, Hires, Dismisses, share_of, served_of, failed_of, calls_with}
+use Rattle.tb_session.specs.Serve.{SameLock, IsHired, Hires, Dismisses, share_of, served_of, failed_of, calls_with, spans_with}
 use Rattle.tb_session.proofs.Shares.{two-left}
 
 -- a list is its first element before what is left when that is taken out
@@ -57,6 +57,7 @@ module _ {D C G : Type 0} (shared : TurnLock (Room D C)) (old : View) where
         enough = enough;
         same = same-lock old;
         mine = refl;
+        spans = refl;
         seen = refl;
       })
 
@@ -76,6 +77,7 @@ module _ {D C G : Type 0} (shared : TurnLock (Room D C)) (old : View) where
     hired = All-push (IsHired shared old) workers w hires.hired (record {
       ready = ready;
       none = ap (λ (v : View). v.mine) given;
+      no_turns = ap (λ (v : View). v.spans) given;
       seen = ap (λ (v : View). v.seen) given ∙ hires.seen;
       same = record {
         fixed = ap (λ (v : View). v.fixed) given ∙ hires.same.fixed;
@@ -99,6 +101,7 @@ module _ {D C G : Type 0} (shared : TurnLock (Room D C)) (old : View) where
       opening_faults = ap (λ (v : View). v.opening_faults) kept ∙ hires.same.opening_faults;
     };
     mine = ap (λ (v : View). v.mine) kept ∙ hires.mine;
+    spans = ap (λ (v : View). v.spans) kept ∙ hires.spans;
     seen = ap (λ (v : View). v.seen) kept ∙ hires.seen;
   }
 
@@ -118,6 +121,7 @@ module _ {D C G : Type 0} (old : View) where
     in_order = ap (λ (l : List G). l ++ map gate_of workers) none;
     share = refl;
     mine = refl;
+    spans = refl;
     same = same-lock old;
     failed_is = refl;
   }
@@ -144,6 +148,9 @@ module _ {D C G : Type 0} (old : View) where
     mine = ap (λ (v : View). v.mine ++ flat_map calls_with others) joins
         ∙ (append_assoc now.mine (calls_with w) (flat_map calls_with others)
         ∙ (ap (λ (l : List (Worker D C G)). now.mine ++ flat_map calls_with l) (sym first) ∙ dismisses.mine));
+    spans = ap (λ (v : View). v.spans ++ flat_map spans_with others) joins
+        ∙ (append_assoc now.spans (spans_with w) (flat_map spans_with others)
+        ∙ (ap (λ (l : List (Worker D C G)). now.spans ++ flat_map spans_with l) (sym first) ∙ dismisses.spans));
     same = record {
       fixed = ap (λ (v : View). v.fixed) joins ∙ dismisses.same.fixed;
       opening = ap (λ (v : View). v.opening) joins ∙ dismisses.same.opening;
@@ -177,10 +184,14 @@ module _ {D C G : Type 0} (old : View) where
     pub share-all : now.share ≡ old.share + sum_by share_of workers
     share-all = omega (arith, dismisses.share, ap (λ (l : List (Worker D C G)). sum_by share_of l) none)
 
-    -- their calls,
+    -- their calls and turns,
     pub mine-all : now.mine ≡ old.mine ++ flat_map calls_with workers
     mine-all = sym (append-nil now.mine)
         ∙ (ap (λ (l : List (Worker D C G)). now.mine ++ flat_map calls_with l) (sym none) ∙ dismisses.mine)
+
+    pub spans-all : now.spans ≡ old.spans ++ flat_map spans_with workers
+    spans-all = sym (append-nil now.spans)
+        ∙ (ap (λ (l : List (Worker D C G)). now.spans ++ flat_map spans_with l) (sym none) ∙ dismisses.spans)
 
     -- and whether one failed
     pub failed-all : failed ≡ list_any failed_of workers

@@ -65,6 +65,7 @@ module _ (fixed other : List ℕ) (operators : operator_in fixed ≡ operator_in
     read_fault = is.read_fault;
     write_fault = is.write_fault;
     end_of_input = is.end_of_input;
+    none_ahead = is.none_ahead;
   }
 
   module _ {G K : Type 0} (gate : G → GateState K) (source : K → SourceState) (sink : K → SinkState) where

@@ -5,12 +5,14 @@ pub mod GroupLemmas
 pub mod OneCode
 pub mod OrderLemmas
 pub mod OpeningLemmas
+pub mod FewLemmas
 pub mod GainLemmas
 pub mod TurnLemmas
 pub mod CrashLemmas
 pub mod TogetherLemmas
 pub mod PerformLemmas
 pub mod InboxLemmas
+pub mod StepLemmas
 pub mod ReceiveLemmas
 pub mod ReplyLemmas
 pub mod WriteLemmas
@@ -21,6 +23,7 @@ pub mod SessionLemmas
 pub mod RowLemmas
 pub mod HearLemmas
 pub mod AnswerLemmas
+pub mod ApartLemmas
 pub mod WorkLemmas
 pub mod Shares
 pub mod ServeLemmas

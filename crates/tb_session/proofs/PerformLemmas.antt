@@ -27,7 +27,7 @@ use Rattle.tb_session.specs.Calls.{IsAnswerBy}
 use Rattle.tb_session.specs.Codes.{Made, operator_in}
 use Rattle.tb_session.specs.Rooms.{room_means}
 use Rattle.tb_session.specs.Gains.{AreBidsOfOne, AsksBid, BecameCalls, Gains, GainsTogether, IsBidWith, IsPlain}
-use Rattle.tb_session.specs.Turned.{Reads}
+use Rattle.tb_session.specs.Turned.{Reads, LeavesDesk}
 use Rattle.tb_session.specs.Groups.{AreCallsOf, AreReplied, CallsTogether, GainsGroup, Replied, TellsGroup, answer_at, answer_of, answers_at, replied_by, said_in, told_back, told_group}
 use Rattle.tb_session.proofs.OpeningLemmas.{operator-locked}
 use Rattle.tb_session.proofs.TurnLemmas.{reads-on}
@@ -236,13 +236,13 @@ module _ {D C : Type 0} (disk : D → DiskState) (clock : C → ClockState) (v0 
   -- by how the group came out: the turn may end
   pub group-may : (came : Grouped)
       → CallsTogether disk clock old new k bids moment (replied_by k moment came bids places)
-      → (came ≡ grouped.Lacked
-      → (new.desk.host.history ≡ old.desk.host.history) × (new.desk.doubt ≡ old.desk.doubt))
+      → (came ≡ grouped.Lacked → LeavesDesk old new)
       → MayGive (room_means disk clock) v
       (calls_of (room_means disk clock) v new (told_group came entries (replied_by k moment came bids places))) new
   group-may grouped.Unknown together lacked = one-may (replied_by k moment grouped.Unknown bids places) together
   group-may grouped.Lacked together lacked =
-      let same = lacked refl in one-none (replied_by k moment grouped.Lacked bids places) together same.0 same.1
+      let left = lacked refl in
+      one-none (replied_by k moment grouped.Lacked bids places) together left.history left.same.doubt
   group-may (grouped.Told caller) together lacked =
       one-may (replied_by k moment (grouped.Told caller) bids places) together
   group-may (grouped.Doubted caller ran) together lacked =
@@ -251,8 +251,7 @@ module _ {D C : Type 0} (disk : D → DiskState) (clock : C → ClockState) (v0 
   -- and the pass gained its calls
   pub group-gained : (came : Grouped)
       → CallsTogether disk clock old new k bids moment (replied_by k moment came bids places)
-      → (came ≡ grouped.Lacked
-      → (new.desk.host.history ≡ old.desk.host.history) × (new.desk.doubt ≡ old.desk.doubt))
+      → (came ≡ grouped.Lacked → LeavesDesk old new)
       → TellsGroup (answer_of came) places (said_in (replied_by k moment came bids places))
       → GainsGroup v0 (given (room_means disk clock) v
       (calls_of (room_means disk clock) v new (told_group came entries (replied_by k moment came bids places))) new) k
@@ -262,7 +261,8 @@ module _ {D C : Type 0} (disk : D → DiskState) (clock : C → ClockState) (v0 
       let told = answers-told places (said_in replied) (length bids) (said-length replied together) tells in
       one-gained replied together (answers_at group.Verdicts places (length bids)) told.0 told.1
   group-gained grouped.Lacked together lacked tells =
-      let same = lacked refl in none-gained (replied_by k moment grouped.Lacked bids places) together same.0 same.1
+      let left = lacked refl in
+      none-gained (replied_by k moment grouped.Lacked bids places) together left.history left.same.doubt
   group-gained (grouped.Told caller) together lacked tells =
       let replied = replied_by k moment (grouped.Told caller) bids places in
       let told = answers-told places (said_in replied) (length bids) (said-length replied together) tells in

@@ -3,7 +3,6 @@ use Rattle.std.proofs.Common.{get_or, Option, ◌≡◌, ℕ, zero, suc, ◌+◌
 use Rattle.std.specs.Prelude.{All, Bool, if◌then◌else◌, ◌||◌, ◌==◌, Result, Ok, Err, IfOk, IfErr, is_ok, is_err}
 use Rattle.std.proofs.lemmas.Bool.Decides.{nat_tests}
 use Rattle.std.proofs.lemmas.List.{append-nil, take-append-drop, length-map, take_more, drop_more, get_or-take}
-use Rattle.std.proofs.lemmas.List.Concat.{flat_map-append}
 use Rattle.std.proofs.lemmas.List.Elements.{All-nil, All-cons, All-head, All-tail, All-take, All-drop}
 use Rattle.tb_gates.specs.Links.{LinkState, Moved}
 use Rattle.tb_gates.proofs.CallerLemmas.{moved-nothing, moved-then}
@@ -31,13 +30,14 @@ use Rattle.tb_session.specs.declared.end.End.TheVariants as end
 use Rattle.tb_session.specs.Codes.{Made, call_of}
 use Rattle.tb_session.specs.Gains.{AreBeside, AreBidsOfOne, BecameCalls, Gains, GainsTogether, IsBidWith, IsPlain}
 use Rattle.tb_session.specs.Replies.{reply_text, IsTold}
-use Rattle.tb_session.specs.Rows.{AreInRow, FailsAt, IsBidRequest, replies_to}
+use Rattle.tb_session.specs.Rows.{AreInRow, AreWritten, FailsAt, IsBidRequest}
 use Rattle.tb_session.specs.CodeLaws.{get_or-map}
 use Rattle.tb_session.specs.Groups.{GainsGroup, answer_at, answers_at}
 use Rattle.tb_session.specs.Turned.{CanBeTold}
 use Rattle.tb_session.specs.Serving.{Fails, Sends, ServesOn}
-use Rattle.tb_session.specs.Session.{AreCut, Asks, Becomes, Exchange, IsExchange, LetsGoOn, ServesLink, ShareTurn, body_of, calls_in, closes_at, most_turns, replies_of, reply_of}
-use Rattle.tb_session.proofs.SessionLemmas.{never-end, serves-ends, serves-then}
+use Rattle.tb_session.specs.Session.{AreCut, Asks, Becomes, Exchange, IsExchange, LetsGoOn, ServesLink, ShareTurn, TakeTurns, Wrote, body_of, calls_in, closes_at, most_turns, replies_of, reply_of}
+use Rattle.tb_session.proofs.StepLemmas.{ahead-nothing}
+use Rattle.tb_session.proofs.SessionLemmas.{never-end, serves-ends, serves-nothing, serves-then}
 
 -- a bid more stands in the row
 pub row-push : (k : Key) (bytes rest : List ℕ) (requests : List HttpRequest)
@@ -138,19 +138,26 @@ answers-from said places count place here within counted is =
     (omega (arith, length-map (take count places) (λ (p : Option Verdict). answer_at said p), within, counted))
     ∙ ap (λ (p : Option Verdict). answer_at said p) (get_or-take count places place here within ∙ sym is))
 
--- one reply more
-pub replies-more : (answers : List Answer) (place : ℕ) (said : Answer) (others : List Answer)
+-- the answers up to the next place
+answers-next : (answers : List Answer) (place : ℕ) (said : Answer) (others : List Answer)
     → drop place answers ≡ said ∷ others
-    → replies_to (take (place + 1) answers) ≡ replies_to (take place answers) ++ reply_text said target.Messages false
-replies-more answers place said others is =
+    → take (place + 1) answers ≡ take place answers ++ said ∷ []
+answers-next answers place said others is =
     let within : place < length answers =
     omega (arith, ap length is, length-drop place answers) in
     let same : get_or answers place said ≡ said =
     (let all = sym (drop_more answers place said within) ∙ is in cc) in
-    ap (λ (l : List Answer). replies_to l)
-    (take_more answers place said within ∙ ap (λ (a : Answer). take place answers ++ a ∷ []) same)
-    ∙ (flat_map-append (λ (a : Answer). reply_text a target.Messages false) (take place answers) (said ∷ [])
-    ∙ ap (λ (l : List ℕ). replies_to (take place answers) ++ l) (append-nil (reply_text said target.Messages false)))
+    take_more answers place said within ∙ ap (λ (a : Answer). take place answers ++ a ∷ []) same
+
+-- one reply more
+written-more : (a b c : LinkState) (answers : List Answer) (said : Answer)
+    → AreWritten a b answers
+    → Wrote b c (reply_text said target.Messages false)
+    → AreWritten a c (answers ++ said ∷ [])
+written-more a b c [] said none wrote =
+    (c, subst (λ (x : LinkState). Wrote x c (reply_text said target.Messages false)) none wrote, refl)
+written-more a b c (first ∷ answers) said written wrote =
+    (written.0, written.1, written-more written.0 b c answers said written.2 wrote)
 
 -- the answer of a place is one that takes no memory, where all are
 pub plain-at : (answers : List Answer) (place : ℕ) (said : Answer) (others : List Answer)
@@ -163,17 +170,17 @@ plain-at answers place said others is plain =
 -- so far these replies were written, and the next one is
 pub replies-on : (a b c : LinkState) (answers : List Answer) (place : ℕ) (said : Answer) (others : List Answer)
     → drop place answers ≡ said ∷ others
-    → Moved a b [] (replies_to (take place answers))
-    → Moved b c [] (reply_text said target.Messages false)
-    → Moved a c [] (replies_to (take (place + 1) answers))
+    → AreWritten a b (take place answers)
+    → Wrote b c (reply_text said target.Messages false)
+    → AreWritten a c (take (place + 1) answers)
 replies-on a b c answers place said others is so_far one =
-    subst (λ (l : List ℕ). Moved a c [] l) (sym (replies-more answers place said others is))
-    (moved-then a b c [] (replies_to (take place answers)) [] (reply_text said target.Messages false) so_far one)
+    subst (λ (l : List Answer). AreWritten a c l) (sym (answers-next answers place said others is))
+    (written-more a b c (take place answers) said so_far one)
 
 -- or its write fails
 pub replies-fail : (a b c : LinkState) (answers : List Answer) (place : ℕ) (said : Answer) (others : List Answer)
     → drop place answers ≡ said ∷ others
-    → Moved a b [] (replies_to (take place answers))
+    → AreWritten a b (take place answers)
     → Fails b c (reply_text said target.Messages false)
     → FailsAt a c answers place
 replies-fail a b c answers place said others is so_far fails = record {
@@ -181,10 +188,9 @@ replies-fail a b c answers place said others is so_far fails = record {
   others = others;
   split = is;
   within = omega (arith, ap length is, length-drop place answers);
-  tail = fails.tail;
-  begins = fails.begins;
-  moved = moved-then a b c [] (replies_to (take place answers)) [] fails.tail so_far fails.moved;
-  rose = Rose-later a.sink.faults b.sink.faults c.sink.faults so_far.write_count fails.rose;
+  between = b;
+  written = so_far;
+  fails = fails;
 }
 
 -- an answer that takes no memory is told
@@ -269,26 +275,55 @@ as-many fixed k (asked ∷ bids) (m ∷ made) [] became = absurd became
 as-many fixed k (asked ∷ bids) (m ∷ made) (said ∷ answers) became =
     let more = as-many fixed k bids made answers became.3 in (omega (arith, more.0), omega (arith, more.1))
 
--- the replies to so many of them
-replies-taken : (p : ℕ) (exchanges : List Exchange) → All IsPosted exchanges
-    → replies_of (take p exchanges) ≡ replies_to (take p (map (λ e. e.said) exchanges))
-replies-taken zero exchanges posted = refl
-replies-taken (suc p) [] posted = refl
-replies-taken (suc p) (e ∷ exchanges) posted =
-    let one = All-head IsPosted e exchanges posted in
-    ap (λ (l : List ℕ). reply_of e false ++ l)
-    (replies-taken p exchanges (All-tail IsPosted e exchanges posted))
-    ∙ ap (λ (t : Target). reply_text e.said t false ++ replies_to (take p (map (λ (x : Exchange). x.said) exchanges)))
-    one.posted
+-- the reply to a bid that was posted
+posted-reply : (e : Exchange) (a b : LinkState) → IsPosted e → Wrote a b (reply_text e.said target.Messages false)
+    → Wrote a b (reply_of e false)
+posted-reply e a b one wrote = subst (λ (t : Target). Wrote a b (reply_text e.said t false)) (sym one.posted) wrote
 
--- and to all of them
-replies-all : (exchanges : List Exchange) → All IsPosted exchanges
-    → replies_of exchanges ≡ replies_to (map (λ e. e.said) exchanges)
-replies-all [] posted = refl
-replies-all (e ∷ exchanges) posted =
-    let one = All-head IsPosted e exchanges posted in
-    ap (λ (l : List ℕ). reply_of e false ++ l) (replies-all exchanges (All-tail IsPosted e exchanges posted))
-    ∙ ap (λ (t : Target). reply_text e.said t false ++ replies_to (map (λ (x : Exchange). x.said) exchanges)) one.posted
+-- what the replies to them moved
+replies-moved : (exchanges : List Exchange) (a b : LinkState) → All IsPosted exchanges
+    → AreWritten a b (map (λ e. e.said) exchanges)
+    → Moved a b [] (replies_of exchanges)
+replies-moved [] a b posted none = subst (λ (x : LinkState). Moved a x [] []) (sym none) (moved-nothing a)
+replies-moved (e ∷ exchanges) a b posted written =
+    let one = posted-reply e a written.0 (All-head IsPosted e exchanges posted) written.1 in
+    moved-then a written.0 b [] (reply_of e false) [] (replies_of exchanges) one.moved
+    (replies-moved exchanges written.0 b (All-tail IsPosted e exchanges posted) written.2)
+
+-- each took its turn, and nothing was read
+replies-turns : (exchanges : List Exchange) (waiting rest : List ℕ) (a b : LinkState) → All IsPosted exchanges
+    → AreCut exchanges waiting rest
+    → AreWritten a b (map (λ e. e.said) exchanges)
+    → TakeTurns exchanges waiting [] rest a b
+replies-turns [] waiting rest a b posted cut none = (refl, sym cut, none)
+replies-turns (e ∷ exchanges) waiting rest a b posted cut written = (
+  [],
+  [],
+  written.0,
+  refl,
+  record {
+    heard = a;
+    none_ahead = ahead-nothing a waiting;
+    wrote = posted-reply e a written.0 (All-head IsPosted e exchanges posted) written.1;
+  },
+  subst (λ (l : List ℕ). TakeTurns exchanges (drop e.request.used l) [] rest written.0 b) (sym (append-nil waiting))
+      (replies-turns exchanges (drop e.request.used waiting) rest written.0 b (All-tail IsPosted e exchanges posted)
+      cut.2 written.2),
+)
+
+-- the answers to the first of them
+said-first : (p : ℕ) (exchanges : List Exchange)
+    → map (λ e. e.said) (take p exchanges) ≡ take p (map (λ e. e.said) exchanges)
+said-first zero exchanges = refl
+said-first (suc p) [] = refl
+said-first (suc p) (e ∷ exchanges) = ap (λ (l : List Answer). e.said ∷ l) (said-first p exchanges)
+
+-- the first of them are cut, and leave the others
+cut-first : (first last : List Exchange) (bytes rest : List ℕ) → AreCut (first ++ last) bytes rest
+    → (left : List ℕ) × AreCut first bytes left
+cut-first [] last bytes rest cut = (bytes, refl)
+cut-first (e ∷ first) last bytes rest cut =
+    let more = cut-first first last (drop e.request.used bytes) rest cut.2 in (more.0, (cut.0, cut.1, more.1))
 
 -- the call of the first
 calls-more : (e : Exchange) (m : Made) (exchanges : List Exchange) → e.call ≡ Some m
@@ -357,9 +392,13 @@ module _ (turns : ℕ) (k : Key) (waiting rest : List ℕ) (v0 v1 : View) (a b :
   gains_all : Gains v0 v1 (calls_in all)
   gains_all = subst (λ (l : List Made). Gains v0 v1 l) (sym served.calls) gains.gains
 
+  -- their replies
+  by_exchange : AreWritten a b answers → AreWritten a b (map (λ e. e.said) all)
+  by_exchange written = subst (λ (l : List Answer). AreWritten a b l) (sym served.said) written
+
   -- the link goes on after their replies
-  pub row-on : Moved a b [] (replies_to answers) → ServesOn turns (length bids) waiting v0 v1 a b rest
-  row-on moved = record {
+  pub row-on : AreWritten a b answers → ServesOn turns (length bids) waiting v0 v1 a b rest
+  row-on written = record {
     exchanges = all;
     read = [];
     counted = long;
@@ -368,8 +407,8 @@ module _ (turns : ℕ) (k : Key) (waiting rest : List ℕ) (v0 v1 : View) (a b :
       are_exchanges = served.are_exchanges;
       goes_on = served.goes_on;
       few = omega (arith, few, long);
-      moved = subst (λ (l : List ℕ). Moved a b [] l)
-          (sym (replies-all all served.posted ∙ ap (λ (l : List Answer). replies_to l) served.said)) moved;
+      moved = replies-moved all a b served.posted (by_exchange written);
+      turns_taken = replies-turns all waiting rest a b served.posted served.cuts (by_exchange written);
     };
     gains = gains_all;
   }
@@ -413,6 +452,17 @@ module _ (turns : ℕ) (k : Key) (waiting rest : List ℕ) (v0 v1 : View) (a b :
       let open_link : closes_at (turns + length first) found.0.request ≡ false =
       closes-not (turns + length first) found.0.request one.stays (omega (arith, before, within, long, few)) in
       let due = reply_text fails.said target.Messages false in
+      let written : AreWritten a fails.between (map (λ e. e.said) first) =
+      subst (λ (l : List Answer). AreWritten a fails.between l)
+      (sym (said-first place all ∙ ap (λ (l : List Answer). take place l) served.said)) fails.written in
+      let firsts : All IsPosted first = All-take IsPosted place all served.posted in
+      let so_far : Moved a fails.between [] (replies_of first) = replies-moved first a fails.between firsts written in
+      let cut_all : AreCut (first ++ last) waiting rest =
+      subst (λ (l : List Exchange). AreCut l waiting rest) (sym whole) served.cuts in
+      let left = cut-first first last waiting rest cut_all in
+      let tail : List ℕ = fails.fails.tail in
+      let rose = Rose-later a.sink.faults fails.between.sink.faults b.sink.faults so_far.write_count
+      fails.fails.rose in
       record {
         session = record {
           read = [];
@@ -420,21 +470,18 @@ module _ (turns : ℕ) (k : Key) (waiting rest : List ℕ) (v0 v1 : View) (a b :
           last = last;
           rest = rest;
           due = due;
-          tail = fails.tail;
+          tail = tail;
           ended = end.WriteFault;
         };
         ended_is = refl;
         is_session = record {
-          cuts = subst (λ (l : List ℕ). AreCut (first ++ last) l rest) (sym (append-nil waiting))
-              (subst (λ (l : List Exchange). AreCut l waiting rest) (sym whole) served.cuts);
+          cuts = subst (λ (l : List ℕ). AreCut (first ++ last) l rest) (sym (append-nil waiting)) cut_all;
           are_exchanges = subst (λ (l : List Exchange). All (IsExchange v0.fixed) l) (sym whole) served.are_exchanges;
           goes_on = All-take LetsGoOn place all served.goes_on;
           few = omega (arith, before, within, long, few);
-          moved = subst (λ (l : List ℕ). Moved a b [] (l ++ fails.tail))
-              (sym (replies-taken place all served.posted
-              ∙ ap (λ (l : List Answer). replies_to (take place l)) served.said)) fails.moved;
-          begins = fails.begins;
-          whole = inr fails.rose;
+          moved = moved-then a fails.between b [] (replies_of first) [] tail so_far fails.fails.wrote.moved;
+          begins = fails.fails.begins;
+          whole = inr rose;
           ends = inl (
             found.0,
             found.1,
@@ -446,8 +493,17 @@ module _ (turns : ℕ) (k : Key) (waiting rest : List ℕ) (v0 v1 : View) (a b :
                 ∙ ap (λ (c : Bool). reply_of found.0 c) (sym open_link)),
           );
           read_fault = λ is. absurd (let bad : ⊥ = cc in bad);
-          write_fault = λ is. fails.rose;
+          write_fault = λ is. rose;
           end_of_input = λ is. absurd (never-end end.WriteFault (λ q. cc) (λ q. cc) is);
+          none_ahead = record {
+            early = [];
+            late = [];
+            read_is = refl;
+            left = left.0;
+            told = fails.between;
+            turns = replies-turns first waiting left.0 a fails.between firsts left.1 written;
+            ends = (fails.between, ahead-nothing fails.between left.0, fails.fails.wrote);
+          };
         };
         gains = subst (λ (l : List Exchange). Gains v0 v1 (calls_in l)) (sym whole) gains_all;
       }
@@ -495,13 +551,13 @@ module _ (turns count : ℕ) (k : Key) (waiting rest : List ℕ) (v0 v1 : View) 
     (gains : GainsTogether v0 v1 k bids (answers_at said places (length bids)))
     (few : turns + length bids < most_turns) where
   -- the link goes on where all replies were written
-  pub told-on : (left : List ℕ) → left ≡ rest → Moved a b [] (replies_to (answers_at said places count))
+  pub told-on : (left : List ℕ) → left ≡ rest → AreWritten a b (answers_at said places count)
       → ServesOn turns count waiting v0 v1 a b left
-  told-on left same moved =
+  told-on left same written =
       subst (λ (l : List ℕ). ServesOn turns count waiting v0 v1 a b l) (sym same)
       (subst (λ (n : ℕ). ServesOn turns n waiting v0 v1 a b rest) (sym is)
       (row-on turns k waiting rest v0 v1 a b requests bids (answers_at said places (length bids)) are gains few
-      (subst (λ (n : ℕ). Moved a b [] (replies_to (answers_at said places n))) is moved)))
+      (subst (λ (n : ℕ). AreWritten a b (answers_at said places n)) is written)))
 
   -- and ends at the reply that wasn't
   pub told-unwritten : (place : ℕ) → FailsAt a b (answers_at said places count) place
@@ -515,19 +571,7 @@ module _ (turns : ℕ) (waiting : List ℕ) (v0 v1 v2 : View) (a b : LinkState) 
     (none : Gains v0 v1 []) where
   -- the link served nothing in that turn
   nothing : ServesOn turns 0 waiting v0 v1 a a waiting
-  nothing = record {
-    exchanges = [];
-    read = [];
-    counted = refl;
-    progress = record {
-      cuts = append-nil waiting;
-      are_exchanges = All-nil (IsExchange v0.fixed);
-      goes_on = All-nil LetsGoOn;
-      few = omega (arith, few);
-      moved = moved-nothing a;
-    };
-    gains = none;
-  }
+  nothing = serves-nothing turns waiting v0 v1 a few none
 
   -- so what it serves then is all that it serves
   pub after-none-on : (count : ℕ) (left : List ℕ) → ServesOn turns count waiting v1 v2 a b left

@@ -10,6 +10,7 @@ use Rattle.tb_link.specs.Sinks.{SinkState}
 use Rattle.tb_gates.specs.Gates.{GateState, most_links}
 use Rattle.tb_lock.specs.declared.lock.TurnLock.{TurnLock}
 use Rattle.tb_lock.specs.declared.view.Call.{Call}
+use Rattle.tb_lock.specs.declared.view.Span.{Span}
 use Rattle.tb_lock.specs.declared.view.View.{View}
 use Rattle.tb_lock.specs.Meanings.{History, IsPrefix}
 use Rattle.tb_lock.specs.Passes.{view}
@@ -17,7 +18,7 @@ use Rattle.tb_session.specs.declared.room.Room.{Room}
 use Rattle.tb_session.specs.declared.worker.Worker.{Worker}
 use Rattle.tb_session.specs.Codes.{Made, call_of, spelled_all, IsAnswered}
 use Rattle.tb_session.specs.Work.{calls_of_links, IsServed, WorksOn}
-use Rattle.tb_session.specs.Serve.{Run, calls_of_gates, links_of_gates, some_failed, IsRun, AreRuns, Turns, SameLock, share_of, served_of, failed_of, calls_with, IsHired, WorkedOn}
+use Rattle.tb_session.specs.Serve.{Run, calls_of_gates, links_of_gates, some_failed, IsRun, AreRuns, HadTurns, Turns, SameLock, share_of, served_of, failed_of, calls_with, spans_with, IsHired, WorkedOn}
 
 module _ {D C G K : Type 0} (gate : G → GateState K) (source : K → SourceState) (sink : K → SinkState)
     (shared : TurnLock (Room D C)) (v : View) where
@@ -27,6 +28,7 @@ module _ {D C G K : Type 0} (gate : G → GateState K) (source : K → SourceSta
     pub are_runs : AreRuns gate source sink v.fixed (map (λ (w : Worker D C G). w.gate) olds)
         (map (λ (w : Worker D C G). w.gate) news) runs
     pub mine : flat_map calls_with news ≡ map call_of (calls_of_gates runs)
+    pub had : HadTurns runs (flat_map spans_with news)
     pub answered : All (λ m. IsAnswered v.fixed m.history m.called m.before m.after m.readings) (calls_of_gates runs)
     pub begin : All (λ m. IsPrefix v.seen (spelled_all m.history)) (calls_of_gates runs)
     pub share : sum_by share_of news ≡ sum_by share_of olds
@@ -46,6 +48,9 @@ module _ {D C G K : Type 0} (gate : G → GateState K) (source : K → SourceSta
 
     mine_is : (view n.pass).mine ≡ map call_of made
     mine_is = on.gains.mine ∙ ap (λ (l : List Call). l ++ map call_of made) hired.none
+
+    had_is : (view n.pass).spans ≡ on.gains.spans
+    had_is = on.gains.had ∙ ap (λ (l : List Span). l ++ on.gains.spans) hired.no_turns
 
     one_run : IsRun gate source sink v.fixed o.gate n.gate run
     one_run = record {
@@ -78,6 +83,13 @@ module _ {D C G K : Type 0} (gate : G → GateState K) (source : K → SourceSta
       mine = ap (λ (l : List Call). l ++ flat_map calls_with ns) mine_is
           ∙ (ap (λ (l : List Call). map call_of made ++ l) more.mine
           ∙ sym (map-append call_of made (calls_of_gates more.runs)));
+      had = (
+        on.gains.spans,
+        flat_map spans_with ns,
+        ap (λ (l : List Span). l ++ flat_map spans_with ns) had_is,
+        on.gains.counts,
+        more.had,
+      );
       answered = All-append (λ m. IsAnswered v.fixed m.history m.called m.before m.after m.readings) made
           (calls_of_gates more.runs)
           one_answered more.answered;
@@ -111,6 +123,7 @@ module _ {D C G K : Type 0} (gate : G → GateState K) (source : K → SourceSta
     runs = [];
     are_runs = tt;
     mine = refl;
+    had = tt;
     answered = All-nil (λ m. IsAnswered v.fixed m.history m.called m.before m.after m.readings);
     begin = All-nil (λ m. IsPrefix v.seen (spelled_all m.history));
     share = refl;
@@ -132,7 +145,9 @@ module _ {D C G K : Type 0} (gate : G → GateState K) (source : K → SourceSta
       → back ≡ map (λ (w : Worker D C G). w.gate) ws
       → v2.mine ≡ v1.mine ++ flat_map calls_with ws
       → v1.mine ≡ v.mine
-      → v.mine ≡ []
+      → (v.mine ≡ []) × (v.spans ≡ [])
+      → v2.spans ≡ v1.spans ++ flat_map spans_with ws
+      → v1.spans ≡ v.spans
       → v2.share ≡ v1.share + sum_by share_of ws
       → sum_by share_of olds + v1.share ≡ v.share
       → SameLock v v1
@@ -141,7 +156,7 @@ module _ {D C G K : Type 0} (gate : G → GateState K) (source : K → SourceSta
       → served ≡ sum_by served_of ws
       → failed ≡ list_any failed_of ws
       → Turns gate source sink v v2 gates back served failed
-  turns_done v1 v2 olds news ws gates back worked all hired dismissed mine kept none share lent first
+  turns_done v1 v2 olds news ws gates back worked all hired dismissed mine kept none spans as_many share lent first
       second served failed
       total failures = record {
         runs = worked.runs;
@@ -151,8 +166,13 @@ module _ {D C G K : Type 0} (gate : G → GateState K) (source : K → SourceSta
             (sym (dismissed ∙ ap (λ (l : List (Worker D C G)). map (λ (w : Worker D C G). w.gate) l) all))
             worked.are_runs);
         mine = mine
-            ∙ (ap (λ (l : List Call). l ++ flat_map calls_with ws) (kept ∙ none)
+            ∙ (ap (λ (l : List Call). l ++ flat_map calls_with ws) (kept ∙ none.0)
             ∙ (ap (λ (l : List (Worker D C G)). flat_map calls_with l) all ∙ worked.mine));
+        had = subst (λ (l : List Span). HadTurns worked.runs l)
+            (sym (spans
+            ∙ (ap (λ (l : List Span). l ++ flat_map spans_with ws) (as_many ∙ none.1)
+            ∙ ap (λ (l : List (Worker D C G)). flat_map spans_with l) all)))
+            worked.had;
         answered = worked.answered;
         begin = worked.begin;
         share = omega (arith, share, lent, worked.share, ap (λ (l : List (Worker D C G)). sum_by share_of l) all);

@@ -1,6 +1,6 @@
 -- A turn with several calls of one gate: what the lock has to be shown at its end, and what the pass gains by it.
 use Rattle.std.proofs.Common.{◌≡◌, ℕ, ◌-◌, ◌≤◌, get_or, List, [], ◌∷◌, ◌++◌, length, map, Option, refl, sym, ap, ◌∙◌, subst, inl, inr, ⊎_elim, arith, append_assoc, length-append}
-use Rattle.std.specs.Prelude.{All, Any}
+use Rattle.std.specs.Prelude.{All, Any, Contains}
 use Rattle.std.proofs.lemmas.List.{append-nil, length-map}
 use Rattle.std.proofs.lemmas.List.Elements.{All-nil, All-cons, All-head, All-tail, All-append, All-weaker}
 use Rattle.std.proofs.lemmas.List.Kept.{AllPairs-cons}
@@ -15,6 +15,7 @@ use Rattle.tb_message.specs.declared.verdict.Verdict.{Verdict}
 use Rattle.tb_message.specs.declared.verdict.Verdict.TheVariants as verdict
 use Rattle.tb_message.specs.Spelling.{spelling}
 use Rattle.tb_lock.specs.declared.view.Call.{Call}
+use Rattle.tb_lock.specs.declared.view.Span.{Span}
 use Rattle.tb_lock.specs.declared.view.View.{View}
 use Rattle.tb_lock.specs.Meanings.{History, IsPrefix, Answer as Kind}
 use Rattle.tb_lock.specs.Calls.{AreApart, IsOnce, Stands, Leaves, added_if, accepted_of, calls_on}
@@ -25,7 +26,7 @@ use Rattle.tb_session.specs.declared.called.Outcome.{Outcome}
 use Rattle.tb_session.specs.declared.called.Outcome.TheVariants as outcome
 use Rattle.tb_session.specs.declared.room.Room.{Room}
 use Rattle.tb_session.specs.Calls.{ComesOut}
-use Rattle.tb_session.specs.Codes.{spelled_all, code_of, kind_at, kind_in, entry_in, entry_of, outcome_code, IsAnswered, Made, call_of}
+use Rattle.tb_session.specs.Codes.{spelled_all, code_of, kind_at, kind_in, entry_in, entry_of, outcome_code, IsAnswered, Made, call_of, span_of}
 use Rattle.tb_session.specs.CodeLaws.{entry-code}
 use Rattle.tb_session.specs.Openings.{lock_code}
 use Rattle.tb_session.specs.Rooms.{room_means, fixed_of}
@@ -34,7 +35,7 @@ use Rattle.tb_session.specs.Turned.{SameHouse, added_by, Reads}
 use Rattle.tb_session.specs.Groups.{Replied, added_in, would_add, in_doubt, IsReplied, AreReplied, DoTogether, told_back}
 use Rattle.tb_session.proofs.OpeningLemmas.{operator-locked}
 use Rattle.tb_session.proofs.OrderLemmas.{one-more}
-use Rattle.tb_session.proofs.TurnLemmas.{spelled-append, spelled-begins, added-spelled, accepted-entry, reads-timed, reads-given, read-since, left-begins}
+use Rattle.tb_session.proofs.TurnLemmas.{contains-one, spelled-append, spelled-begins, added-spelled, accepted-entry, reads-timed, reads-given, read-since, left-begins}
 
 -- the calls as they were made, each on what the calls before it left
 abbrev pub made_from : List Entry → ℕ → ℕ → ℕ → List Replied → List Made
@@ -68,6 +69,19 @@ all-begin first (r ∷ replied) at low high readings begins =
     (all-begin first replied (at ++ added_by r.called.outcome) low high readings
     (prefix-trans first (spelled_all at) (spelled_all (at ++ added_by r.called.outcome)) begins
     (spelled-begins at (added_by r.called.outcome) _ refl)))
+
+-- they have the counts of the one turn
+all-counted : (replied : List Replied) (at : List Entry) (low high readings : ℕ)
+    → All (λ m. Contains ((record { before = low; after = high }) ∷ []) (span_of m))
+    (made_from at low high readings replied)
+all-counted [] at low high readings =
+    All-nil (λ (m : Made). Contains ((record { before = low; after = high }) ∷ []) (span_of m))
+all-counted (r ∷ replied) at low high readings =
+    let span : Span = record { before = low; after = high } in
+    All-cons (λ (m : Made). Contains (span ∷ []) (span_of m))
+    (record { called = r.called; history = at; before = low; after = high; readings = readings })
+    (made_from (at ++ added_by r.called.outcome) low high readings replied) (contains-one span)
+    (all-counted replied (at ++ added_by r.called.outcome) low high readings)
 
 -- so what a call left begins the histories of those behind it, which have its counts
 all-beside : (call : Call) (replied : List Replied) (at : List Entry) (low high readings : ℕ)
@@ -136,6 +150,10 @@ module _ {D C : Type 0} (disk : D → DiskState) (clock : C → ClockState) (v0 
   -- the history at the end
   abbrev last : History
   last = spelled_all new.desk.host.history
+
+  -- the counts of faults of the turn
+  abbrev span : Span
+  span = record { before = v.faults_taken; after = new.desk.faults }
 
   -- the calls as they were made
   abbrev made : List Made
@@ -511,6 +529,9 @@ module _ {D C : Type 0} (disk : D → DiskState) (clock : C → ClockState) (v0 
     begin = all-begin v0.seen replied does.at v.faults_taken new.desk.faults read_to begin;
     seen = prefix-trans v0.seen (spelled_all does.at) last begin
         (spelled-begins does.at (added_in replied) _ does.grown);
+    spans = span ∷ [];
+    had = ap (λ (l : List Span). l ++ span ∷ []) taken.spans;
+    counts = all-counted replied does.at v.faults_taken new.desk.faults read_to;
     turns = made ∷ [];
     cut = sym (append-nil made);
     each = All-cons IsTurn made [] turn (All-nil IsTurn);
@@ -558,6 +579,9 @@ module _ {D C : Type 0} (disk : D → DiskState) (clock : C → ClockState) (v0 
       begin = All-nil (λ (m : Made). IsPrefix v0.seen (spelled_all m.history));
       seen = subst (λ (l : History). IsPrefix v0.seen l) (sym (ap (λ (l : List Entry). spelled_all l) history))
           taken.begins;
+      spans = span ∷ [];
+      had = ap (λ (l : List Span). l ++ span ∷ []) taken.spans;
+      counts = All-nil (λ (m : Made). Contains (span ∷ []) (span_of m));
       turns = [];
       cut = refl;
       each = All-nil IsTurn;

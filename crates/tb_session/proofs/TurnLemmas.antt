@@ -12,6 +12,7 @@ use Rattle.tb_message.specs.declared.key.Key.{Key}
 use Rattle.tb_message.specs.declared.message.Entry.{Entry}
 use Rattle.tb_message.specs.Spelling.{spelling}
 use Rattle.tb_lock.specs.declared.view.Call.{Call}
+use Rattle.tb_lock.specs.declared.view.Span.{Span}
 use Rattle.tb_lock.specs.declared.view.View.{View}
 use Rattle.tb_lock.specs.Meanings.{History, IsPrefix, accepted, repeated, faulted, entryless, Answer as Kind}
 use Rattle.tb_lock.specs.Calls.{Stands, IsBetween, Leaves, added_if, accepted_of}
@@ -24,7 +25,7 @@ use Rattle.tb_session.specs.declared.called.Outcome.TheVariants as outcome
 use Rattle.tb_session.specs.declared.room.Room.{Room}
 use Rattle.tb_session.specs.declared.turn.Turn.{Turn}
 use Rattle.tb_session.specs.Calls.{ComesOut, IsAnswerBy}
-use Rattle.tb_session.specs.Codes.{spelled_all, code_of, kind_at, kind_in, entry_in, entry_of, outcome_code, moment_at, moment_code, GivesAt, GivesMoment, IsAnswered, Made, call_of, IsAnswerOf}
+use Rattle.tb_session.specs.Codes.{spelled_all, code_of, kind_at, kind_in, entry_in, entry_of, outcome_code, moment_at, moment_code, GivesAt, GivesMoment, IsAnswered, Made, call_of, span_of, IsAnswerOf}
 use Rattle.tb_session.specs.CodeLaws.{entry-code}
 use Rattle.tb_session.specs.Openings.{lock_code}
 use Rattle.tb_session.specs.Rooms.{room_means, fixed_of}
@@ -32,6 +33,10 @@ use Rattle.tb_session.specs.Gains.{left_by, Follows, StandsBeside, IsTurn, Gains
 use Rattle.tb_session.specs.Turned.{added_by, before_of, Reads, told_of, Calls}
 use Rattle.tb_session.proofs.OrderLemmas.{one-more}
 use Rattle.tb_session.proofs.OpeningLemmas.{operator-locked, moments-locked}
+
+-- a list of one has it
+pub contains-one : {X : Type 0} (x : X) → Contains (x ∷ []) x
+contains-one x = (0, omega arith, refl)
 
 -- lists of entries, one behind the other
 pub spelled-append : (xs ys : List Entry) → spelled_all (xs ++ ys) ≡ spelled_all xs ++ spelled_all ys
@@ -346,6 +351,9 @@ module _ {D C : Type 0} (disk : D → DiskState) (clock : C → ClockState) (v0 
         (All-nil _);
     begin = All-cons (λ m. IsPrefix v0.seen (spelled_all m.history)) made [] begin (All-nil _);
     seen = prefix-trans v0.seen (spelled_all at) (spelled_all new.desk.host.history) begin at_begins;
+    spans = span_of made ∷ [];
+    had = ap (λ (l : List Span). l ++ span_of made ∷ []) taken.spans;
+    counts = All-cons (λ m. Contains (span_of made ∷ []) (span_of m)) made [] (contains-one (span_of made)) (All-nil _);
     turns = (made ∷ []) ∷ [];
     cut = refl;
     each = All-cons IsTurn (made ∷ []) [] (inl refl) (All-nil IsTurn);

@@ -4,7 +4,7 @@ use Rattle.std.specs.Prelude.{Bool, Option, Result, Ok, Err, OnOk, OnErr}
 use Rattle.tb_link.specs.declared.source.Failed.{Failed}
 use Rattle.tb_link.specs.Sinks.{SinkState, Takes, FailsToTake}
 use Rattle.tb_link.specs.Sources.{SourceState, LeavesSource}
-use Rattle.tb_gates.specs.Links.{LinkState, Moved}
+use Rattle.tb_gates.specs.Links.{LinkState}
 use Rattle.tb_gates.proofs.CallerLemmas.{moved-nothing, moved-write}
 use Rattle.tb_message.specs.declared.verdict.Verdict.{Verdict}
 use Rattle.tb_wire.specs.declared.cutting.Target.{Target}
@@ -16,6 +16,7 @@ use Rattle.tb_session.specs.declared.write.Unsent.{Unsent}
 use Rattle.tb_session.specs.declared.write.Unsent.TheVariants as unsent
 use Rattle.tb_session.specs.Replies.{IsTold, MayLack, allow_of, reply_text, verdict_body, verdict_code}
 use Rattle.tb_session.specs.Serving.{Tries, Fails, Sends, Writes, WritesReply}
+use Rattle.tb_session.specs.Session.{Wrote}
 use Rattle.tb_session.proofs.SessionLemmas.{begins-self}
 
 -- a write moved its bytes, or a part of them and the count rose
@@ -24,15 +25,19 @@ pub writes-by : (a b : SourceState) (s t : SinkState) (bytes : List ℕ) (result
     → OnErr result (FailsToTake s t bytes)
     → LeavesSource a b
     → Writes (record { source = a; sink = s }) (record { source = b; sink = t }) bytes result
-writes-by a b s t bytes (Ok done) takes fails leaves = moved-write a b s t bytes takes leaves
+writes-by a b s t bytes (Ok done) takes fails leaves =
+    record { moved = moved-write a b s t bytes takes leaves; no_read = leaves.no_read }
 writes-by a b s t bytes (Err failed) takes fails leaves = record {
   tail = fails.prefix.0;
   begins = (fails.prefix.1, fails.prefix.2);
-  moved = record {
-    left = sym leaves.left ∙ (moved-nothing (record { source = b; sink = t })).left;
-    taken = fails.prefix.3;
-    read_count = leaves.count;
-    write_count = fails.count;
+  wrote = record {
+    moved = record {
+      left = sym leaves.left ∙ (moved-nothing (record { source = b; sink = t })).left;
+      taken = fails.prefix.3;
+      read_count = leaves.count;
+      write_count = fails.count;
+    };
+    no_read = leaves.no_read;
   };
   rose = fails.rose;
 }
@@ -62,8 +67,8 @@ pub sends-written : (a b : LinkState) (said : Answer) (bytes written : List ℕ)
     → written ≡ bytes
     → WritesReply a b written result
     → Sends a b said bytes result
-sends-written a b said bytes written (Ok done) told same moved =
-    (subst (λ (l : List ℕ). Moved a b [] l) same moved, told)
+sends-written a b said bytes written (Ok done) told same wrote =
+    (subst (λ (l : List ℕ). Wrote a b l) same wrote, told)
 sends-written a b said bytes written (Err unsent.WriteFault) told same fails =
     (subst (λ (l : List ℕ). Fails a b l) same fails, told)
 sends-written a b said bytes written (Err unsent.OutOfMemory) told same never = absurd never
@@ -90,12 +95,12 @@ pub tries-written : (a b : LinkState) (due written : List ℕ) (result : Result 
     → written ≡ due
     → Writes a b written result
     → Tries a b due
-tries-written a b due written (Ok done) same moved = record {
+tries-written a b due written (Ok done) same wrote = record {
   tail = due;
   begins = begins-self due;
-  moved = subst (λ (l : List ℕ). Moved a b [] l) same moved;
+  wrote = subst (λ (l : List ℕ). Wrote a b l) same wrote;
   whole = inl refl;
 }
 tries-written a b due written (Err failed) same fails =
     let all = subst (λ (l : List ℕ). Fails a b l) same fails in
-    record { tail = all.tail; begins = all.begins; moved = all.moved; whole = inr all.rose }
+    record { tail = all.tail; begins = all.begins; wrote = all.wrote; whole = inr all.rose }

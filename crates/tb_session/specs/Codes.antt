@@ -15,6 +15,7 @@ use Rattle.tb_message.specs.Queries.{query_kind_of, query_parts_of, query_text}
 use Rattle.tb_message.specs.Spelling.{spelling, IsInRange}
 use Rattle.tb_history.specs.Legal.{IsLegal}
 use Rattle.tb_lock.specs.declared.view.Call.{Call}
+use Rattle.tb_lock.specs.declared.view.Span.{Span}
 use Rattle.tb_lock.specs.Meanings.{History, Answer as Kind, accepted, repeated, faulted, entryless}
 use Rattle.tb_session.specs.declared.answer.Answer.{Answer}
 use Rattle.tb_session.specs.declared.called.Ask.{Ask}
@@ -188,6 +189,10 @@ call_of m = record {
   faults_after = m.after;
   readings = m.readings;
 }
+
+-- and the counts of faults of its turn
+abbrev pub span_of : Made → Span
+span_of m = record { before = m.before; after = m.after }
 
 -- the call has this answer
 abbrev pub IsAnswerOf : List ℕ → Made → Answer → Type 0

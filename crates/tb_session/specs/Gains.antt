@@ -1,9 +1,10 @@
 -- What a pass gains by the calls that are made with it.
-use Rattle.std.specs.Prelude.{◌≡◌, ◌⊎◌, ◌≤◌, ℕ, List, [], ◌∷◌, ◌++◌, length, map, flat_map, Some, All}
+use Rattle.std.specs.Prelude.{◌≡◌, ◌⊎◌, ◌≤◌, ℕ, List, [], ◌∷◌, ◌++◌, length, map, flat_map, Some, All, Contains}
 use Rattle.tb_message.specs.declared.key.Key.{Key}
 use Rattle.tb_message.specs.declared.message.Message.{Message}
 use Rattle.tb_core.specs.House.{IsBid}
 use Rattle.tb_lock.specs.declared.view.Call.{Call}
+use Rattle.tb_lock.specs.declared.view.Span.{Span}
 use Rattle.tb_lock.specs.declared.view.View.{View}
 use Rattle.tb_lock.specs.Meanings.{History, IsPrefix}
 use Rattle.tb_lock.specs.Calls.{added_if}
@@ -12,7 +13,7 @@ use Rattle.tb_session.specs.declared.answer.Answer.{Answer}
 use Rattle.tb_session.specs.declared.answer.Answer.TheVariants as answer
 use Rattle.tb_session.specs.declared.called.Ask.{Ask}
 use Rattle.tb_session.specs.declared.called.Ask.TheVariants as ask
-use Rattle.tb_session.specs.Codes.{Made, call_of, spelled_all, kind_in, moment_in, entry_in, IsAnswered, IsAnswerOf}
+use Rattle.tb_session.specs.Codes.{Made, call_of, span_of, spelled_all, kind_in, moment_in, entry_in, IsAnswered, IsAnswerOf}
 
 -- the history that a call leaves behind: its prefix, and its entry where it was accepted
 abbrev pub left_by : Call → History
@@ -80,12 +81,16 @@ pub record AreTurns (made : List Made) : Type 0 where
   pub order : AreInOrder (turns_of turns)
 
 -- The pass gained these calls and no others, in these turns. Each was answered on a history that begins with what the
--- pass had seen, and turns that were in order stay so.
+-- pass had seen, and its counts of faults are those of a turn that the pass had meanwhile. Turns that were in order
+-- stay so.
 pub record Gains (old new : View) (made : List Made) : Type 0 where
   pub mine : new.mine ≡ old.mine ++ map call_of made
   pub answered : All (λ m. IsAnswered old.fixed m.history m.called m.before m.after m.readings) made
   pub begin : All (λ m. IsPrefix old.seen (spelled_all m.history)) made
   pub seen : IsPrefix old.seen new.seen
+  pub spans : List Span
+  pub had : new.spans ≡ old.spans ++ spans
+  pub counts : All (λ m. Contains spans (span_of m)) made
   pub turns : List (List Made)
   pub cut : made ≡ joined turns
   pub each : All IsTurn turns

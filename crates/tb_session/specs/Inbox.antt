@@ -1,6 +1,7 @@
 -- What reads of a link bring.
-use Rattle.std.specs.Prelude.{◌≡◌, ◌≢◌, ℕ, List, [], ◌++◌, length, Result, Ok, Err, IfSome}
-use Rattle.tb_link.specs.Counts.{Rose}
+use Rattle.std.specs.Prelude.{◌≡◌, ◌≢◌, ℕ, ◌+◌, ◌≤◌, ◌⊎◌, List, [], ◌++◌, length, Result, Ok, Err, IfSome}
+use Rattle.tb_link.specs.Counts.{Rose, counted}
+use Rattle.tb_link.specs.Sources.{SourceState}
 use Rattle.tb_gates.specs.Links.{LinkState, Moved}
 use Rattle.tb_wire.specs.Cuts.{HoldsNone}
 use Rattle.tb_wire.specs.Front.{IsFront}
@@ -15,11 +16,23 @@ use Rattle.tb_session.specs.declared.inbox.Unread.TheVariants as unread
 abbrev pub AtEnd : LinkState → Type 0
 AtEnd link = IfSome link.source.left (λ left. left ≡ [])
 
--- what came is nothing only at the end of the input, and at a fault nothing came and it was counted
+-- one read without a fault
+pub record ReadsOnce (old new : SourceState) : Type 0 where
+  pub one_read : new.reads ≡ counted old.reads
+  pub no_fault : new.faults ≡ old.faults
+
+-- one read that failed
+pub record FailsOnce (old new : SourceState) : Type 0 where
+  pub one_read : new.reads ≡ counted old.reads
+  pub rose : Rose old.faults new.faults
+
+-- What came is nothing only at the end of the input. At a fault nothing came and it was counted, and where memory is
+-- wanting the link wasn't read.
 abbrev pub Brings : LinkState → LinkState → List ℕ → Result ℕ Unread → Type 0
-Brings old new piece (Ok count) = (count ≡ length piece) × (count ≡ 0 → AtEnd new)
-Brings old new piece (Err unread.ReadFault) = (piece ≡ []) × Rose old.source.faults new.source.faults
-Brings old new piece (Err unread.OutOfMemory) = piece ≡ []
+Brings old new piece (Ok count) =
+    (count ≡ length piece) × (count ≡ 0 → AtEnd new) × ReadsOnce old.source new.source
+Brings old new piece (Err unread.ReadFault) = (piece ≡ []) × FailsOnce old.source new.source
+Brings old new piece (Err unread.OutOfMemory) = (piece ≡ []) × (new ≡ old)
 
 -- one read brought a piece behind the bytes that wait
 pub record Fills (old new : LinkState) (before after : List ℕ) (result : Result ℕ Unread) : Type 0 where
@@ -27,6 +40,39 @@ pub record Fills (old new : LinkState) (before after : List ℕ) (result : Resul
   pub moved : Moved old new piece []
   pub grown : after ≡ before ++ piece
   pub brings : Brings old new piece result
+
+-- Reads that brought these bytes to those that waited: none failed, each brought at least one byte, and before the last
+-- one what had come was no whole request, nor at fault.
+pub record NeedsReads (old new : SourceState) (waiting read : List ℕ) : Type 0 where
+  pub before : List ℕ
+  pub last : List ℕ
+  pub read_is : read ≡ before ++ last
+  pub some : 1 ≤ length last
+  pub needed : IsFront (waiting ++ before) More
+  pub reads : new.reads ≤ old.reads + length before + 1
+  pub no_fault : new.faults ≡ old.faults
+
+-- nothing was read ahead: the link is as it was, or each read was needed
+abbrev pub ReadsNoneAhead : LinkState → LinkState → List ℕ → List ℕ → Type 0
+ReadsNoneAhead old new waiting read =
+    ((read ≡ []) × (new ≡ old)) ⊎ NeedsReads old.source new.source waiting read
+
+-- and then one read more found the end of the input
+abbrev pub FindsEnd : LinkState → LinkState → List ℕ → List ℕ → Type 0
+FindsEnd old new waiting read =
+    (before : LinkState) × ReadsNoneAhead old before waiting read × ReadsOnce before.source new.source
+
+-- or failed
+abbrev pub FindsFault : LinkState → LinkState → List ℕ → List ℕ → Type 0
+FindsFault old new waiting read =
+    (before : LinkState) × ReadsNoneAhead old before waiting read × FailsOnce before.source new.source
+
+-- the reads up to a request, or up to the end of the link
+abbrev pub ReadsUpTo : Result HttpRequest End → LinkState → LinkState → List ℕ → List ℕ → Type 0
+ReadsUpTo (Err end.EndOfInput) old new waiting read = FindsEnd old new waiting read
+ReadsUpTo (Err end.CutShort) old new waiting read = FindsEnd old new waiting read
+ReadsUpTo (Err end.ReadFault) old new waiting read = FindsFault old new waiting read
+ReadsUpTo other old new waiting read = ReadsNoneAhead old new waiting read
 
 -- what is found at the front of the bytes that wait, or how the link ended
 abbrev pub Finds : LinkState → LinkState → List ℕ → Result HttpRequest End → Type 0
@@ -46,3 +92,4 @@ pub record Receives (old new : LinkState) (before after : List ℕ) (result : Re
   pub moved : Moved old new read []
   pub grown : after ≡ before ++ read
   pub finds : Finds old new after result
+  pub none_ahead : ReadsUpTo result old new before read

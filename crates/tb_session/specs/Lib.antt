@@ -10,7 +10,7 @@ pub mod Crashes
 pub mod Replies
 pub mod Inbox
 pub mod Session
-pub mod Rows
 pub mod Serving
+pub mod Rows
 pub mod Work
 pub mod Serve

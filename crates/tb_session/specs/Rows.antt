@@ -1,7 +1,6 @@
 -- Bids of one key that wait in a row, and their replies.
-use Rattle.std.specs.Prelude.{◌≡◌, ℕ, ◌<◌, ◌≤◌, List, [], ◌∷◌, ◌++◌, length, take, drop, flat_map, Result, Ok, Err, false}
-use Rattle.tb_link.specs.Counts.{Rose}
-use Rattle.tb_gates.specs.Links.{LinkState, Moved, Begins}
+use Rattle.std.specs.Prelude.{◌≡◌, ℕ, ◌<◌, ◌≤◌, List, [], ◌∷◌, ◌++◌, length, take, drop, Result, Ok, Err, false}
+use Rattle.tb_gates.specs.Links.{LinkState}
 use Rattle.tb_message.specs.declared.key.Key.{Key}
 use Rattle.tb_message.specs.declared.message.Message.{Message}
 use Rattle.tb_message.specs.Spelling.{IsNumbered}
@@ -14,7 +13,8 @@ use Rattle.tb_session.specs.declared.answer.Answer.{Answer}
 use Rattle.tb_session.specs.declared.called.Ask.TheVariants as ask
 use Rattle.tb_session.specs.declared.row.Row.{Row}
 use Rattle.tb_session.specs.Replies.{reply_text}
-use Rattle.tb_session.specs.Session.{Asks, body_of, caller_key}
+use Rattle.tb_session.specs.Serving.{Fails}
+use Rattle.tb_session.specs.Session.{Asks, Wrote, body_of, caller_key}
 
 -- the request at the front of these bytes asks for this bid with this key, and doesn't close the link
 pub record IsBidRequest (k : Key) (r : HttpRequest) (bytes : List ℕ) (asked : ℕ × Message) : Type 0 where
@@ -39,9 +39,11 @@ pub record WaitInRow (row : Row) (waiting : List ℕ) : Type 0 where
   pub are : AreInRow row.key waiting (drop row.used waiting) requests row.bids.items
   pub within : row.used ≤ length waiting
 
--- the replies to bids after which the link goes on
-abbrev pub replies_to : List Answer → List ℕ
-replies_to answers = flat_map (λ said. reply_text said target.Messages false) answers
+-- the replies to bids after which the link goes on were written, one after the other, and nothing was read
+abbrev pub AreWritten : LinkState → LinkState → List Answer → Type 0
+AreWritten old new [] = new ≡ old
+AreWritten old new (said ∷ answers) = (told : LinkState) × Wrote old told (reply_text said target.Messages false)
+    × AreWritten told new answers
 
 -- the replies were written up to this place, and of that one a part
 pub record FailsAt (old new : LinkState) (answers : List Answer) (place : ℕ) : Type 0 where
@@ -49,12 +51,11 @@ pub record FailsAt (old new : LinkState) (answers : List Answer) (place : ℕ) :
   pub others : List Answer
   pub split : drop place answers ≡ said ∷ others
   pub within : place < length answers
-  pub tail : List ℕ
-  pub begins : Begins tail (reply_text said target.Messages false)
-  pub moved : Moved old new [] (replies_to (take place answers) ++ tail)
-  pub rose : Rose old.sink.faults new.sink.faults
+  pub between : LinkState
+  pub written : AreWritten old between (take place answers)
+  pub fails : Fails between new (reply_text said target.Messages false)
 
 -- the replies were written, or at one of them the write failed
 abbrev pub RepliesTo : LinkState → LinkState → List Answer → Result (Unit {0}) ℕ → Type 0
-RepliesTo old new answers (Ok _) = Moved old new [] (replies_to answers)
+RepliesTo old new answers (Ok _) = AreWritten old new answers
 RepliesTo old new answers (Err place) = FailsAt old new answers place

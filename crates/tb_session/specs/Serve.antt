@@ -1,5 +1,5 @@
 -- A whole run: several gates over one room.
-use Rattle.std.specs.Prelude.{◌≡◌, ◌≢◌, ℕ, ◌+◌, ◌*◌, ◌^◌, ◌<◌, ◌≤◌, ◌⊎◌, ◌||◌, List, [], ◌∷◌, ◌++◌, map, flat_map, length, sum_by, Bool, true, false, IfSome, All, AllPairs, Any}
+use Rattle.std.specs.Prelude.{◌≡◌, ◌≢◌, ℕ, ◌+◌, ◌*◌, ◌^◌, ◌<◌, ◌≤◌, ◌⊎◌, ◌||◌, List, [], ◌∷◌, ◌++◌, map, flat_map, length, sum_by, Bool, true, false, IfSome, All, AllPairs, Any, Contains}
 use Rattle.std.specs.List.{list_any}
 use Rattle.tb_link.specs.Counts.{Rose}
 use Rattle.tb_link.specs.Sources.{SourceState}
@@ -11,13 +11,16 @@ use Rattle.tb_message.specs.declared.message.Entry.{Entry}
 use Rattle.tb_message.specs.Spelling.{spelling}
 use Rattle.tb_lock.specs.declared.view.View.{View}
 use Rattle.tb_lock.specs.declared.view.Call.{Call}
+use Rattle.tb_lock.specs.declared.view.Span.{Span}
 use Rattle.tb_lock.specs.declared.lock.TurnLock.{TurnLock}
 use Rattle.tb_lock.specs.Meanings.{History, IsPrefix}
+use Rattle.tb_lock.specs.Calls.{LieApart}
 use Rattle.tb_lock.specs.Passes.{view}
+use Rattle.tb_session.specs.declared.called.Outcome.{Outcome}
 use Rattle.tb_session.specs.declared.called.Outcome.TheVariants as outcome
 use Rattle.tb_session.specs.declared.room.Room.{Room}
 use Rattle.tb_session.specs.declared.worker.Worker.{Worker}
-use Rattle.tb_session.specs.Codes.{Made, call_of, spelled_all, IsAnswered}
+use Rattle.tb_session.specs.Codes.{Made, call_of, span_of, spelled_all, IsAnswered}
 use Rattle.tb_session.specs.Gains.{AreTurns}
 use Rattle.tb_session.specs.Rooms.{house_of, SameStart}
 use Rattle.tb_session.specs.Work.{Served, calls_of_links, Passed, IsServed, IsReady, Works}
@@ -34,6 +37,15 @@ calls_of_gates runs = flat_map (λ run. calls_of_links run.links) runs
 -- how many links were served
 abbrev pub links_of_gates : {K : Type 0} → List (Run K) → ℕ
 links_of_gates runs = sum_by (λ run. length run.links) runs
+
+-- of each of these calls and each of those, the turn of one ended at no more faults of the disk than the other's began
+-- with
+abbrev pub CountApart : List Made → List Made → Type 0
+CountApart these those = All (λ m. All (λ n. LieApart (span_of m) (span_of n)) those) these
+
+-- so it is of the calls of two gates
+abbrev pub RunsApart : {K : Type 0} → Run K → Run K → Type 0
+RunsApart one other = CountApart (calls_of_links one.links) (calls_of_links other.links)
 
 -- a gate failed
 abbrev pub some_failed : {K : Type 0} → List (Run K) → Bool
@@ -97,6 +109,9 @@ module _ {D C G K : Type 0} (disk : D → DiskState) (clock : C → ClockState) 
     pub history : IsHistoryOf (house_of disk clock room) (spelled_all room.desk.host.history)
         (spelled_all after.desk.host.history) (spelled_all after.desk.doubt) room.desk.faults after.desk.faults
         (calls_of_gates runs)
+    -- each fault of the disk was met in one turn alone: the counts of two gates' calls lie apart, as those of two turns
+    -- of one gate do
+    pub apart : AllPairs RunsApart runs
     -- the clock came back with no fewer readings than any call has
     pub read : All (λ m. m.readings ≤ (clock after.clock).readings) (calls_of_gates runs)
     -- so many links were served, and the history is so much longer
@@ -107,19 +122,47 @@ module _ {D C G K : Type 0} (disk : D → DiskState) (clock : C → ClockState) 
     -- each crash since the opening, while workers ran too, left a beginning of its history
     pub same : SameStart disk clock room after
 
+-- the calls of each gate are cut, in order, into its turns: these are those of all gates
+abbrev pub AreCutInto : {K : Type 0} → List (Run K) → List (List Made) → Type 0
+AreCutInto [] turns = turns ≡ []
+AreCutInto (run ∷ runs) turns = (own : AreTurns (calls_of_links run.links)) × (others : List (List Made))
+    × (turns ≡ own.turns ++ others) × AreCutInto runs others
+
+-- what comes out so is answered with a disk fault
+abbrev pub is_doubted : Outcome → Bool
+is_doubted (outcome.Added e) = false
+is_doubted (outcome.Stood e) = false
+is_doubted (outcome.Doubted e) = true
+is_doubted outcome.Told = false
+is_doubted outcome.Lacked = false
+
+abbrev pub met_fault : Made → Bool
+met_fault m = is_doubted m.called.outcome
+
+-- a call of the turn was answered so
+abbrev pub some_met : List Made → Bool
+some_met turn = list_any met_fault turn
+
 -- what stays with a pass while others are split from it and joined to it
 pub record SameLock (old new : View) : Type 0 where
   pub fixed : new.fixed ≡ old.fixed
   pub opening : new.opening ≡ old.opening
   pub opening_faults : new.opening_faults ≡ old.opening_faults
 
+-- the turns of these gates, one gate's behind the other's: each call has the counts of faults of a turn of its gate
+abbrev pub HadTurns : {K : Type 0} → List (Run K) → List Span → Type 0
+HadTurns [] spans = Unit {0}
+HadTurns (run ∷ runs) spans = (own : List Span) × (others : List Span) × (spans ≡ own ++ others)
+    × All (λ m. Contains own (span_of m)) (calls_of_links run.links) × HadTurns runs others
+
 module _ {G K : Type 0} (gate : G → GateState K) (source : K → SourceState) (sink : K → SinkState) where
   -- The gates were served, each by a pass of its own that was split from this one and joined to it again: it has their
-  -- calls.
+  -- calls and their turns.
   pub record Turns (old new : View) (olds news : List G) (served : ℕ) (failed : Bool) : Type 0 where
     pub runs : List (Run K)
     pub are_runs : AreRuns gate source sink old.fixed olds news runs
     pub mine : new.mine ≡ map call_of (calls_of_gates runs)
+    pub had : HadTurns runs new.spans
     pub answered : All (λ m. IsAnswered old.fixed m.history m.called m.before m.after m.readings) (calls_of_gates runs)
     pub begin : All (λ m. IsPrefix old.seen (spelled_all m.history)) (calls_of_gates runs)
     pub share : new.share ≡ old.share
@@ -140,10 +183,14 @@ module _ {D C G : Type 0} where
   abbrev pub calls_with : Worker D C G → List Call
   calls_with w = (view w.pass).mine
 
+  abbrev pub spans_with : Worker D C G → List Span
+  spans_with w = (view w.pass).spans
+
   -- a worker with a new pass, which has seen what this view has
   pub record IsHired (shared : TurnLock (Room D C)) (v : View) (w : Worker D C G) : Type 0 where
     pub ready : IsReady shared w
     pub none : (view w.pass).mine ≡ []
+    pub no_turns : (view w.pass).spans ≡ []
     pub seen : (view w.pass).seen ≡ v.seen
     pub same : SameLock v (view w.pass)
     pub unserved : w.served ≡ 0
@@ -158,14 +205,16 @@ module _ {D C G : Type 0} where
     pub enough : 2 ^ length left < 2 * new.share
     pub same : SameLock old new
     pub mine : new.mine ≡ old.mine
+    pub spans : new.spans ≡ old.spans
     pub seen : new.seen ≡ old.seen
 
-  -- So far the first of these workers gave their gates, shares and calls, and the others have theirs.
+  -- So far the first of these workers gave their gates, shares, calls and turns, and the others have theirs.
   pub record Dismisses (old new : View) (workers left : List (Worker D C G)) (gates : List G) (failed : Bool)
       : Type 0 where
     pub in_order : gates ++ map (λ (w : Worker D C G). w.gate) left ≡ map (λ (w : Worker D C G). w.gate) workers
     pub share : new.share + sum_by share_of left ≡ old.share + sum_by share_of workers
     pub mine : new.mine ++ flat_map calls_with left ≡ old.mine ++ flat_map calls_with workers
+    pub spans : new.spans ++ flat_map spans_with left ≡ old.spans ++ flat_map spans_with workers
     pub same : SameLock old new
     pub failed_is : (failed || list_any failed_of left) ≡ list_any failed_of workers
 

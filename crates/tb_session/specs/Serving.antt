@@ -12,37 +12,38 @@ use Rattle.tb_session.specs.declared.end.End.{End}
 use Rattle.tb_session.specs.declared.write.Unsent.{Unsent}
 use Rattle.tb_session.specs.declared.write.Unsent.TheVariants as unsent
 use Rattle.tb_session.specs.Gains.{Gains}
+use Rattle.tb_session.specs.Inbox.{ReadsNoneAhead}
 use Rattle.tb_session.specs.Replies.{IsTold, MayLack}
-use Rattle.tb_session.specs.Session.{Exchange, IsExchange, AreCut, LetsGoOn, Session, IsSession, body_of, calls_in, most_turns, replies_of}
+use Rattle.tb_session.specs.Session.{Exchange, IsExchange, AreCut, LetsGoOn, Session, IsSession, TakeTurns, Wrote, body_of, calls_in, most_turns, replies_of}
 
 -- a part of these bytes was written, all of them unless the count of faults rose
 pub record Tries (old new : LinkState) (due : List ℕ) : Type 0 where
   pub tail : List ℕ
   pub begins : Begins tail due
-  pub moved : Moved old new [] tail
+  pub wrote : Wrote old new tail
   pub whole : (tail ≡ due) ⊎ Rose old.sink.faults new.sink.faults
 
 -- a part of them was written, and the count rose
 pub record Fails (old new : LinkState) (due : List ℕ) : Type 0 where
   pub tail : List ℕ
   pub begins : Begins tail due
-  pub moved : Moved old new [] tail
+  pub wrote : Wrote old new tail
   pub rose : Rose old.sink.faults new.sink.faults
 
 -- a write of these bytes
 abbrev pub Writes : LinkState → LinkState → List ℕ → Result (Unit {0}) Failed → Type 0
-Writes old new bytes (Ok _) = Moved old new [] bytes
+Writes old new bytes (Ok _) = Wrote old new bytes
 Writes old new bytes (Err _) = Fails old new bytes
 
 -- a write of a reply with these bytes
 abbrev pub WritesReply : LinkState → LinkState → List ℕ → Result (Unit {0}) Unsent → Type 0
-WritesReply old new bytes (Ok _) = Moved old new [] bytes
+WritesReply old new bytes (Ok _) = Wrote old new bytes
 WritesReply old new bytes (Err unsent.WriteFault) = Fails old new bytes
 WritesReply old new bytes (Err unsent.OutOfMemory) = ⊥
 
 -- an answer was told by a reply with these bytes; or the write failed; or there was no memory, and nothing was written
 abbrev pub Sends : LinkState → LinkState → Answer → List ℕ → Result (Unit {0}) Unsent → Type 0
-Sends old new said bytes (Ok _) = Moved old new [] bytes × IsTold said
+Sends old new said bytes (Ok _) = Wrote old new bytes × IsTold said
 Sends old new said bytes (Err unsent.WriteFault) = Fails old new bytes × IsTold said
 Sends old new said bytes (Err unsent.OutOfMemory) = (new ≡ old) × MayLack said
 
@@ -68,6 +69,7 @@ pub record Waits (old new : LinkState) (before after : List ℕ) (r : HttpReques
   pub moved : Moved old new read []
   pub grown : after ≡ before ++ read
   pub front : IsFront after (Whole r)
+  pub none_ahead : ReadsNoneAhead old new before read
 
 -- the next request of a link, or its end
 abbrev pub Hears : LinkState → LinkState → List ℕ → List ℕ → Result HttpRequest End → Type 0
@@ -82,6 +84,7 @@ pub record GoesOn (fixed : List ℕ) (turns : ℕ) (waiting : List ℕ) (old new
   pub goes_on : All LetsGoOn exchanges
   pub few : turns + length exchanges < most_turns
   pub moved : Moved old new read (replies_of exchanges)
+  pub turns_taken : TakeTurns exchanges waiting read now old new
 
 -- so many requests were served, by the calls that the pass gained
 pub record ServesOn (turns count : ℕ) (waiting : List ℕ) (old new : View) (link after : LinkState) (now : List ℕ)

@@ -28,7 +28,7 @@ use Rattle.tb_session.specs.declared.end.End.TheVariants as end
 use Rattle.tb_session.specs.Calls.{refused}
 use Rattle.tb_session.specs.Codes.{Made, call_of, IsAnswerOf}
 use Rattle.tb_session.specs.Gains.{AreBeside, AreBidsOfOne, Gains}
-use Rattle.tb_session.specs.Inbox.{AtEnd}
+use Rattle.tb_session.specs.Inbox.{AtEnd, FindsEnd, FindsFault, ReadsNoneAhead}
 use Rattle.tb_session.specs.Replies.{reply_text, IsTold, MayLack}
 
 -- requests of a link, at most
@@ -113,6 +113,43 @@ reply_of e close = reply_text e.said e.request.target close
 abbrev pub replies_of : List Exchange → List ℕ
 replies_of exchanges = flat_map (λ e. reply_of e false) exchanges
 
+-- these bytes were written, and nothing was read
+pub record Wrote (old new : LinkState) (bytes : List ℕ) : Type 0 where
+  pub moved : Moved old new [] bytes
+  pub no_read : new.source.reads ≡ old.source.reads
+
+-- a request for which nothing was read ahead, and whose reply was written before anything more was read
+pub record RepliesInTurn (e : Exchange) (waiting read : List ℕ) (old new : LinkState) : Type 0 where
+  pub heard : LinkState
+  pub none_ahead : ReadsNoneAhead old heard waiting read
+  pub wrote : Wrote heard new (reply_of e false)
+
+-- so each of these requests in its turn: these bytes were read for them, and those are left
+abbrev pub TakeTurns : List Exchange → List ℕ → List ℕ → List ℕ → LinkState → LinkState → Type 0
+TakeTurns [] waiting read left old new = (read ≡ []) × (left ≡ waiting) × (new ≡ old)
+TakeTurns (e ∷ exchanges) waiting read left old new =
+    (first more : List ℕ) × (told : LinkState) × (read ≡ first ++ more) × RepliesInTurn e waiting first old told
+    × TakeTurns exchanges (drop e.request.used (waiting ++ first)) more left told new
+
+-- the end: a read found it, or what was due was written, and nothing was read behind that
+abbrev pub EndsInTurn : End → List ℕ → List ℕ → List ℕ → LinkState → LinkState → Type 0
+EndsInTurn end.EndOfInput waiting read tail old new = FindsEnd old new waiting read
+EndsInTurn end.CutShort waiting read tail old new = FindsEnd old new waiting read
+EndsInTurn end.ReadFault waiting read tail old new = FindsFault old new waiting read
+EndsInTurn ended waiting read tail old new =
+    (heard : LinkState) × ReadsNoneAhead old heard waiting read × Wrote heard new tail
+
+-- a link that is never read ahead of a reply, nor behind the last one
+pub record NeverReadsAhead (exchanges : List Exchange) (ended : End) (waiting read tail : List ℕ) (old new : LinkState)
+    : Type 0 where
+  pub early : List ℕ
+  pub late : List ℕ
+  pub read_is : read ≡ early ++ late
+  pub left : List ℕ
+  pub told : LinkState
+  pub turns : TakeTurns exchanges waiting early left old told
+  pub ends : EndsInTurn ended left late tail told new
+
 -- a link goes on after a request that doesn't ask to close and was told its answer
 abbrev pub LetsGoOn : Exchange → Type 0
 LetsGoOn e = (e.request.close ≡ false) × IsTold e.said
@@ -179,6 +216,7 @@ pub record IsSession (fixed : List ℕ) (turns : ℕ) (waiting : List ℕ) (old 
   pub read_fault : s.ended ≡ end.ReadFault → Rose old.source.faults new.source.faults
   pub write_fault : s.ended ≡ end.WriteFault → Rose old.sink.faults new.sink.faults
   pub end_of_input : IsEndOfInput s.ended → AtEnd new
+  pub none_ahead : NeverReadsAhead s.exchanges s.ended waiting s.read s.tail old new
 
 -- one link was served: its requests became the calls that the pass gained
 pub record ServesLink (turns : ℕ) (waiting : List ℕ) (old new : View) (link after : LinkState) (ended : End)

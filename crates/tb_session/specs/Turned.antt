@@ -16,7 +16,7 @@ use Rattle.tb_report.specs.Readings.{IsPrintable}
 use Rattle.tb_gates.specs.Clocks.{ClockState, ReadsClock}
 use Rattle.tb_desk.specs.Turn.{Held, IsOneOf}
 use Rattle.tb_desk.specs.Stands.{CrashesLeave}
-use Rattle.tb_desk.specs.Desks.{held}
+use Rattle.tb_desk.specs.Desks.{IsSame, held}
 use Rattle.tb_session.specs.declared.answer.Answer.{Answer}
 use Rattle.tb_session.specs.declared.answer.Answer.TheVariants as answer
 use Rattle.tb_session.specs.declared.called.Ask.{Ask}
@@ -109,6 +109,12 @@ IsFaultOf other why = ⊥
 -- the one call of a turn, and how many entries stood before it
 abbrev pub told_of : Turn → List (List ℕ × ℕ)
 told_of turn = (code_of turn.called, turn.before) ∷ []
+
+module _ {D C : Type 0} where
+  -- the desk is as it was, but for the memory that it holds: so are its disk and the count of that disk's faults
+  pub record LeavesDesk (old new : Room D C) : Type 0 where
+    pub history : new.desk.host.history ≡ old.desk.host.history
+    pub same : IsSame old.desk new.desk
 
 module _ {D C : Type 0} (disk : D → DiskState) (clock : C → ClockState) where
   -- what stays in every call: the operator, the disk as the opening left it, and how many entries were recovered

@@ -14,7 +14,7 @@ pub enum Answer {
     Reading(Reading),
     /// The disk failed: the message may or may not have been accepted. Sent again, it is answered by what stands.
     DiskFault,
-    /// There was no memory for it, and nothing changed.
+    /// There was no memory for it. The desk is as it was, its disk with it.
     OutOfMemory,
 }
 
@@ -33,6 +33,6 @@ pub enum GroupAnswer {
     Verdicts,
     /// The disk failed: all the bids that would have been accepted may have been, or none of them.
     DiskFault,
-    /// There was no memory for them, and nothing changed.
+    /// There was no memory for them. The desk is as it was, its disk with it.
     OutOfMemory,
 }

@@ -12,7 +12,7 @@ ghost use Rattle.tb_session.specs.declared.answer.Answer.TheVariants as answer;
 ghost use Rattle.tb_session.specs.declared.called.Called.{Called};
 ghost use Rattle.tb_session.specs.declared.called.Ask.TheVariants as ask;
 ghost use Rattle.tb_session.specs.Calls.{TellsUnknown, caller_on, fault_for};
-ghost use Rattle.tb_session.specs.Turned.{Calls, CanBeTold, Does, IsFaultOf, IsNumberedAsk, before_of, message_call, outcome_by, query_call};
+ghost use Rattle.tb_session.specs.Turned.{Calls, CanBeTold, Does, IsFaultOf, IsNumberedAsk, LeavesDesk, before_of, message_call, outcome_by, query_call};
 
 use crate::answer::Answer;
 use crate::called::{Ask, Called, Outcome};
@@ -37,13 +37,12 @@ impl<D: Disk, C: Clock> Room<D, C> {
     }
 
     /// Answers a message of the key's caller, at a reading of the clock. An unknown key is refused before memory is
-    /// taken, and where memory runs out nothing changed.
+    /// taken. Where memory runs out the desk is as it was, its disk with it.
     pub fn submit(&mut self, key: &Key, number: u64, message: &Message) -> Answer
         requires numbered { IsNumbered number message.now }
         ensures calls { (c : Called) × (c.key ≡ key.now) × (c.ask ≡ ask.Message number message.now)
             × Calls D.disk C.clock self.old self.new c result }
-        ensures lacked { result ≡ answer.OutOfMemory → (self.new.desk.host.history ≡ self.old.desk.host.history)
-            × (self.new.desk.doubt ≡ self.old.desk.doubt) }
+        ensures lacked { result ≡ answer.OutOfMemory → LeavesDesk self.old self.new }
         ensures unknown { TellsUnknown (caller_on self.old.operator self.old.desk.host.history key.now) result }
     {
         let Turn {
@@ -141,8 +140,7 @@ impl<D: Disk, C: Clock> Room<D, C> {
         ensures crash { CrashesLeave (IsOneOf (held self.old.desk) (held self.new.desk)) (D.disk self.old.desk.disk)
             (D.disk self.new.desk.disk) }
         ensures printable { CanBeTold result.1 }
-        ensures lacked { result.1 ≡ answer.OutOfMemory → (self.new.desk.host.history ≡ self.old.desk.host.history)
-            × (self.new.desk.doubt ≡ self.old.desk.doubt) }
+        ensures lacked { result.1 ≡ answer.OutOfMemory → LeavesDesk self.old self.new }
         ensures unknown { TellsUnknown (caller_on self.old.operator self.old.desk.host.history key.now) result.1 }
     {
         self.know_desk();
@@ -172,8 +170,7 @@ impl<D: Disk, C: Clock> Room<D, C> {
         ensures calls { Calls D.disk C.clock self.old self.new result.called result.answer }
         ensures before { result.before ≡ before_of result.called.outcome self.new.desk.host.history }
         ensures asked { (result.called.key ≡ key.now) × (result.called.ask ≡ ask.Message number message.now) }
-        ensures lacked { result.answer ≡ answer.OutOfMemory → (self.new.desk.host.history ≡ self.old.desk.host.history)
-            × (self.new.desk.doubt ≡ self.old.desk.doubt) }
+        ensures lacked { result.answer ≡ answer.OutOfMemory → LeavesDesk self.old self.new }
         ensures unknown { TellsUnknown (caller_on self.old.operator self.old.desk.host.history key.now) result.answer }
     {
         let moment = self.clock.now();

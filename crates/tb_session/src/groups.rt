@@ -11,6 +11,7 @@ ghost use Rattle.tb_session.specs.declared.groups.Grouped.TheVariants as grouped
 ghost use Rattle.tb_session.specs.Calls.{caller_on};
 ghost use Rattle.tb_session.specs.Groups as spec;
 ghost use Rattle.tb_session.specs.Groups.{CallsTogether, DoTogether, Replied, TellUnknown, TellsGroup, replied_by, said_in, told_group, told_together};
+ghost use Rattle.tb_session.specs.Turned.{LeavesDesk};
 
 use crate::answer::GroupAnswer;
 use crate::room::Room;
@@ -72,8 +73,7 @@ impl<D: Disk, C: Clock> Room<D, C> {
             × CallsTogether D.disk C.clock self.old self.new key.now messages.now moment replied
             × TellsGroup result verdicts.new (said_in replied)
             × TellUnknown (caller_on self.old.operator self.old.desk.host.history key.now) replied }
-        ensures lacked { result ≡ group.OutOfMemory → (self.new.desk.host.history ≡ self.old.desk.host.history)
-            × (self.new.desk.doubt ≡ self.old.desk.doubt) }
+        ensures lacked { result ≡ group.OutOfMemory → LeavesDesk self.old self.new }
     {
         let (_moment, came) = self.group(key, messages, verdicts);
         group_answer(came)
@@ -97,8 +97,7 @@ impl<D: Disk, C: Clock> Room<D, C> {
         ensures recovered { self.new.desk.recovered ≡ self.old.desk.recovered }
         ensures crash { CrashesLeave (IsOneOf (held self.old.desk) (held self.new.desk)) (D.disk self.old.desk.disk)
             (D.disk self.new.desk.disk) }
-        ensures lacked { result ≡ grouped.Lacked → (self.new.desk.host.history ≡ self.old.desk.host.history)
-            × (self.new.desk.doubt ≡ self.old.desk.doubt) }
+        ensures lacked { result ≡ grouped.Lacked → LeavesDesk self.old self.new }
         ensures tells { TellsGroup (spec.answer_of result) verdicts.new
             (said_in (replied_by key.now moment result messages.now verdicts.new)) }
         ensures unknown { TellUnknown (caller_on self.old.operator self.old.desk.host.history key.now)
@@ -132,8 +131,7 @@ impl<D: Disk, C: Clock> Room<D, C> {
         requires numbered { AreNumbered messages.now }
         ensures calls { CallsTogether D.disk C.clock self.old self.new key.now messages.now result.0
             (replied_by key.now result.0 result.1 messages.now verdicts.new) }
-        ensures lacked { result.1 ≡ grouped.Lacked → (self.new.desk.host.history ≡ self.old.desk.host.history)
-            × (self.new.desk.doubt ≡ self.old.desk.doubt) }
+        ensures lacked { result.1 ≡ grouped.Lacked → LeavesDesk self.old self.new }
         ensures tells { TellsGroup (spec.answer_of result.1) verdicts.new
             (said_in (replied_by key.now result.0 result.1 messages.now verdicts.new)) }
         ensures unknown { TellUnknown (caller_on self.old.operator self.old.desk.host.history key.now)
@@ -156,8 +154,7 @@ impl<D: Disk, C: Clock> Room<D, C> {
         requires numbered { AreNumbered bids.now.items }
         ensures calls { CallsTogether D.disk C.clock self.old self.new key.now bids.now.items result.moment
             (replied_by key.now result.moment result.came bids.now.items verdicts.new) }
-        ensures lacked { result.came ≡ grouped.Lacked
-            → (self.new.desk.host.history ≡ self.old.desk.host.history) × (self.new.desk.doubt ≡ self.old.desk.doubt) }
+        ensures lacked { result.came ≡ grouped.Lacked → LeavesDesk self.old self.new }
         ensures tells { TellsGroup (spec.answer_of result.came) verdicts.new
             (said_in (replied_by key.now result.moment result.came bids.now.items verdicts.new)) }
         ensures told { told_together result ≡ told_group result.came (length self.new.desk.host.history)

@@ -1,6 +1,7 @@
 //! Laws of sessions and of the numbers that stand for calls and histories under the lock. Each is the contract of a
 //! function that does nothing.
-ghost use Rattle.std.specs.Prelude.{◌≡◌, ℕ, ◌++◌, List, [], Option, All};
+ghost use Rattle.std.specs.Prelude.{◌≡◌, ℕ, ◌++◌, ◌-◌, ◌≤◌, ◌⊎◌, Bool, List, [], Option, All, count_by};
+ghost use Rattle.tb_link.specs.Counts.{last_count};
 ghost use Rattle.tb_disk.specs.Past.{Past};
 ghost use Rattle.tb_message.specs.declared.message.Entry.{Entry};
 ghost use Rattle.tb_message.specs.Spelling.{IsInRange};
@@ -12,7 +13,7 @@ ghost use Rattle.tb_session.specs.declared.called.Called.{Called};
 ghost use Rattle.tb_session.specs.declared.room.Room.{Room};
 ghost use Rattle.tb_gates.specs.Links.{LinkState};
 ghost use Rattle.tb_wire.specs.Cuts.{Cuts, HoldsNone};
-ghost use Rattle.tb_session.specs.Codes.{HasRange, code_of, spelled_all};
+ghost use Rattle.tb_session.specs.Codes.{HasRange, Made, code_of, spelled_all};
 ghost use Rattle.tb_session.specs.Openings.{opening_code};
 ghost use Rattle.tb_session.specs.Rooms.{room_means};
 ghost use Rattle.tb_session.specs.Crashes.{HasSeen, LeavesSeen};
@@ -21,10 +22,11 @@ ghost use Rattle.tb_session.specs.Groups.{CallsTogether, Replied};
 ghost use Rattle.tb_message.specs.declared.key.Key.{Key};
 ghost use Rattle.tb_message.specs.declared.message.Message.{Message};
 ghost use Rattle.tb_units.specs.declared.moment.Moment.{Moment};
+ghost use Rattle.tb_session.specs.Serve.{AreCutInto, ServesAll, some_met};
 ghost use Rattle.tb_session.specs.Session.{IsSession, Session, requests_in};
 
 use tb_disk::Disk;
-use tb_gates::Clock;
+use tb_gates::{Clock, Gate};
 
 /// No two calls have one code, and no two histories one list of records, where their entries are in range, as those of
 /// a legal history are. No two openings of a disk have one code, whatever happened to it. It does nothing.
@@ -66,4 +68,14 @@ pub fn crashes_keep_what_was_seen<D: Disk, C: Clock>()
         → IsTaken (room_means D.disk C.clock) before after old
         → CallsTogether D.disk C.clock old new key messages moment replied
         → CrashesLeave (HasSeen before.seen) (D.disk old.desk.disk) (D.disk new.desk.disk) }
+{}
+
+/// In a run no more turns are answered with a disk fault than the desk's count of faults rose, unless it has reached
+/// its last value, however the calls of each gate are cut into turns. It does nothing.
+pub fn one_fault_one_turn<D: Disk, C: Clock, G: Gate>()
+    ensures few { (room after : Room D C) (olds news : List G) (served accepted : ℕ) (failed : Bool)
+        (turns : List (List Made))
+        → (run : ServesAll D.disk C.clock G.gate G.Conn.source G.Conn.sink room olds after news served accepted failed)
+        → AreCutInto run.runs turns
+        → (count_by some_met turns ≤ after.desk.faults - room.desk.faults) ⊎ (last_count ≤ after.desk.faults) }
 {}

@@ -25,7 +25,7 @@ mod write;
 pub use answer::{Answer, GroupAnswer};
 pub use called::{Ask, Called, Outcome};
 pub use end::End;
-pub use laws::{all_served, crashes_keep_what_was_seen, one_code};
+pub use laws::{all_served, crashes_keep_what_was_seen, one_code, one_fault_one_turn};
 pub use links::work;
 pub use room::Room;
 pub use serve::{Ended, serve_gates};

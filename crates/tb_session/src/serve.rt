@@ -4,7 +4,7 @@ ghost use Rattle.std.specs.List.{list_any};
 ghost use Rattle.tb_gates.specs.Gates.{most_links};
 ghost use Rattle.tb_lock.specs.Passes.{IsPassOf, IsIdle, view};
 ghost use Rattle.tb_session.specs.Work.{IsReady};
-ghost use Rattle.tb_session.specs.Serve.{IsHired, WorkedOn, SameLock, share_of, served_of, failed_of, calls_with, Turns, ServesAll};
+ghost use Rattle.tb_session.specs.Serve.{IsHired, WorkedOn, SameLock, share_of, served_of, failed_of, calls_with, spans_with, Turns, ServesAll};
 
 use crate::links::work;
 use crate::room::Room;
@@ -35,7 +35,8 @@ fn hire<D: Disk, C: Clock, G: Gate>(
     ensures emptied { (gates.new.items ≡ []) × (vec_capacity gates.new ≡ vec_capacity gates.old) }
     ensures hired { All (IsHired shared.now (view pass.old)) workers.new.items }
     ensures share { sum_by share_of workers.new.items + (view pass.new).share ≡ (view pass.old).share }
-    ensures same { SameLock (view pass.old) (view pass.new) × ((view pass.new).mine ≡ (view pass.old).mine) }
+    ensures same { SameLock (view pass.old) (view pass.new) × ((view pass.new).mine ≡ (view pass.old).mine)
+        × ((view pass.new).spans ≡ (view pass.old).spans) }
 {
     while !gates.is_empty() {
         let gate = gates.remove(0);
@@ -94,6 +95,7 @@ fn dismiss<D: Disk, C: Clock, G: Gate>(
     ensures gates { gates.new.items ≡ map (λ w. w.gate) workers.items }
     ensures share { (view pass.new).share ≡ (view pass.old).share + sum_by share_of workers.items }
     ensures mine { (view pass.new).mine ≡ (view pass.old).mine ++ flat_map calls_with workers.items }
+    ensures spans { (view pass.new).spans ≡ (view pass.old).spans ++ flat_map spans_with workers.items }
     ensures same { SameLock (view pass.old) (view pass.new) }
     ensures served { result.0 ≡ sum_by served_of workers.items }
     ensures failed { result.1 ≡ list_any failed_of workers.items }
@@ -116,7 +118,8 @@ fn dismiss<D: Disk, C: Clock, G: Gate>(
     (total, one_failed)
 }
 
-// Lets each gate be served by a worker of its own. The pass has its whole share again, and all their calls.
+// Lets each gate be served by a worker of its own. The pass has its whole share again, and all their calls
+// and turns.
 fn turns<D: Disk + Send, C: Clock + Send, G: Gate + Send, R: Threads + Wait + Sync>(
     rt: &R,
     alloc: Global,
@@ -128,7 +131,7 @@ fn turns<D: Disk + Send, C: Clock + Send, G: Gate + Send, R: Threads + Wait + Sy
     requires own { IsPassOf shared.now pass.old }
     requires idle { IsIdle pass.old }
     requires share { 2 ^ vec_len gates.old < 2 * (view pass.old).share }
-    requires new { (view pass.old).mine ≡ [] }
+    requires new { ((view pass.old).mine ≡ []) × ((view pass.old).spans ≡ []) }
     requires few { vec_len gates.old ≤ 64 }
     requires room { (workers.items ≡ []) × (vec_len gates.old ≤ vec_capacity workers) }
     ensures own { IsPassOf shared.now pass.new }

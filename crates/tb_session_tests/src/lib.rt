@@ -8,3 +8,5 @@ mod group_tests;
 mod held_tests;
 #[cfg(test)]
 mod tests;
+#[cfg(test)]
+mod waiting_tests;

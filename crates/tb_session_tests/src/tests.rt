@@ -70,13 +70,13 @@ const OPENING: [&str; 5] = [
 ];
 
 /// A bid of the first dealer, as it is posted, and the reply where it is accepted, now or before.
-const FIRST: &str = posted!(
+pub const FIRST: &str = posted!(
     "k1",
     89,
     "{\"number\":1,\"kind\":\"bid\",\"auction\":\"bill13\",\"bidder\":\"fund1\",\"rate\":\"4.300\",\"amount\":100}"
 );
 
-const FIRST_REPLY: &str = replied!("200 OK", 22, "accepted 1 1730700000\n");
+pub const FIRST_REPLY: &str = replied!("200 OK", 22, "accepted 1 1730700000\n");
 
 /// A bid of the second dealer.
 const SECOND: &str = posted!(
@@ -101,9 +101,9 @@ const CHANGED: &str = posted!(
 );
 
 /// A message without its members, and the reply to it.
-const SHAPELESS: &str = posted!("k1", 2, "{}");
+pub const SHAPELESS: &str = posted!("k1", 2, "{}");
 
-const SHAPELESS_REPLY: &str = replied!("400 Bad Request", 26, "refused 6 BadShape number\n");
+pub const SHAPELESS_REPLY: &str = replied!("400 Bad Request", 26, "refused 6 BadShape number\n");
 
 /// The same of the second dealer.
 const OTHER_SHAPELESS: &str = posted!("k2", 2, "{}");

@@ -7,7 +7,8 @@ use Rattle.tb_history.specs.Verdict.{verdict_on}
 use Rattle.tb_history.proofs.LegalLemmas.{IsLegal-orderly}
 use Rattle.tb_history.proofs.OwnLemmas.{announcements-own}
 use Rattle.tb_history.proofs.SealedLemmas.{IsLegal-sealed}
-use Rattle.tb_history.proofs.QueryLemmas.{query_refusal-own, shown-refused, verdict_for-own, bid_lines-own}
+use Rattle.tb_history.proofs.QueryLemmas.{caller_of-own, query_refusal-own, refusal_for-own, shown-refused}
+use Rattle.tb_history.proofs.QueryLemmas.{verdict_for-own, bid_lines-own}
 use Rattle.tb_history.proofs.sealed.replies_are_sealed.Goals as goal
 
 pub returns-clause-verdicts : goal.returns-clause-verdicts
@@ -20,12 +21,19 @@ returns-clause-two_worlds c one other submitter number moment message legal_one 
     ∙ (ap (λ (history : List Entry). verdict_on history submitter number moment message) alike
     ∙ sym (IsLegal-sealed submitter other legal_other number moment message still))
 
+pub returns-clause-keys : goal.returns-clause-keys
+returns-clause-keys c history name submitter key legal = caller_of-own submitter history legal name key
+
 pub returns-clause-by_key : goal.returns-clause-by_key
 returns-clause-by_key c history name submitter key number moment other message legal still caller agree =
     verdict_for-own history name submitter key number moment other message legal still caller agree
 
 pub returns-clause-queries : goal.returns-clause-queries
 returns-clause-queries c history submitter query legal = query_refusal-own submitter history legal query
+
+pub returns-clause-queries_by_key : goal.returns-clause-queries_by_key
+returns-clause-queries_by_key c history name submitter key query legal caller =
+    refusal_for-own history name submitter key query legal caller
 
 pub returns-clause-unpublished : goal.returns-clause-unpublished
 returns-clause-unpublished c history submitter auction not_yet = (

@@ -19,4 +19,4 @@ returns-clause-turn g c =
     (MakesTurn-single room.gate (g.D.Disk.disk room.disk)
     (asked_by c.args.caller.now c.args.moment c.args.number c.args.message.now)
     (standing (g.D.Disk.disk room.disk) room) new c.submit.result c.submit.ensures.turn c.submit.ensures.count
-    c.submit.ensures.fault c.submit.ensures.no_fault)
+    c.submit.ensures.fault c.submit.ensures.no_fault c.submit.ensures.doubted)

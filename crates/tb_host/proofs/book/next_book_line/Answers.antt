@@ -22,6 +22,7 @@ returns-in-Some-clause-line g c = λ text is.
 pub returns-in-None-clause-bad : goal.returns-in-None-clause-bad
 returns-in-None-clause-bad g c = λ line bad. (
   line_is line _ bad,
+  c.in_ok-next_line.ensures.no_fault,
   λ text is.
       let found = (rw c.in-Line.is at c.in_ok-next_line.ensures.finds) text is in
       HasNoLine-unread text (current c.next_line.new.self) _ found (rw c.line.ensures at c.in-None.ensures.none),
@@ -31,6 +32,7 @@ pub returns-in-End-clause-bad : goal.returns-in-End-clause-bad
 returns-in-End-clause-bad g c =
     λ line bad. (
       line_is line _ bad,
+      c.in_ok-next_line.ensures.no_fault,
       λ text is. HasNoLine-end text (current c.next_line.new.self)
           (ahead c.next_line.new.self (g.I.Source.source c.next_line.new.input))
           ((rw c.in-End.is at c.in_ok-next_line.ensures.finds) text is),
@@ -40,6 +42,7 @@ pub returns-in-TooLong-clause-bad : goal.returns-in-TooLong-clause-bad
 returns-in-TooLong-clause-bad g c =
     λ line bad. (
       line_is line _ bad,
+      c.in_ok-next_line.ensures.no_fault,
       λ text is. HasNoLine-long text (current c.next_line.new.self)
           (ahead c.next_line.new.self (g.I.Source.source c.next_line.new.input))
           ((rw c.in-TooLong.is at c.in_ok-next_line.ensures.finds) text is),

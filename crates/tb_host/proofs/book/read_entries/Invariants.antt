@@ -1,4 +1,3 @@
-use Rattle.tb_host.specs.Lines.{ahead}
 use Rattle.tb_host.proofs.ReadLemmas.{SoFar}
 use Rattle.tb_host.proofs.book.read_entries.Given as goal
 
@@ -6,5 +5,5 @@ use Rattle.tb_host.proofs.book.read_entries.Given as goal
 abbrev pub invariant-loop-read : goal.invariant-loop-read
 invariant-loop-read g l =
     let source = g.I.Source.source in
-    SoFar l.read l.fn.book.offering l.book (ahead l.fn.reader (source l.fn.input)) (ahead l.reader (source l.input))
-    (source l.fn.input) (source l.input)
+    SoFar l.read l.fn.book.offering l.book (record { reader = l.fn.reader; source = source l.fn.input })
+    (record { reader = l.reader; source = source l.input })

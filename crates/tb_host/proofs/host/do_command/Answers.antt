@@ -1,5 +1,27 @@
+use Rattle.std.proofs.Common.{refl}
+use Rattle.tb_host.proofs.CauseLemmas.{report-cause, serve-cause, trial-cause}
+use Rattle.tb_host.proofs.HostLemmas.{EndsAs-report}
 use Rattle.tb_host.proofs.host.do_command.Goals as goal
 
-pub returns-in-Import-clause-clock : goal.returns-in-Import-clause-clock
-returns-in-Import-clause-clock g c = λ none.
-    absurd (none (record { operator = c.in-Import.operator; key = c.in-Import.key }, c.in-Import.is))
+pub returns-in-Serve-clause-causes : goal.returns-in-Serve-clause-causes
+returns-in-Serve-clause-causes g c =
+    serve-cause g.G.Gate.gate _ _ g.G.Conn.Source.source g.G.Conn.Sink.sink c.in-Serve.operator
+    (g.C.Clock.clock c.args.clock) c.serve-own.result.0 c.ending-in-Serve.result c.ending-in-Serve.ensures
+    c.serve-own.ensures.ends refl
+
+pub returns-in-Report-clause-ends : goal.returns-in-Report-clause-ends
+returns-in-Report-clause-ends g c =
+    EndsAs-report g.G.Gate.gate g.G.Conn.Source.source g.G.Conn.Sink.sink (g.C.Clock.clock c.args.clock)
+    c.args.command.now c.in-Report.operator c.in-Report.key c.in-Report.query c.in-Report.csv c.inquiry-asked.result
+    c.report-own.result.0 c.ending-in-Report.result _ _ c.in-Report.is c.inquiry-asked.ensures
+    c.ending-in-Report.ensures (c.report-own.ensures.ends (g.I.Source.source c.args.input.now))
+
+pub returns-in-Report-clause-causes : goal.returns-in-Report-clause-causes
+returns-in-Report-clause-causes g c =
+    report-cause g.G.Gate.gate _ _ c.inquiry-asked.result c.report-own.result.0 c.ending-in-Report.result
+    c.ending-in-Report.ensures (c.report-own.ensures.ends (g.I.Source.source c.args.input.now))
+
+pub returns-in-Trial-clause-causes : goal.returns-in-Trial-clause-causes
+returns-in-Trial-clause-causes g c =
+    trial-cause g.G.Gate.gate _ _ c.in-Trial.seed c.in-Trial.count c.trial.result c.ending-in-Trial.result
+    c.ending-in-Trial.ensures c.trial.ensures.ends refl

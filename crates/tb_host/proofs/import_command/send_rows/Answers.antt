@@ -4,8 +4,8 @@ use Rattle.tb_link.specs.Sinks.{Takes}
 use Rattle.tb_host.specs.ImportRun.{SentRow}
 use Rattle.tb_host.specs.ImportSteps.{GroupEnds, SendsRuns}
 use Rattle.tb_host.specs.Standings.{standing}
-use Rattle.tb_host.specs.declared.ending.Ending.{Ending}
-use Rattle.tb_host.specs.declared.ending.Ending.TheVariants as ending
+use Rattle.tb_host.specs.declared.command_endings.TextEnding.{TextEnding}
+use Rattle.tb_host.specs.declared.command_endings.TextEnding.TheVariants as ending
 use Rattle.tb_host.proofs.ImportEndLemmas.{rows-grown}
 use Rattle.tb_host.proofs.ImportLemmas.{RowsEnd-done, RowsEnd-here, SendsRuns-next, SendsRuns-start, left-sendable, none-left, some-left, split-run}
 use Rattle.tb_host.proofs.import_command.send_rows.Goals as goal
@@ -69,7 +69,7 @@ returns-in-Some-clause-ends g c =
     RowsEnd-here c.args.sender.now clock c.args.rows.now first (g.O.Sink.sink c.args.out.now) read clock' mid last rest
     c.split_at.result.0.now (g.O.Sink.sink c.loop-rest.out) (g.O.Sink.sink c.send_run.new.out) c.loop-rest.invariant.0
     (some-left rest c.is_empty.result c.is_empty.ensures c.loop-rest-test.true) parts.0 c.in-Some.ending
-    (subst (λ (r : Option Ending). GroupEnds c.args.sender.now read clock' c.split_at.result.0.now r
+    (subst (λ (r : Option TextEnding). GroupEnds c.args.sender.now read clock' c.split_at.result.0.now r
     (g.O.Sink.sink c.loop-rest.out) (g.O.Sink.sink c.send_run.new.out) mid last) c.in-Some.is c.send_run.ensures.ends)
 
 pub returns-in-Some-clause-grown : goal.returns-in-Some-clause-grown

@@ -27,5 +27,6 @@ returns-clause-turn g c =
             count = c.submit_group.ensures.count;
             fault = c.submit_group.ensures.fault;
             no_fault = c.submit_group.ensures.no_fault;
+            doubted = c.submit_group.ensures.doubted;
           }),
     )

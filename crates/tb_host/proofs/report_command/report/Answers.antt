@@ -1,4 +1,4 @@
-use Rattle.std.proofs.Common.{inl, inr, subst, sym, ap, refl, [], append-nil}
+use Rattle.std.proofs.Common.{subst, sym, ap, refl, [], append-nil}
 use Rattle.tb_disk.specs.Disks.{DiskState}
 use Rattle.tb_journal.specs.Journal.{Told}
 use Rattle.tb_journal.specs.Opening.{BreaksOff, IsHarmless}
@@ -14,7 +14,7 @@ returns-in-Ok-clause-ends g c = λ input.
     let disk = c.into_disk.ensures in
     let same = ap g.D.Disk.disk disk.disk in
     record {
-      ends = inl (
+      ends = (
         stands,
         stands,
         Keeps-closed g.D.Disk.disk (g.D.Disk.disk c.args.disk) c.in-Ok.desk c.in-Ok.desk c.into_disk.result (record {
@@ -45,14 +45,12 @@ pub returns-in-Err-clause-ends : goal.returns-in-Err-clause-ends
 returns-in-Err-clause-ends g c = λ input.
     let refused = c.in-Err.ensures in
     record {
-      ends = inr (record {
-        why = c.in-Err.fault;
-        ended_is = c.of.ensures;
+      ends = record {
         unopened = Unopened-here c.in-Err.fault (g.D.Disk.disk c.args.disk) (g.D.Disk.disk c.in-Err.disk)
             refused.exact_refusal refused.crash_refused refused.refused refused.fault refused.count_refused;
         unread = refl;
         silent = refl;
-      });
+      };
       unread = refl;
       steps = breaks_refused c.in-Err.fault (g.D.Disk.disk c.args.disk) (g.D.Disk.disk c.in-Err.disk) refused.refused;
       harmless = refused.crash_refused;

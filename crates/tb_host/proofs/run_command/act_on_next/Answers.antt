@@ -19,6 +19,7 @@ returns-in-Ok-Line-clause-ends g c =
 pub returns-in-Ok-End-clause-ends : goal.returns-in-Ok-End-clause-ends
 returns-in-Ok-End-clause-ends g c = (
   refl,
+  c.in-Ok-End.ensures.no_fault,
   λ text told. NoneStands-end text (current c.next_line.new.self)
       (ahead c.next_line.new.self (g.I.Source.source c.next_line.new.input))
       ((rw c.in-Ok-End.field-0-is at c.in-Ok-End.ensures.finds) text told),
@@ -28,6 +29,7 @@ returns-in-Ok-End-clause-ends g c = (
 pub returns-in-Ok-TooLong-clause-ends : goal.returns-in-Ok-TooLong-clause-ends
 returns-in-Ok-TooLong-clause-ends g c = (
   refl,
+  c.in-Ok-TooLong.ensures.no_fault,
   λ text told. NoneStands-long text (current c.next_line.new.self)
       (ahead c.next_line.new.self (g.I.Source.source c.next_line.new.input))
       ((rw c.in-Ok-TooLong.field-0-is at c.in-Ok-TooLong.ensures.finds) text told),

@@ -1,4 +1,4 @@
-use Rattle.std.proofs.Common.{inl, inr, refl}
+use Rattle.std.proofs.Common.{refl}
 use Rattle.tb_host.specs.Standings.{standing}
 use Rattle.tb_host.proofs.DiskLemmas.{Keeps-closed, Unopened-here}
 use Rattle.tb_host.proofs.run_command.run.Goals as goal
@@ -7,8 +7,7 @@ pub returns-in-Ok-clause-ends : goal.returns-in-Ok-clause-ends
 returns-in-Ok-clause-ends g c =
     let begun = c.in-Ok.ensures in
     let done = c.act_on_script-ending.ensures in
-    let disk = c.into_disk.ensures in
-    inl (
+    let disk = c.into_disk.ensures in (
       standing (g.D.Disk.disk c.in-Ok.desk.disk) c.in-Ok.desk,
       standing (g.D.Disk.disk c.act_on_script-ending.new.desk.disk) c.act_on_script-ending.new.desk,
       Keeps-closed g.D.Disk.disk (g.D.Disk.disk c.args.disk) c.in-Ok.desk c.act_on_script-ending.new.desk
@@ -34,11 +33,9 @@ returns-in-Ok-clause-ends g c =
 pub returns-in-Err-clause-ends : goal.returns-in-Err-clause-ends
 returns-in-Err-clause-ends g c =
     let refused = c.in-Err.ensures in
-    inr (record {
-      why = c.in-Err.fault;
-      ended_is = c.of.ensures;
+    record {
       unopened = Unopened-here c.in-Err.fault (g.D.Disk.disk c.args.disk) (g.D.Disk.disk c.in-Err.disk)
           refused.exact_refusal refused.crash_refused refused.refused refused.fault refused.count_refused;
       unread = refl;
       silent = refl;
-    })
+    }

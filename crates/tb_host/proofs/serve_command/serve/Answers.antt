@@ -1,4 +1,4 @@
-use Rattle.std.proofs.Common.{inr, refl}
+use Rattle.std.proofs.Common.{refl}
 use Rattle.tb_host.proofs.DiskLemmas.{Unopened-here}
 use Rattle.tb_host.proofs.ServeLemmas.{ServeEnds-room}
 use Rattle.tb_host.proofs.serve_command.serve.Goals as goal
@@ -17,6 +17,7 @@ returns-in-Ok g c =
             recovered = begun.made.1;
             sure = begun.made.0;
             unmet = begun.made.2;
+            none = begun.made.4;
             no_fault = begun.no_fault;
             same = begun.made.3;
             operator_is = refl;
@@ -29,12 +30,10 @@ pub returns-in-Err : goal.returns-in-Err
 returns-in-Err g c =
     let refused = c.in-Err.ensures in
     record {
-      ends = inr (record {
-        why = c.in-Err.fault;
-        ended_is = c.of.ensures;
+      ends = record {
         unopened = Unopened-here c.in-Err.fault (g.D.Disk.disk c.args.disk) (g.D.Disk.disk c.in-Err.disk)
             refused.exact_refusal refused.crash_refused refused.refused refused.fault refused.count_refused;
         untaken = refl;
         silent = refl;
-      });
+      };
     }

@@ -4,18 +4,18 @@ use Rattle.tb_import.specs.Answers.{AnswersTable}
 use Rattle.tb_host.proofs.TableLemmas.{HasRows-text, IsFirstBad-text}
 use Rattle.tb_host.proofs.table_input.read_table.Goals as goal
 
-pub returns-in-Ok-read_bids : goal.returns-in-Ok-read_bids
-returns-in-Ok-read_bids g c =
+pub returns-in-Ok-read_bids-clause-answers : goal.returns-in-Ok-read_bids-clause-answers
+returns-in-Ok-read_bids-clause-answers g c =
     let read = subst (λ (bytes : List ℕ). AnswersTable bytes c.read_bids.result) c.deref.ensures.value
     c.read_bids.ensures in
     HasRows-text c.in-Ok.text.items (g.I.Source.source c.args.input.now) (g.I.Source.source c.read_text.new.input)
     c.in-Ok-read_bids.rows.items c.in-Ok.ensures.text
     (subst (AnswersTable c.in-Ok.text.items) c.in-Ok-read_bids.is read) c.in-Ok.ensures.no_fault
 
-pub returns-in-Err-BadRecord : goal.returns-in-Err-BadRecord
-returns-in-Err-BadRecord g c =
+pub returns-in-Err-BadRecord-clause-answers : goal.returns-in-Err-BadRecord-clause-answers
+returns-in-Err-BadRecord-clause-answers g c =
     let read = subst (λ (bytes : List ℕ). AnswersTable bytes c.read_bids.result) c.deref.ensures.value
     c.read_bids.ensures in
     IsFirstBad-text c.in-Ok.text.items (g.I.Source.source c.args.input.now) (g.I.Source.source c.read_text.new.input)
     c.in-Err-BadRecord.record c.in-Ok.ensures.text
-    (subst (AnswersTable c.in-Ok.text.items) (c.in-Err-BadRecord.is ∙ ap Err c.in-Err-BadRecord.field-0-is) read)
+    (subst (AnswersTable c.in-Ok.text.items) (c.in-Err-BadRecord.is ∙ ap Err c.in-Err-BadRecord.field-0-is) read) c.in-Ok.ensures.no_fault

@@ -2,13 +2,13 @@ use Rattle.std.proofs.Common.{◌∙◌, ap, sym, arith}
 use Rattle.std.specs.Prelude.{Ok, Option, List, ℕ, IfSome, [], ◌≡◌}
 use Rattle.tb_link.specs.Sources.{before_left}
 use Rattle.std.proofs.Common.{subst, refl}
-use Rattle.tb_host.proofs.TableLemmas.{HasText-end, HasText-long, before_left-nothing, read-more}
+use Rattle.tb_host.proofs.TableLemmas.{HasText-end, HasText-long, ReadsToEnd-text, before_left-nothing, read-more}
 use Rattle.tb_host.proofs.table_input.read_text.Goals as goal
 
 pub loop-input-init : goal.loop-input-init
 loop-input-init g c =
     let left = (g.I.Source.source c.args.input.now).left in
-    (before_left-nothing left ∙ ap (λ (t : List ℕ). before_left t left) (sym c.new-text.ensures.items), refl)
+    (before_left-nothing left ∙ ap (λ (t : List ℕ). before_left t left) (sym c.new-text.ensures.items), refl, omega arith)
 
 pub loop-input-preserved : goal.loop-input-preserved
 loop-input-preserved g c =
@@ -17,6 +17,12 @@ loop-input-preserved g c =
       read-more (source c.args.input.now).left (source c.loop-input.input).left (source c.read_piece.new.input).left
           c.loop-input.text.items piece.0 c.read_piece.new.text.items c.loop-input.invariant.0 piece.2 piece.1,
       c.in_ok-read_piece.ensures.no_fault ∙ c.loop-input.invariant.1,
+      omega (
+        arith,
+        c.loop-input.invariant.2,
+        c.in_ok-read_piece.ensures.one_read,
+        c.in_ok-read_piece.ensures.more (ap Ok c.if-not-branch.false),
+      ),
     )
 
 pub loop-input-smaller : goal.loop-input-smaller
@@ -37,3 +43,24 @@ pub returns-clause-text : goal.returns-clause-text
 returns-clause-text g c =
     HasText-long c.loop-input.text.items (g.I.Source.source c.args.input.now) (g.I.Source.source c.loop-input.input)
     c.loop-input.invariant.0 (omega (arith, c.loop-input-test.false))
+
+pub returns-then-not-branch-clause-reads : goal.returns-then-not-branch-clause-reads
+returns-then-not-branch-clause-reads g c =
+    let source = g.I.Source.source in
+    ReadsToEnd-text (source c.args.input.now).reads (source c.loop-input.input).reads
+    (source c.read_piece.new.input).reads c.loop-input.text.items (source c.args.input.now).left
+    (source c.loop-input.input).left c.loop-input.invariant.0 c.loop-input.invariant.2 c.read_piece.ensures.one_read
+
+pub returns-in_err-read_piece-clause-reads : goal.returns-in_err-read_piece-clause-reads
+returns-in_err-read_piece-clause-reads g c =
+    let source = g.I.Source.source in
+    ReadsToEnd-text (source c.args.input.now).reads (source c.loop-input.input).reads
+    (source c.read_piece.new.input).reads c.loop-input.text.items (source c.args.input.now).left
+    (source c.loop-input.input).left c.loop-input.invariant.0 c.loop-input.invariant.2 c.read_piece.ensures.one_read
+
+pub returns-clause-reads : goal.returns-clause-reads
+returns-clause-reads g c =
+    let source = g.I.Source.source in
+    ReadsToEnd-text (source c.args.input.now).reads (source c.loop-input.input).reads
+    (source c.loop-input.input).reads c.loop-input.text.items (source c.args.input.now).left
+    (source c.loop-input.input).left c.loop-input.invariant.0 c.loop-input.invariant.2 (omega arith)

@@ -1,13 +1,14 @@
-use Rattle.std.proofs.Common.{◌≡◌, ◌-◌, vec_len}
+use Rattle.std.proofs.Common.{◌≡◌, ◌+◌, ◌-◌, ◌≤◌, length, vec_len}
 use Rattle.tb_link.specs.Sources.{before_left}
 use Rattle.tb_host.proofs.table_input.read_text.Given as goal
 
--- the text is what the input gave so far
+-- the text is what the input gave so far, at least a byte a read
 abbrev pub invariant-loop-input : goal.invariant-loop-input
 invariant-loop-input g l =
     let source = g.I.Source.source in
     ((source l.fn.input).left ≡ before_left l.text.items (source l.input).left)
     × ((source l.input).faults ≡ (source l.fn.input).faults)
+    × ((source l.input).reads ≤ (source l.fn.input).reads + length l.text.items)
 
 -- bytes that a table may still have
 abbrev pub decreases-loop-input : goal.decreases-loop-input

@@ -12,6 +12,7 @@ returns-in-Ok-write-clause-ends g c = record {
   };
   taken = c.in-Ok-write.ensures.takes.taken
       ∙ ap (after_taken (g.O.Sink.sink c.args.out.now).taken) c.deref.ensures.value;
+  no_fault = c.in-Ok-write.ensures.takes.no_fault;
 }
 
 pub returns-in-Ok-trial_text-clause-ends : goal.returns-in-Ok-trial_text-clause-ends

@@ -1,7 +1,8 @@
 -- The next request of a link, or its end.
-use Rattle.std.proofs.Common.{[], ◌∙◌, subst}
-use Rattle.tb_gates.specs.Links.{link_of, Moved}
+use Rattle.std.proofs.Common.{◌∙◌, subst}
+use Rattle.tb_gates.specs.Links.{link_of}
 use Rattle.tb_session.specs.Serving.{Fails}
+use Rattle.tb_session.specs.Session.{Wrote}
 use Rattle.tb_session.proofs.HearLemmas.{hears-end_of_input, hears-cut_short, hears-read_fault, hears-bad, hears-told, hears-unwritten, hears-lacking}
 use Rattle.tb_session.proofs.hear.hear_request.Goals as goal
 
@@ -15,8 +16,8 @@ returns-in-Ok-write_bytes g c =
     let arm = c.in-Err-BadRequest in
     record {
       hears = hears-bad _ _ c.args.inbox.now _ arm.field-0 arm.ensures.receives arm.code _ arm.field-0-is
-          (subst (λ l. Moved (link_of g.K.Source.source g.K.Sink.sink c.receive_request.new.link)
-          (link_of g.K.Source.source g.K.Sink.sink c.write_bytes.new.link) [] l)
+          (subst (λ l. Wrote (link_of g.K.Source.source g.K.Sink.sink c.receive_request.new.link)
+          (link_of g.K.Source.source g.K.Sink.sink c.write_bytes.new.link) l)
           (c.bytes.ensures.bytes ∙ c.bad_front_reply-reply.ensures)
           c.in-Ok-write_bytes.ensures.writes);
     }

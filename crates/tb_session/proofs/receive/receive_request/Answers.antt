@@ -10,7 +10,7 @@ pub returns-in-Ok-eq0 : goal.returns-in-Ok-eq0
 returns-in-Ok-eq0 g c =
     let so_far = c.loop-request.invariant in
     record {
-      receives = receives-end_of_input _ _ _ _ so_far.0 _ _ so_far.1 so_far.2 _ c.fill.ensures.fills
+      receives = receives-end_of_input _ _ _ _ so_far.0 _ _ so_far.1 so_far.2 so_far.3 _ c.fill.ensures.fills
           (c.in-Ok-eq0.is ∙ ap (λ (n : ℕ). Ok n) c.in-Ok-eq0.field-0-test) (c.is_empty.ensures.0 c.if-is_empty.true);
     }
 
@@ -18,7 +18,7 @@ pub returns-in-Ok-eq0-2 : goal.returns-in-Ok-eq0-2
 returns-in-Ok-eq0-2 g c =
     let so_far = c.loop-request.invariant in
     record {
-      receives = receives-cut_short _ _ _ _ so_far.0 _ _ so_far.1 so_far.2 _ c.fill.ensures.fills
+      receives = receives-cut_short _ _ _ _ so_far.0 _ _ so_far.1 so_far.2 so_far.3 _ c.fill.ensures.fills
           (c.in-Ok-eq0.is ∙ ap (λ (n : ℕ). Ok n) c.in-Ok-eq0.field-0-test)
           (λ none. let t = c.is_empty.ensures.1 none in let f = c.if-is_empty.false in cc)
           (subst₂ (λ l f. IsFront l f) c.waiting.ensures c.in-Ok-More.field-0-is c.in-Ok-More.ensures.front);
@@ -27,20 +27,22 @@ returns-in-Ok-eq0-2 g c =
 pub loop-request-smaller : goal.loop-request-smaller
 loop-request-smaller g c =
     let so_far = c.loop-request.invariant in
-    reads-more _ _ _ _ so_far.0 _ _ so_far.1 so_far.2 _ c.fill.ensures.fills c.in-Ok.field-0 c.in-Ok.is
+    reads-more _ _ _ _ so_far.0 _ _ so_far.1 so_far.2 so_far.3 _ c.fill.ensures.fills c.in-Ok.field-0 c.in-Ok.is
     c.in-Ok.field-0-test.1
     (subst₂ (λ l f. IsFront l f) c.waiting.ensures c.in-Ok-More.field-0-is c.in-Ok-More.ensures.front)
 
 pub loop-request-preserved : goal.loop-request-preserved
 loop-request-preserved g c =
     let so_far = c.loop-request.invariant in
-    reads-on _ _ _ _ so_far.0 _ _ so_far.1 so_far.2 _ c.fill.ensures.fills
+    reads-on _ _ _ _ so_far.0 _ _ so_far.1 so_far.2 so_far.3 _ c.fill.ensures.fills c.in-Ok.field-0 c.in-Ok.is
+    c.in-Ok.field-0-test.1
+    (subst₂ (λ l f. IsFront l f) c.waiting.ensures c.in-Ok-More.field-0-is c.in-Ok-More.ensures.front)
 
 pub returns-in-Err-ReadFault : goal.returns-in-Err-ReadFault
 returns-in-Err-ReadFault g c =
     let so_far = c.loop-request.invariant in
     record {
-      receives = receives-read_fault _ _ _ _ so_far.0 _ _ so_far.1 so_far.2 _ c.fill.ensures.fills
+      receives = receives-read_fault _ _ _ _ so_far.0 _ _ so_far.1 so_far.2 so_far.3 _ c.fill.ensures.fills
           (c.in-Err-ReadFault.is ∙ ap (λ (u : Unread). Err u) c.in-Err-ReadFault.field-0-is)
           (subst₂ (λ l f. IsFront l f) c.waiting.ensures c.in-Ok-More.field-0-is c.in-Ok-More.ensures.front);
     }
@@ -49,7 +51,7 @@ pub returns-in-Err : goal.returns-in-Err
 returns-in-Err g c =
     let so_far = c.loop-request.invariant in
     record {
-      receives = receives-crowded _ _ _ so_far.0 _ so_far.1 so_far.2
+      receives = receives-crowded _ _ _ so_far.0 _ so_far.1 so_far.2 so_far.3
           (subst (λ l. RequestOverflows 32 (seen l)) c.waiting.ensures c.in-Err.ensures.memory);
     }
 
@@ -57,7 +59,7 @@ pub returns-in-Err-OutOfMemory : goal.returns-in-Err-OutOfMemory
 returns-in-Err-OutOfMemory g c =
     let so_far = c.loop-request.invariant in
     record {
-      receives = receives-lacking _ _ _ _ so_far.0 _ _ so_far.1 so_far.2 _ c.fill.ensures.fills
+      receives = receives-lacking _ _ _ _ so_far.0 _ _ so_far.1 so_far.2 so_far.3 _ c.fill.ensures.fills
           (c.in-Err-OutOfMemory.is ∙ ap (λ (u : Unread). Err u) c.in-Err-OutOfMemory.field-0-is)
           (subst₂ (λ l f. IsFront l f) c.waiting.ensures c.in-Ok-More.field-0-is c.in-Ok-More.ensures.front);
     }

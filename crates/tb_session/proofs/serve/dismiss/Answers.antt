@@ -5,7 +5,7 @@ use Rattle.std.proofs.lemmas.List.Elements.{All-tail}
 use Rattle.tb_lock.specs.Passes.{view}
 use Rattle.tb_session.specs.Work.{IsReady}
 use Rattle.tb_session.specs.Serve.{Dismisses, served_of}
-use Rattle.tb_session.proofs.HireLemmas.{first-left, no-elements, dismisses-none, dismisses-more, served-more, gates-all, share-all, mine-all, failed-all}
+use Rattle.tb_session.proofs.HireLemmas.{first-left, no-elements, dismisses-none, dismisses-more, served-more, gates-all, share-all, mine-all, spans-all, failed-all}
 use Rattle.tb_session.proofs.serve.dismiss.Goals as goal
 
 pub loop-workers-init : goal.loop-workers-init
@@ -64,6 +64,7 @@ returns g c =
       gates = gates-all v now all left back failed dismisses none;
       share = share-all v now all left back failed dismisses none;
       mine = mine-all v now all left back failed dismisses none;
+      spans = spans-all v now all left back failed dismisses none;
       same = dismisses.same;
       served = omega (arith, c.loop-workers.invariant.served, ap (λ l. sum_by served_of l) none);
       failed = failed-all v now all left back failed dismisses none;

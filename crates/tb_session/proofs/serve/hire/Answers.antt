@@ -73,5 +73,5 @@ returns g c =
       emptied = (none, c.loop-gates.invariant.capacity);
       hired = hires.hired;
       share = hires.share;
-      same = (hires.same, hires.mine);
+      same = (hires.same, hires.mine, hires.spans);
     }

@@ -21,7 +21,8 @@ returns-clause-turns g c =
     turns_done g.G.Gate.gate g.G.Conn.Source.source g.G.Conn.Sink.sink c.args.shared.now v (view c.hire.new.pass)
     (view c.dismiss.new.pass) olds c.work_all.new.workers _ c.args.gates.now.items c.dismiss.new.gates.items worked all
     (ap (λ l. map (λ w. w.gate) l) value ∙ c.hire.ensures.gates) c.dismiss.ensures.gates c.dismiss.ensures.mine
-    c.hire.ensures.same.1 c.requires.new c.dismiss.ensures.share lent c.hire.ensures.same.0 c.dismiss.ensures.same
+    c.hire.ensures.same.1 c.requires.new c.dismiss.ensures.spans c.hire.ensures.same.2
+    c.dismiss.ensures.share lent c.hire.ensures.same.0 c.dismiss.ensures.same
     c.dismiss.result.0 c.dismiss.result.1 c.dismiss.ensures.served c.dismiss.ensures.failed
 
 pub dismiss-requires-clause-few : goal.dismiss-requires-clause-few

@@ -1,12 +1,13 @@
 -- One request, by how its reply was sent.
-use Rattle.std.proofs.Common.{◌≡◌, ℕ, List, [], sym, ◌∙◌, subst}
-use Rattle.tb_gates.specs.Links.{link_of, Moved}
+use Rattle.std.proofs.Common.{◌≡◌, ℕ, List, sym, ◌∙◌, subst}
+use Rattle.tb_gates.specs.Links.{link_of}
 use Rattle.tb_lock.specs.declared.view.View.{View}
 use Rattle.tb_lock.specs.Passes.{view}
 use Rattle.tb_wire.specs.declared.cutting.HttpRequest.{HttpRequest}
 use Rattle.tb_session.specs.declared.answer.Answer.{Answer}
 use Rattle.tb_session.specs.Replies.{reply_text}
 use Rattle.tb_session.specs.Serving.{Answers, ServesOn}
+use Rattle.tb_session.specs.Session.{Wrote}
 use Rattle.tb_session.proofs.SessionLemmas.{one-on, one-asked, one-turns, one-unwritten, one-lacking}
 use Rattle.tb_session.proofs.WriteLemmas.{unsent-fails, unsent-lacks, unsent-may}
 use Rattle.tb_session.proofs.session.serve_one.Goals as goal
@@ -40,14 +41,14 @@ returns-in-Ok-3-clause-on g c =
     let b = link_of g.K.Source.source g.K.Sink.sink c.send.new.link in
     let said = c.answer_request-answer.result in
     let answers = answers-at _ _ _ _ _ _ c.waiting.ensures c.answer_request-answer.ensures.answers in
-    let moved = subst (λ k. Moved a b [] (reply_text said c.args.request.now.target k)) c.if-close.false
+    let wrote = subst (λ k. Wrote a b (reply_text said c.args.request.now.target k)) c.if-close.false
     c.in-Ok-3.ensures.sends.0 in
     subst
     (λ n. ServesOn c.args.turns 1 c.args.inbox.now (view c.args.pass.now) (view c.answer_request-answer.new.pass) a b n)
     (sym c.used.ensures)
     (one-on c.args.turns c.args.inbox.now (view c.args.pass.now) (view c.answer_request-answer.new.pass) a b
     c.args.request.now said answers c.requires.front c.requires.few (sym c.closes-close.ensures ∙ c.if-close.false)
-    moved c.in-Ok-3.ensures.sends.1)
+    wrote c.in-Ok-3.ensures.sends.1)
 
 pub returns-in-Err-WriteFault-clause-ended : goal.returns-in-Err-WriteFault-clause-ended
 returns-in-Err-WriteFault-clause-ended g c =

@@ -1,10 +1,10 @@
 -- A link, request by request.
 use Rattle.std.proofs.Common.{[], refl, sym, subst, arith}
 use Rattle.tb_gates.specs.Links.{link_of}
-use Rattle.tb_gates.proofs.CallerLemmas.{moved-nothing}
 use Rattle.tb_lock.specs.Passes.{view}
 use Rattle.tb_session.specs.Serving.{ServesOn}
-use Rattle.tb_session.proofs.SessionLemmas.{serves-few, serves-reads, serves-ends, serves-idle, round-on, round-ended}
+use Rattle.tb_session.proofs.GainLemmas.{gains-nothing}
+use Rattle.tb_session.proofs.SessionLemmas.{serves-few, serves-nothing, serves-ends, serves-idle, round-on, round-ended}
 use Rattle.tb_session.proofs.session.serve_requests.Goals as goal
 
 pub loop-round-init : goal.loop-round-init
@@ -15,7 +15,7 @@ loop-round-init g c =
       own = c.requires.own;
       idle = c.requires.idle;
       on = subst (λ n. ServesOn 0 0 [] v v a a n) (sym c.new-inbox.ensures)
-          (serves-reads 0 [] [] [] v a a (omega arith) (moved-nothing a) refl);
+          (serves-nothing 0 [] v v a (omega arith) (gains-nothing v));
       least = omega arith;
     }
 
@@ -31,17 +31,14 @@ serve_next-requires-clause-few g c = serves-few _ _ _ _ _ _ _ c.loop-round.invar
 
 pub returns-in-Err-serve_next-clause-served : goal.returns-in-Err-serve_next-clause-served
 returns-in-Err-serve_next-clause-served g c =
-    let few = serves-few _ _ _ _ _ _ _ c.loop-round.invariant.on in
-    round-ended c.loop-round.turns [] c.loop-round.inbox _ _ _ _ _ _ _ _ c.in-Ok.request few
+    round-ended c.loop-round.turns [] c.loop-round.inbox _ _ _ _ _ _ _ _ c.in-Ok.request
     c.loop-round.invariant.on c.in-Ok.ensures.hears c.in-Err-serve_next.ended c.in-Err-serve_next.ensures.ended
 
 pub loop-round-preserved : goal.loop-round-preserved
-loop-round-preserved g c =
-    let few = serves-few _ _ _ _ _ _ _ c.loop-round.invariant.on in
-    record {
-      own = c.in-Ok-serve_next.ensures.own;
-      idle = c.in-Ok-serve_next.ensures.idle;
-      on = round-on c.loop-round.turns [] c.loop-round.inbox _ _ _ _ _ _ _ _ c.in-Ok.request few
-          c.loop-round.invariant.on c.in-Ok.ensures.hears c.in-Ok-serve_next.count _ c.in-Ok-serve_next.ensures.on;
-      least = omega (arith, c.loop-round.invariant.least, c.in-Ok-serve_next.ensures.some);
-    }
+loop-round-preserved g c = record {
+  own = c.in-Ok-serve_next.ensures.own;
+  idle = c.in-Ok-serve_next.ensures.idle;
+  on = round-on c.loop-round.turns [] c.loop-round.inbox _ _ _ _ _ _ _ _ c.in-Ok.request c.loop-round.invariant.on
+      c.in-Ok.ensures.hears c.in-Ok-serve_next.count _ c.in-Ok-serve_next.ensures.some c.in-Ok-serve_next.ensures.on;
+  least = omega (arith, c.loop-round.invariant.least, c.in-Ok-serve_next.ensures.some);
+}

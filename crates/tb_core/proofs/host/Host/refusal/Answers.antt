@@ -1,10 +1,11 @@
 -- The message is of the kind that the arm is for.
 use Rattle.std.proofs.Common.{◌∙◌, sym, ap}
 use Rattle.tb_message.specs.declared.message.Message.{Message}
+use Rattle.tb_message.specs.Kinds.{party_of}
+use Rattle.tb_message.specs.Messages.{kind_of}
 use Rattle.tb_terms.specs.Rows.{refusal_in}
 use Rattle.tb_history.specs.Tables.{rows_of}
-use Rattle.tb_history.specs.Entries.{is_operators}
-use Rattle.tb_core.proofs.ParRowLemmas.{caller_registered}
+use Rattle.tb_history.proofs.ToldLemmas.{sender-registered}
 use Rattle.tb_core.proofs.host.Host.refusal.Goals as goal
 
 pub returns-in-Announce : goal.returns-in-Announce
@@ -33,21 +34,21 @@ returns-in-Settle c =
 
 pub transfer-requires : goal.transfer-requires
 transfer-requires c =
-    caller_registered c.args.self.now.history c.args.sender.now c.args.message.now c.requires.caller
+    sender-registered c.args.self.now.history c.args.sender.now c.args.message.now c.requires.caller
     c.requires.permitted
-    (ap is_operators c.in-Transfer.is)
+    (ap (λ (m : Message). party_of (kind_of m)) c.in-Transfer.is)
 
 pub pledge-requires : goal.pledge-requires
 pledge-requires c =
-    caller_registered c.args.self.now.history c.args.sender.now c.args.message.now c.requires.caller
+    sender-registered c.args.self.now.history c.args.sender.now c.args.message.now c.requires.caller
     c.requires.permitted
-    (ap is_operators c.in-Pledge.is)
+    (ap (λ (m : Message). party_of (kind_of m)) c.in-Pledge.is)
 
 pub release-requires : goal.release-requires
 release-requires c =
-    caller_registered c.args.self.now.history c.args.sender.now c.args.message.now c.requires.caller
+    sender-registered c.args.self.now.history c.args.sender.now c.args.message.now c.requires.caller
     c.requires.permitted
-    (ap is_operators c.in-Release.is)
+    (ap (λ (m : Message). party_of (kind_of m)) c.in-Release.is)
 
 pub returns-in-Transfer : goal.returns-in-Transfer
 returns-in-Transfer c =

@@ -1,6 +1,6 @@
 -- A turn keeps what holds of every desk.
-use Rattle.std.proofs.Common.{[], ◌∷◌, arith}
-use Rattle.tb_desk.specs.Desks.{replies_of}
+use Rattle.std.proofs.Common.{[], ◌∷◌, map, arith}
+use Rattle.tb_desk.specs.Desks.{noted, replies_of}
 use Rattle.tb_desk.proofs.AnswerLemmas.{replies-none}
 use Rattle.tb_desk.proofs.DeskLemmas.{Stands-leaves, IsDesk-turn}
 use Rattle.tb_desk.proofs.desk.Desk.submit.Goals as goal
@@ -21,9 +21,10 @@ invariant_of-self g c =
           })
           (record { history = inside.host.history; doubt = inside.doubt.items })
           (record { history = new.host.history; doubt = new.doubt.items }) (replies_of reply) ensures.turn.at
-          inside.recovered inside.faults c.faults_after-self-inside.result c.self.invariant.0 ensures.stands
+          inside.recovered inside.faults c.faults_after-self-inside.result (map noted inside.doubted.items)
+          (map noted c.note.new.doubted.items) c.self.invariant.0 ensures.stands
           (omega arith) ensures.turn.turn ensures.crash ensures.count (λ none. ensures.fault (replies-none reply none))
-          c.faults_after-self-inside.ensures,
+          c.faults_after-self-inside.ensures c.note.ensures,
       record { entries_fit = ensures.buffers.0; bytes_fit = ensures.buffers.1 },
     )
 

@@ -1,6 +1,8 @@
 -- A turn keeps what holds of every desk.
+use Rattle.std.proofs.Common.{List, ◌++◌, map, ap, ◌∙◌}
+use Rattle.tb_desk.specs.Desks.{PlacedGroup, noted}
 use Rattle.tb_desk.proofs.AnswerLemmas.{turn-sure}
-use Rattle.tb_desk.proofs.GroupAnswerLemmas.{told-none, told-some, told-counts}
+use Rattle.tb_desk.proofs.GroupAnswerLemmas.{told-none, told-some, told-counts, told-doubted}
 use Rattle.tb_desk.proofs.DeskLemmas.{Stands-leaves, IsDesk-turn}
 use Rattle.tb_desk.proofs.desk.Desk.submit_group.Goals as goal
 
@@ -17,11 +19,15 @@ invariant_of-self g c =
           (record { submitter = c.args.submitter.now; moment = c.args.moment; messages = c.args.messages.now })
           (record { history = inside.host.history; doubt = inside.doubt.items })
           (record { history = new.host.history; doubt = new.doubt.items }) told.0 told.2.at inside.recovered
-          inside.faults c.faults_after_group-self-inside.result c.self.invariant.0 ensures.stands
+          inside.faults c.faults_after_group-self-inside.result (map noted inside.doubted.items)
+          (map noted c.note_group.new.doubted.items) c.self.invariant.0 ensures.stands
           c.requires.size.1 told.2.turn
           ensures.crash ensures.count (λ none. ensures.fault (told-none reply new.verdicts told.0 told.1 none))
           (told-counts reply new.verdicts told.0 inside.faults c.faults_after_group-self-inside.result told.1
-          c.faults_after_group-self-inside.ensures),
+          c.faults_after_group-self-inside.ensures)
+          (c.note_group.ensures ∙ ap (λ (more : List PlacedGroup). map noted inside.doubted.items ++ more)
+          (told-doubted reply new.verdicts told.0 (record { history = new.host.history; doubt = new.doubt.items })
+          told.1)),
       record { entries_fit = ensures.buffers.0; bytes_fit = ensures.buffers.1 },
     )
 

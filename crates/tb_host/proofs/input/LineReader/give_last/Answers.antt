@@ -3,8 +3,8 @@ use Rattle.std.specs.Prelude.{length}
 use Rattle.tb_host.proofs.ReaderLemmas.{GaveLast-line, gave_last-line, gave_last-rest, gave_last-size}
 use Rattle.tb_host.proofs.input.LineReader.give_last.Goals as goal
 
-pub returns : goal.returns
-returns c =
+pub returns-clause-gave : goal.returns-clause-gave
+returns-clause-gave c =
     let size = ap length c.unread-count.ensures in
     GaveLast-line c.line_or_too_long.result c.args.self.now _
     (gave_last-line c.args.self.now.text.items c.args.self.now.at _ size c.requires c.if-count-eq0.false)

@@ -1,5 +1,5 @@
 use Rattle.std.proofs.Common.{◌≡◌, ◌-◌, length}
-use Rattle.tb_host.specs.Lines.{unread, ahead}
+use Rattle.tb_host.specs.Lines.{StaysAtEnd, ahead, unread}
 use Rattle.tb_host.proofs.ReadsLemmas.{ReadsForLine}
 use Rattle.tb_host.proofs.input.LineReader.next_line.Given as goal
 
@@ -9,6 +9,7 @@ invariant-loop-end g l =
     let source = g.I.Source.source in
     (ahead l.self (source l.input) ≡ ahead l.fn.self (source l.fn.input))
     × ReadsForLine (source l.fn.input) (source l.input) (unread l.self)
+    × StaysAtEnd l.fn.self l.self (source l.fn.input) (source l.input)
 
 -- bytes that a line may still have
 abbrev pub decreases-loop-end : goal.decreases-loop-end

@@ -22,7 +22,11 @@ returns g c =
         grown = subst (λ l. drop c.self.inside.at c.extend_from_slice.new.self.items ≡ l ++ piece)
             (c.self.view_is ∙ c.settle.ensures)
             (grown_by c.self.inside.at c.self.inside.bytes.items c.extend_from_slice.new.self.items piece within items);
-        brings = (sym (length-take-le c.in-Ok.count read gives.within), λ is. none_left _ _ _ _ gives is);
+        brings = (
+          sym (length-take-le c.in-Ok.count read gives.within),
+          λ is. none_left _ _ _ _ gives is,
+          record { one_read = gives.one_read; no_fault = gives.no_fault },
+        );
       };
     }
 
@@ -34,7 +38,7 @@ returns-then-is_err g c = record {
     grown = subst (λ l. drop c.self.inside.at c.reserve.new.self.items ≡ l ++ [])
         (c.self.view_is ∙ c.settle.ensures)
         (grown_not c.self.inside.at c.self.inside.bytes.items c.reserve.new.self.items c.reserve.ensures.items);
-    brings = refl;
+    brings = (refl, refl);
   };
 }
 
@@ -51,6 +55,6 @@ returns-in_default g c =
         grown = subst (λ l. drop c.self.inside.at c.reserve.new.self.items ≡ l ++ [])
             (c.self.view_is ∙ c.settle.ensures)
             (grown_not c.self.inside.at c.self.inside.bytes.items c.reserve.new.self.items c.reserve.ensures.items);
-        brings = (refl, fails.rose);
+        brings = (refl, record { one_read = fails.one_read; rose = fails.rose });
       };
     }

@@ -1,0 +1,169 @@
+-- Why a command ends as it does: which count of faults has risen.
+use Rattle.std.proofs.Common.{◌≡◌, ℕ, List, Bool, subst, sym, ap, refl}
+use Rattle.tb_link.specs.Counts.{Rose}
+use Rattle.tb_link.specs.Sources.{SourceState}
+use Rattle.tb_link.specs.Sinks.{SinkState}
+use Rattle.tb_gates.specs.Clocks.{ClockState}
+use Rattle.tb_gates.specs.Gates.{GateState}
+use Rattle.tb_desk.specs.declared.fault.OpenFault.{OpenFault}
+use Rattle.tb_desk.specs.declared.fault.OpenFault.TheVariants as fault
+use Rattle.tb_host.specs.AwardRun.{AwardEnds}
+use Rattle.tb_host.specs.DiskRun.{Unopened}
+use Rattle.tb_host.specs.Endings.{ending_of, of_disk, of_print, of_serve, of_text}
+use Rattle.tb_host.specs.HostRun.{HasCause, Objects, devices, handed}
+use Rattle.tb_host.specs.ImportRun.{ImportEnds}
+use Rattle.tb_host.specs.ReportRun.{ReportEnds}
+use Rattle.tb_host.specs.RunEnds.{RunEnds}
+use Rattle.tb_host.specs.ServeRun.{ServeEnds, ToldEnds, served_text}
+use Rattle.tb_host.specs.TrialRun.{TrialEnds}
+use Rattle.tb_host.specs.declared.command_endings.DiskEnding.{DiskEnding}
+use Rattle.tb_host.specs.declared.command_endings.DiskEnding.TheVariants as disk_ending
+use Rattle.tb_host.specs.declared.command_endings.PrintEnding.{PrintEnding}
+use Rattle.tb_host.specs.declared.command_endings.PrintEnding.TheVariants as print_ending
+use Rattle.tb_host.specs.declared.command_endings.ServeEnding.{ServeEnding}
+use Rattle.tb_host.specs.declared.command_endings.ServeEnding.TheVariants as serve_ending
+use Rattle.tb_host.specs.declared.command_endings.TextEnding.{TextEnding}
+use Rattle.tb_host.specs.declared.command_endings.TextEnding.TheVariants as text_ending
+use Rattle.tb_host.specs.declared.ending.Ending.{Ending}
+use Rattle.tb_host.specs.declared.ending.Ending.TheVariants as ending
+use Rattle.tb_host.specs.declared.report_command.Inquiry.{Inquiry}
+use Rattle.tb_host.specs.declared.sender.Sender.{Sender}
+use Rattle.tb_host.proofs.ServeLemmas.{OneRose-runs}
+
+module _ {G K : Type 0} (gate : G → GateState K) (old new : Objects G) where
+  -- what a fault of this ending is told of, if it is told of one
+  abbrev FaultOf : Ending → Type 0
+  FaultOf ending.Done = (new.input.faults ≡ old.input.faults) × (new.out.faults ≡ old.out.faults)
+  FaultOf ending.ReadFault = Rose old.input.faults new.input.faults
+  FaultOf ending.WriteFault = Rose old.out.faults new.out.faults
+  FaultOf ending.DiskFault = Rose old.disk.faults new.disk.faults
+  FaultOf ending.GateFault = Rattle.tb_host.specs.ServeRun.OneRose gate old.gates new.gates
+  FaultOf other = Unit {0}
+
+  -- an ending whose fault is so has its cause
+  HasCause-of : (ended : Ending) → FaultOf ended → HasCause gate ended old new
+  HasCause-of ended is = record {
+    read = λ same. subst FaultOf same is;
+    write = λ same. subst FaultOf same is;
+    disk = λ same. subst FaultOf same is;
+    gates = λ same. subst FaultOf same is;
+    none = λ same. subst FaultOf same is;
+  }
+
+  -- outside the command set, and for want of memory, there is none to have
+  pub usage-cause : HasCause gate ending.Usage old new
+  usage-cause = HasCause-of ending.Usage tt
+
+  pub memory-cause : HasCause gate ending.OutOfMemory old new
+  memory-cause = HasCause-of ending.OutOfMemory tt
+
+  -- `award`
+  pub award-cause : (full : Bool) (own : TextEnding)
+      → AwardEnds full own old.input new.input old.out new.out
+      → HasCause gate (of_text own) old new
+  award-cause full text_ending.Done ends = HasCause-of ending.Done (ends.0.no_fault, ends.1)
+  award-cause full (text_ending.BadInput number) ends = HasCause-of (ending.BadInput number) tt
+  award-cause full text_ending.ReadFault ends = HasCause-of ending.ReadFault ends.1
+  award-cause full text_ending.WriteFault ends = HasCause-of ending.WriteFault ends.0
+  award-cause full text_ending.OutOfMemory ends = HasCause-of ending.OutOfMemory tt
+
+  -- a disk that wasn't opened
+  unopened-cause : (why : OpenFault) → Unopened why old.disk new.disk → HasCause gate (ending_of why) old new
+  unopened-cause fault.DiskFault unopened = HasCause-of ending.DiskFault (unopened.rose refl)
+  unopened-cause (fault.NotAJournal found) unopened = HasCause-of (ending.NotAJournal found) tt
+  unopened-cause (fault.Damaged place) unopened = HasCause-of (ending.Damaged place) tt
+  unopened-cause fault.OutOfMemory unopened = HasCause-of ending.OutOfMemory tt
+
+  -- `run`
+  pub run-cause : (operator : List ℕ) (own : DiskEnding TextEnding)
+      → RunEnds operator own old.input new.input (devices old) (devices new)
+      → HasCause gate (of_disk of_text own) old new
+  run-cause operator (disk_ending.Opened text_ending.Done) ends =
+      HasCause-of ending.Done (ends.3.0.no_fault, ends.3.1)
+  run-cause operator (disk_ending.Opened (text_ending.BadInput number)) ends =
+      HasCause-of (ending.BadInput number) tt
+  run-cause operator (disk_ending.Opened text_ending.ReadFault) ends = HasCause-of ending.ReadFault ends.3.0
+  run-cause operator (disk_ending.Opened text_ending.WriteFault) ends = HasCause-of ending.WriteFault ends.3.0
+  run-cause operator (disk_ending.Opened text_ending.OutOfMemory) ends = HasCause-of ending.OutOfMemory tt
+  run-cause operator (disk_ending.Unopened why) none = unopened-cause why none.unopened
+
+  -- `import`
+  pub import-cause : (sender : Sender) (clock clock' : ClockState) (own : DiskEnding TextEnding)
+      → ImportEnds sender clock clock' own old.input new.input (devices old) (devices new)
+      → HasCause gate (of_disk of_text own) old new
+  import-cause sender clock clock' (disk_ending.Opened text_ending.Done) imported =
+      let ends = imported.ends.3 in
+      HasCause-of ending.Done (ends.0.sent.table.no_fault, ends.1)
+  import-cause sender clock clock' (disk_ending.Opened (text_ending.BadInput number)) imported =
+      HasCause-of (ending.BadInput number) tt
+  import-cause sender clock clock' (disk_ending.Opened text_ending.ReadFault) imported =
+      HasCause-of ending.ReadFault imported.ends.3.1
+  import-cause sender clock clock' (disk_ending.Opened text_ending.WriteFault) imported =
+      HasCause-of ending.WriteFault imported.ends.3.0
+  import-cause sender clock clock' (disk_ending.Opened text_ending.OutOfMemory) imported =
+      HasCause-of ending.OutOfMemory tt
+  import-cause sender clock clock' (disk_ending.Unopened why) imported = unopened-cause why imported.ends.unopened
+
+  -- the same of an ending that is this one
+  cause-as : (ended own : Ending) → ended ≡ own → HasCause gate own old new → HasCause gate ended old new
+  cause-as ended own is cause = subst (λ (e : Ending). HasCause gate e old new) (sym is) cause
+
+  report-cause-here : (asked : Inquiry) (own : DiskEnding PrintEnding)
+      → ReportEnds asked own old.input new.input (devices old) (devices new)
+      → HasCause gate (of_disk of_print own) old new
+  report-cause-here asked (disk_ending.Opened print_ending.Done) report =
+      HasCause-of ending.Done (ap (λ (i : SourceState). i.faults) report.unread, report.ends.3.1.2.no_fault)
+  report-cause-here asked (disk_ending.Opened print_ending.WriteFault) report =
+      HasCause-of ending.WriteFault report.ends.3.1.3
+  report-cause-here asked (disk_ending.Opened print_ending.OutOfMemory) report = HasCause-of ending.OutOfMemory tt
+  report-cause-here asked (disk_ending.Unopened why) report = unopened-cause why report.ends.unopened
+
+  -- `report`
+  pub report-cause : (asked : Inquiry) (own : DiskEnding PrintEnding) (ended : Ending)
+      → ended ≡ of_disk of_print own
+      → ReportEnds asked own old.input new.input (devices old) (devices new)
+      → HasCause gate ended old new
+  report-cause asked own ended is report = cause-as ended (of_disk of_print own) is (report-cause-here asked own report)
+
+  trial-cause-here : (seed count : ℕ) (own : PrintEnding)
+      → TrialEnds seed count own old.out new.out
+      → new.input ≡ old.input
+      → HasCause gate (of_print own) old new
+  trial-cause-here seed count print_ending.Done ends unread =
+      HasCause-of ending.Done (ap (λ (i : SourceState). i.faults) unread, ends.no_fault)
+  trial-cause-here seed count print_ending.WriteFault ends unread = HasCause-of ending.WriteFault ends.0
+  trial-cause-here seed count print_ending.OutOfMemory ends unread = HasCause-of ending.OutOfMemory tt
+
+  -- `trial`
+  pub trial-cause : (seed count : ℕ) (own : PrintEnding) (ended : Ending)
+      → ended ≡ of_print own
+      → TrialEnds seed count own old.out new.out
+      → new.input ≡ old.input
+      → HasCause gate ended old new
+  trial-cause seed count own ended is ends unread =
+      cause-as ended (of_print own) is (trial-cause-here seed count own ends unread)
+
+  serve-cause-here : (source : K → SourceState) (sink : K → SinkState) (operator : List ℕ) (clock : ClockState)
+      (own : ServeEnding)
+      → ServeEnds gate source sink operator clock own (handed old) (handed new)
+      → new.input ≡ old.input
+      → HasCause gate (of_serve own) old new
+  serve-cause-here source sink operator clock serve_ending.Done ends unread =
+      HasCause-of ending.Done (ap (λ (i : SourceState). i.faults) unread, ends.4.2.1.no_fault)
+  serve-cause-here source sink operator clock serve_ending.WriteFault ends unread =
+      HasCause-of ending.WriteFault ends.4.2.1.rose
+  serve-cause-here source sink operator clock serve_ending.GateFault ends unread =
+      HasCause-of ending.GateFault (OneRose-runs gate source sink _ old.gates new.gates ends.2 ends.3.are_runs
+      ends.4.2.0)
+  serve-cause-here source sink operator clock (serve_ending.Unserved why) unserved unread =
+      unopened-cause why unserved.unopened
+
+  -- `serve`
+  pub serve-cause : (source : K → SourceState) (sink : K → SinkState) (operator : List ℕ) (clock : ClockState)
+      (own : ServeEnding) (ended : Ending)
+      → ended ≡ of_serve own
+      → ServeEnds gate source sink operator clock own (handed old) (handed new)
+      → new.input ≡ old.input
+      → HasCause gate ended old new
+  serve-cause source sink operator clock own ended is ends unread =
+      cause-as ended (of_serve own) is (serve-cause-here source sink operator clock own ends unread)

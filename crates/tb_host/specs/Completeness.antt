@@ -1,0 +1,69 @@
+-- Which endings a command may have, by what its input and its disk tell.
+use Rattle.std.specs.Prelude.{◌≡◌, ◌⊎◌, ℕ, List, Err, IfSome}
+use Rattle.std.specs.Str.Lines.{lines}
+use Rattle.tb_link.specs.Sources.{SourceState}
+use Rattle.tb_disk.specs.Disks.{DiskState}
+use Rattle.tb_disk.specs.Past.{contents_of}
+use Rattle.tb_desk.specs.Replay.{IsTrueOf, SpeaksOfFile}
+use Rattle.tb_desk.specs.declared.fault.OpenFault.{OpenFault}
+use Rattle.tb_import.specs.Tables.{IsFirstBad, IsTable}
+use Rattle.tb_words.specs.declared.command.Command.{Command}
+use Rattle.tb_words.specs.declared.command.Command.TheVariants as command
+use Rattle.tb_host.specs.Books.{HasBadLine, HasBook}
+use Rattle.tb_host.specs.Endings.{ending_of}
+use Rattle.tb_host.specs.HostRun.{HasHistory}
+use Rattle.tb_host.specs.ImportRun.{SentRow}
+use Rattle.tb_host.specs.Scripts.{HasScript, LeavesScript}
+use Rattle.tb_host.specs.Told.{WhereTold}
+use Rattle.tb_host.specs.declared.ending.Ending.{Ending}
+use Rattle.tb_host.specs.declared.ending.Ending.TheVariants as ending
+
+-- memory ran out, which may come at any time
+abbrev pub LackedMemory : Ending → Type 0
+LackedMemory ended = ended ≡ ending.OutOfMemory
+
+-- the input failed, or memory ran out
+abbrev pub LackedInput : Ending → Type 0
+LackedInput ended = (ended ≡ ending.ReadFault) ⊎ LackedMemory ended
+
+-- all was done, or the output failed, or memory ran out
+abbrev pub IsAnswered : Ending → Type 0
+IsAnswered ended = (ended ≡ ending.Done) ⊎ (ended ≡ ending.WriteFault) ⊎ LackedMemory ended
+
+-- a line is told
+abbrev pub IsRefused : Ending → Type 0
+IsRefused ended = (number : ℕ) × (ended ≡ ending.BadInput number)
+
+-- The disk is opened where it stands for a legal history, unless it fails or memory runs out; a file that is no journal
+-- or is damaged is told so, with the same exceptions.
+pub record Opens (disk : DiskState) (ended : Ending) (Then : Type 0) : Type 0 where
+  pub history : HasHistory disk → (ended ≡ ending.DiskFault) ⊎ LackedMemory ended ⊎ Then
+  pub refused : IfSome disk.past (λ past. (why : OpenFault)
+      → IsTrueOf (contents_of past) (Err why)
+      → SpeaksOfFile (Err why)
+      → (ended ≡ ending_of why) ⊎ (ended ≡ ending.DiskFault) ⊎ LackedMemory ended)
+
+-- A text in the grammar is answered, unless the input fails; and one outside it is refused.
+pub record Answers (ended : Ending) (IsIn IsOutside : Type 0) : Type 0 where
+  pub answered : IsIn → LackedInput ended ⊎ IsAnswered ended
+  pub refused : IsOutside → LackedInput ended ⊎ IsRefused ended
+
+-- the same of a script, whose lines are answered before the one that is outside
+pub record AnswersScript (ended : Ending) (IsIn IsOutside : Type 0) : Type 0 where
+  pub answered : IsIn → LackedInput ended ⊎ IsAnswered ended
+  pub refused : IsOutside → LackedInput ended ⊎ (ended ≡ ending.WriteFault) ⊎ IsRefused ended
+
+-- Each command is answered: its input and its disk decide how it ends, unless an object fails or memory runs out.
+abbrev pub Completes : Command → SourceState → DiskState → Ending → Type 0
+Completes (command.Award full) input disk ended =
+    WhereTold input.left (λ text. Answers ended (HasBook (lines text)) (HasBadLine (lines text)))
+Completes (command.Run operator) input disk ended =
+    Opens disk ended (WhereTold input.left (λ text. AnswersScript ended (HasScript (lines text))
+    ((number : ℕ) × LeavesScript number (lines text))))
+Completes (command.Serve operator port workers links) input disk ended =
+    Opens disk ended ((ended ≡ ending.GateFault) ⊎ IsAnswered ended)
+Completes (command.Import operator caller) input disk ended =
+    Opens disk ended (WhereTold input.left (λ text. Answers ended ((rows : List SentRow) × IsTable text rows)
+    ((number : ℕ) × IsFirstBad text number)))
+Completes (command.Report operator caller asked csv) input disk ended = Opens disk ended (IsAnswered ended)
+Completes (command.Trial seed count) input disk ended = IsAnswered ended

@@ -1,0 +1,178 @@
+//! A client that sends nothing more before it has its reply: it is answered only by a session that doesn't read on while
+//! a whole request waits.
+
+use crate::tests::{FIRST, FIRST_REPLY, Memory, SHAPELESS, SHAPELESS_REPLY, opened};
+use std::alloc::Global;
+use std::process::Abort;
+use std::sync::Wait;
+use std::test::Fail;
+use tb_gates::{Link, PairLink};
+use tb_link::{Failed, Faults, Sink, Source, TextSink, TextSource};
+use tb_lock::TurnLock;
+use tb_session::*;
+
+/// A link whose client sends requests of one size. Where it is read while a whole one of them has no reply, this read
+/// and every later one fail. It tells no bytes.
+#[derive(Drop)]
+struct WaitingLink {
+    pair: PairLink,
+    size: usize,
+    given: usize,
+    replies: usize,
+    reads: u64,
+    lost: bool,
+    faults: Faults,
+}
+
+impl WaitingLink {
+    // Whether the client waits for a reply.
+    fn waits(&self) -> bool {
+        match self.replies.checked_add(1) {
+            Some(next) => self.given >= next.saturating_mul(self.size),
+            None => false,
+        }
+    }
+}
+
+impl Source for WaitingLink {
+    ghost use Rattle.std.specs.Prelude.{None};
+    ghost use Rattle.tb_link.specs.Memory.{text_sink};
+
+    ghost source = { λ link. record { left = None; faults = link.faults.count; reads = link.reads } };
+
+    ghost sink_beside = { λ link. text_sink link.pair.sink };
+
+    fn read(&mut self, into: &mut [u8]) -> Result<usize, Failed> {
+        self.reads = self.reads.saturating_add(1);
+        self.lost |= self.waits();
+        if self.lost {
+            return Err(self.faults.rise());
+        }
+        match self.pair.read(into) {
+            Ok(count) => {
+                self.given = self.given.saturating_add(count);
+                Ok(count)
+            }
+            Err(_) => Err(self.faults.rise()),
+        }
+    }
+
+    ghost bounded = { λ self. self.faults.bounded };
+}
+
+impl Sink for WaitingLink {
+    ghost use Rattle.std.specs.Prelude.{None};
+    ghost use Rattle.tb_link.specs.Memory.{text_sink};
+
+    ghost sink = { λ link. text_sink link.pair.sink };
+
+    ghost source_beside = { λ link. record { left = None; faults = link.faults.count; reads = link.reads } };
+
+    fn write(&mut self, bytes: &[u8]) -> Result<(), Failed> {
+        self.replies = self.replies.saturating_add(1);
+        self.pair.write(bytes)
+    }
+
+    ghost bounded = { λ self. self.pair.sink.faults.bounded };
+}
+
+impl Link for WaitingLink {
+    ghost use Rattle.std.specs.Prelude.{refl};
+
+    ghost sink_is = { λ link. refl };
+
+    ghost source_is = { λ link. refl };
+}
+
+/// So many requests with this text, which come in pieces of at most so many bytes.
+fn link_of(
+    rt: &impl Abort,
+    alloc: Global,
+    request: &str,
+    count: usize,
+    piece: usize,
+) -> Result<WaitingLink, Fail> {
+    assert!(rt; 1 <= piece);
+    let mut text = Vec::new(alloc);
+    for _ in 0..count {
+        text.extend_from_slice(request.as_bytes())?;
+    }
+    Ok(WaitingLink {
+        pair: PairLink {
+            source: TextSource::new(text, piece, Vec::new(alloc)),
+            sink: TextSink::new(alloc, 1_000, Vec::new(alloc))?,
+        },
+        size: request.len(),
+        given: 0,
+        replies: 0,
+        reads: 0,
+        lost: false,
+        faults: Faults::none(),
+    })
+}
+
+/// Serves a link in the room, and says how it ended.
+fn serve<R: Wait + Abort>(
+    rt: &R,
+    alloc: Global,
+    room: Memory,
+    link: &mut WaitingLink,
+) -> Result<(Memory, End), Fail> {
+    assert!(rt; !room.desk.unsure());
+    let Ok((lock, mut pass)) = TurnLock::new(alloc, room) else {
+        assert!(rt; false, "no memory");
+        return Err("no memory")?;
+    };
+    let ended = serve_link(rt, alloc, &lock, &mut pass, link);
+    let Ok(room) = lock.close(pass) else {
+        assert!(rt; false, "a turn is out");
+        return Err("a turn is out")?;
+    };
+    Ok((room, ended))
+}
+
+/// Three requests with this text, each of which has this reply, and one read more finds the end of the input.
+fn three_are_answered<R: Wait + Abort>(
+    rt: &R,
+    alloc: Global,
+    room: Memory,
+    request: &str,
+    piece: usize,
+    reply: &str,
+) -> Result<Memory, Fail> {
+    let mut link = link_of(rt, alloc, request, 3, piece)?;
+    let (room, ended) = serve(rt, alloc, room, &mut link)?;
+    assert!(rt; !link.lost, "pieces of {piece}");
+    assert_eq!(rt; ended, End::EndOfInput);
+    let expected = format!(in alloc; "{reply}{reply}{reply}")?;
+    assert_eq!(rt; link.pair.sink.bytes(), expected.as_bytes());
+    Ok(room)
+}
+
+// Two of them come in one piece, or parts of them.
+#[test]
+fn a_client_that_waits_for_its_replies_is_answered(rt: HostRuntime) -> Result<(), Fail> {
+    let alloc = rt.alloc();
+    let mut room = opened(&rt, alloc, Vec::new(alloc))?;
+    for (request, reply) in [(SHAPELESS, SHAPELESS_REPLY), (FIRST, FIRST_REPLY)] {
+        for piece in [1, 50, request.len(), request.len() * 2] {
+            room = three_are_answered(&rt, alloc, room, request, piece, reply)?;
+        }
+    }
+    Ok(())
+}
+
+/// A request after whose reply the link closes.
+const CLOSING: &str = "GET /elsewhere HTTP/1.1\r\nConnection: close\r\n\r\n";
+
+// The bytes come one by one, so that there is a read for each byte of the first request.
+#[test]
+fn nothing_is_read_behind_the_reply_that_closes(rt: HostRuntime) -> Result<(), Fail> {
+    let alloc = rt.alloc();
+    let room = opened(&rt, alloc, Vec::new(alloc))?;
+    let mut link = link_of(&rt, alloc, CLOSING, 2, 1)?;
+    let (_room, ended) = serve(&rt, alloc, room, &mut link)?;
+    assert_eq!(rt; ended, End::Asked);
+    assert_eq!(rt; link.reads, CLOSING.len() as u64);
+    Ok(())
+}
