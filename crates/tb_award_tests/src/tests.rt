@@ -83,16 +83,15 @@ fn recognise_again(
 }
 
 // The lines are these (steps, bidder, amount).
-fn expect_lines(rt: &impl Abort, recognised: &Recognised, table: &[(u32, u32, u128)]) {
-    assert_eq!(rt; recognised.count(), table.len() as u64);
+fn has_lines(recognised: &Recognised, table: &[(u32, u32, u128)]) -> bool {
     for place in 0..recognised.count() {
         let line = recognised.line(place);
-        assert_eq!(rt;
-            Some((line.rate.steps, line.bidder, line.amount.value)),
-            table.get(place as usize).copied(),
-            "line {place}"
-        );
+        let told = (line.rate.steps, line.bidder, line.amount.value);
+        if table.get(place as usize).copied() != Some(told) {
+            return false;
+        }
     }
+    recognised.count() == table.len() as u64
 }
 
 #[test]
@@ -111,17 +110,18 @@ fn the_limit_is_applied_from_the_lowest_rate_up(rt: HostRuntime) -> Result<(), F
         &[1_000_000_000, 0, 0, 0],
         dollars(10_000_000_000),
     )?;
-    expect_lines(
-        &rt,
-        &recognised,
-        &[
-            (800, 0, 1_000_000_000),
-            (801, 0, 1_000_000_000),
-            (802, 0, 500_000_000),
-            (802, 1, 3_500_000_000),
-            (803, 2, 3_500_000_000),
-            (804, 3, 3_500_000_000),
-        ],
+    assert!(rt;
+        has_lines(
+            &recognised,
+            &[
+                (800, 0, 1_000_000_000),
+                (801, 0, 1_000_000_000),
+                (802, 0, 500_000_000),
+                (802, 1, 3_500_000_000),
+                (803, 2, 3_500_000_000),
+                (804, 3, 3_500_000_000),
+            ]
+        )
     );
     Ok(())
 }
@@ -130,7 +130,7 @@ fn the_limit_is_applied_from_the_lowest_rate_up(rt: HostRuntime) -> Result<(), F
 fn bids_at_one_rate_are_added_and_cut_to_the_cap(rt: HostRuntime) -> Result<(), Fail> {
     let bids = [(800, 0, 200_000_000), (800, 0, 250_000_000)];
     let recognised = recognised_of(&rt, rt.alloc(), &bids, &[0], dollars(1_000_000_000))?;
-    expect_lines(&rt, &recognised, &[(800, 0, 350_000_000)]);
+    assert!(rt; has_lines(&recognised, &[(800, 0, 350_000_000)]));
     Ok(())
 }
 
@@ -153,15 +153,16 @@ fn positions_lower_the_limit(rt: HostRuntime) -> Result<(), Fail> {
         &positions,
         dollars(1_000_000_000),
     )?;
-    expect_lines(
-        &rt,
-        &recognised,
-        &[
-            (800, 1, 350_000_000),
-            (800, 2, 349_999_900),
-            (802, 3, 200_000_000),
-            (803, 3, 150_000_000),
-        ],
+    assert!(rt;
+        has_lines(
+            &recognised,
+            &[
+                (800, 1, 350_000_000),
+                (800, 2, 349_999_900),
+                (802, 3, 200_000_000),
+                (803, 3, 150_000_000),
+            ]
+        )
     );
     Ok(())
 }
@@ -170,34 +171,26 @@ fn positions_lower_the_limit(rt: HostRuntime) -> Result<(), Fail> {
 fn limits_are_in_hundreds(rt: HostRuntime) {
     let offering = dollars(1_000_000_000);
     assert_eq!(rt; cap(offering).value, 350_000_000);
-    for (position, expected) in [
-        (0, 350_000_000),
-        (50, 349_999_900),
-        (100, 349_999_900),
-        (-100, 350_000_000),
-        (349_999_900, 100),
-        (349_999_901, 0),
-        (400_000_000, 0),
-    ] {
-        assert_eq!(rt; limit(offering, position).value, expected, "at {position}");
-    }
+    assert!(rt; limit(offering, 0).value == 350_000_000);
+    assert!(rt; limit(offering, 50).value == 349_999_900);
+    assert!(rt; limit(offering, 100).value == 349_999_900);
+    assert!(rt; limit(offering, -100).value == 350_000_000);
+    assert!(rt; limit(offering, 349_999_900).value == 100);
+    assert!(rt; limit(offering, 349_999_901).value == 0);
+    assert!(rt; limit(offering, 400_000_000).value == 0);
+}
+
+// So much is sought of 1,000,000,000.
+fn seeks(noncompetitive: Dollars, floor: Dollars, wanted: u128) -> bool {
+    sought(dollars(1_000_000_000), noncompetitive, floor).value == wanted
 }
 
 #[test]
 fn the_amount_sought_has_a_floor(rt: HostRuntime) {
-    for (noncompetitive, floor, expected) in [
-        (100_000_000, 1_000_000, 900_000_000),
-        (900_000_000, 100_000_000, 100_000_000),
-        (950_000_000, 100_000_000, 100_000_000),
-        (1_200_000_000, 100_000_000, 100_000_000),
-    ] {
-        let amount = sought(
-            dollars(1_000_000_000),
-            dollars(noncompetitive),
-            dollars(floor),
-        );
-        assert_eq!(rt; amount.value, expected, "{noncompetitive} and {floor}");
-    }
+    assert!(rt; seeks(dollars(100_000_000), dollars(1_000_000), 900_000_000));
+    assert!(rt; seeks(dollars(900_000_000), dollars(100_000_000), 100_000_000));
+    assert!(rt; seeks(dollars(950_000_000), dollars(100_000_000), 100_000_000));
+    assert!(rt; seeks(dollars(1_200_000_000), dollars(100_000_000), 100_000_000));
 }
 
 #[test]
@@ -205,12 +198,12 @@ fn new_lines_take_the_place_of_old_ones(rt: HostRuntime) -> Result<(), Fail> {
     let alloc = rt.alloc();
     let old = [(800, 0, 350_000_000), (801, 1, 100_000_000)];
     let mut recognised = recognised_of(&rt, alloc, &old, &[0, 0], dollars(1_000_000_000))?;
-    expect_lines(&rt, &recognised, &old);
+    assert!(rt; has_lines(&recognised, &old));
     let new = [(900, 0, 300_000_000)];
     recognise_again(&rt, alloc, &mut recognised, &new, &[0])?;
-    expect_lines(&rt, &recognised, &new);
+    assert!(rt; has_lines(&recognised, &new));
     recognise_again(&rt, alloc, &mut recognised, &[], &[])?;
-    expect_lines(&rt, &recognised, &[]);
+    assert!(rt; has_lines(&recognised, &[]));
     Ok(())
 }
 
@@ -218,10 +211,10 @@ fn new_lines_take_the_place_of_old_ones(rt: HostRuntime) -> Result<(), Fail> {
 fn want_of_memory_leaves_the_lines(rt: HostRuntime) -> Result<(), Fail> {
     let bids = [(800, 0, 100_000_000)];
     let mut recognised = recognised_of(&rt, rt.alloc(), &bids, &[0], dollars(1_000_000_000))?;
-    for (lines, bidders) in [(u64::MAX, 0), (0, u64::MAX)] {
-        assert_eq!(rt; recognised.reserve(lines, bidders), Err(OutOfMemory));
-        expect_lines(&rt, &recognised, &bids);
-    }
+    assert!(rt; recognised.reserve(u64::MAX, 0) == Err(OutOfMemory));
+    assert!(rt; has_lines(&recognised, &bids));
+    assert!(rt; recognised.reserve(0, u64::MAX) == Err(OutOfMemory));
+    assert!(rt; has_lines(&recognised, &bids));
     Ok(())
 }
 
@@ -251,11 +244,7 @@ fn counted_steps_recognise_the_same(rt: HostRuntime) -> Result<(), Fail> {
     let table = [(800, 0, 200_000_000), (801, 0, 250_000_000)];
     let bids = sorted_bids_of(&rt, rt.alloc(), 1, &table)?;
     let recognised = recognised_of_one(rt.alloc(), &bids)?;
-    expect_lines(
-        &rt,
-        &recognised,
-        &[(800, 0, 200_000_000), (801, 0, 150_000_000)],
-    );
+    assert!(rt; has_lines(&recognised, &[(800, 0, 200_000_000), (801, 0, 150_000_000)]));
     Ok(())
 }
 
@@ -307,13 +296,9 @@ fn expect_cut(rt: &impl Abort, cut: &Cut, expected: (u32, u32, u64, u128, u128, 
     assert_eq!(rt; cut.sought.value, sought);
 }
 
-// The awards of amounts at rates, in steps, are these.
-fn expect_awards(rt: &impl Abort, cut: &Cut, table: &[(u32, u128, u128)]) {
-    for (steps, amount, expected) in table.iter().copied() {
-        assert!(rt; steps < 200_000 && amount < 1_000_000_000_000);
-        let award = award(cut, Rate { steps }, dollars(amount));
-        assert_eq!(rt; award.value, expected, "{amount} at {steps}");
-    }
+// So much is awarded of an amount at a rate.
+fn awards(cut: &Cut, rate: Rate, amount: Dollars, wanted: u128) -> bool {
+    award(cut, rate, amount).value == wanted
 }
 
 #[test]
@@ -339,16 +324,24 @@ fn the_stop_is_where_the_amount_sought_is_reached(rt: HostRuntime) -> Result<(),
         &cut,
         (1066, 5556, 98_652_694, below, at_stop, 900_000_000),
     );
-    expect_awards(
-        &rt,
-        &cut,
-        &[
-            (1065, 350_000_000, 350_000_000),
-            (1066, 350_000_000, 194_460_000),
-            (1066, 100_000_000, 55_560_000),
-            (1067, 100_000_000, 0),
-        ],
+    assert!(rt;
+        awards(
+            &cut,
+            Rate { steps: 1065 },
+            dollars(350_000_000),
+            350_000_000
+        )
     );
+    assert!(rt;
+        awards(
+            &cut,
+            Rate { steps: 1066 },
+            dollars(350_000_000),
+            194_460_000
+        )
+    );
+    assert!(rt; awards(&cut, Rate { steps: 1066 }, dollars(100_000_000), 55_560_000));
+    assert!(rt; awards(&cut, Rate { steps: 1067 }, dollars(100_000_000), 0));
     assert_eq!(rt; sum, 900_020_000);
     assert_eq!(rt; (median, low), (1065, 1064));
     Ok(())
@@ -378,14 +371,15 @@ fn the_percentage_is_the_least_that_reaches_the_amount_sought(rt: HostRuntime) -
         &cut,
         (1002, 3334, 98_733_583, below, at_stop, 300_000_000),
     );
-    expect_awards(
-        &rt,
-        &cut,
-        &[
-            (1000, 105_000_000, 105_000_000),
-            (1002, 90_000_000, 30_006_000),
-        ],
+    assert!(rt;
+        awards(
+            &cut,
+            Rate { steps: 1000 },
+            dollars(105_000_000),
+            105_000_000
+        )
     );
+    assert!(rt; awards(&cut, Rate { steps: 1002 }, dollars(90_000_000), 30_006_000));
     assert_eq!(rt; sum, 300_018_000);
     assert_eq!(rt; (median, low), (1000, 1000));
     Ok(())
@@ -411,38 +405,35 @@ fn a_short_auction_stops_at_its_greatest_rate_and_is_awarded_whole(
         &cut,
         (900, 10_000, 98_862_500, below, at_stop, 900_000_000),
     );
-    expect_awards(
-        &rt,
-        &cut,
-        &[
-            (800, 100_000_000, 100_000_000),
-            (900, 200_000_000, 200_000_000),
-        ],
-    );
+    assert!(rt; awards(&cut, Rate { steps: 800 }, dollars(100_000_000), 100_000_000));
+    assert!(rt; awards(&cut, Rate { steps: 900 }, dollars(200_000_000), 200_000_000));
     assert_eq!(rt; sum, 300_000_000);
     assert_eq!(rt; (median, low), (900, 800));
     Ok(())
 }
 
+// The median and the low rate of an auction where so much is bid at the steps 700, 800 and 900, all of it awarded.
+fn rates_of_three(
+    rt: &impl Abort,
+    alloc: Global,
+    amounts: [u128; 3],
+) -> Result<Option<(u32, u32)>, Fail> {
+    let [low, middle, high] = amounts;
+    let bids = [(700, 0, low), (800, 1, middle), (900, 2, high)];
+    let recognised = recognised_of(rt, alloc, &bids, &[0, 0, 0], dollars(1_000_000_000))?;
+    Ok(match figures(rt, &recognised, 900_000_000) {
+        Some((_, sum, median, low_rate)) if sum == 300_000_000 => Some((median, low_rate)),
+        _ => None,
+    })
+}
+
 #[test]
 fn a_half_and_a_twentieth_of_the_awards_are_enough(rt: HostRuntime) -> Result<(), Fail> {
     // Exactly so much at or below the rate, and 100 dollars less.
-    for (low, middle, high, expected) in [
-        (15_000_000, 135_000_000, 150_000_000, (800, 700)),
-        (14_999_900, 135_000_000, 150_000_100, (900, 800)),
-    ] {
-        let bids = [(700, 0, low), (800, 1, middle), (900, 2, high)];
-        let recognised = recognised_of(&rt, rt.alloc(), &bids, &[0, 0, 0], dollars(1_000_000_000))?;
-        let Some((_, sum, median, low_rate)) = figures(&rt, &recognised, 900_000_000) else {
-            return Err(Fail::from("there is a cut"));
-        };
-        assert_eq!(rt; sum, 300_000_000);
-        assert_eq!(rt;
-            (median, low_rate),
-            expected,
-            "with {low} at the lowest rate"
-        );
-    }
+    let exact = [15_000_000, 135_000_000, 150_000_000];
+    assert!(rt; rates_of_three(&rt, rt.alloc(), exact)? == Some((800, 700)));
+    let less = [14_999_900, 135_000_000, 150_000_100];
+    assert!(rt; rates_of_three(&rt, rt.alloc(), less)? == Some((900, 800)));
     Ok(())
 }
 
@@ -452,31 +443,26 @@ fn nobody_gets_an_award_where_nothing_is_recognised(rt: HostRuntime) {
     assert!(&rt; figures(&rt, &recognised, 900_000_000).is_none());
 }
 
+// A bid of an amount gets so much at the stop-out rate, all below it and nothing above it, at this percentage.
+fn at_the_stop(percent: Percent, amount: Dollars, wanted: u128) -> bool {
+    let cut = Cut {
+        stop: Rate { steps: 1000 },
+        percent,
+        price: Price {
+            millionths: 98_652_694,
+        },
+        below: dollars(0),
+        at_stop: dollars(18_000),
+        sought: dollars(18_000),
+    };
+    awards(&cut, Rate { steps: 999 }, amount, amount.value)
+        && awards(&cut, Rate { steps: 1000 }, amount, wanted)
+        && awards(&cut, Rate { steps: 1001 }, amount, 0)
+}
+
 #[test]
 fn awards_at_the_stop_are_raised_to_the_next_hundred(rt: HostRuntime) {
-    for (hundredths, amount, expected) in [
-        (8827, 18_000, 15_900),
-        (1, 100, 100),
-        (10_000, 18_000, 18_000),
-    ] {
-        let cut = Cut {
-            stop: Rate { steps: 1000 },
-            percent: Percent { hundredths },
-            price: Price {
-                millionths: 98_652_694,
-            },
-            below: dollars(0),
-            at_stop: dollars(18_000),
-            sought: dollars(18_000),
-        };
-        expect_awards(
-            &rt,
-            &cut,
-            &[
-                (999, amount, amount),
-                (1000, amount, expected),
-                (1001, amount, 0),
-            ],
-        );
-    }
+    assert!(rt; at_the_stop(Percent { hundredths: 8827 }, dollars(18_000), 15_900));
+    assert!(rt; at_the_stop(Percent { hundredths: 1 }, dollars(100), 100));
+    assert!(rt; at_the_stop(Percent { hundredths: 10_000 }, dollars(18_000), 18_000));
 }

@@ -95,31 +95,37 @@ fn bid_of(rt: &impl Abort, bidder: &str, number: u64, auction: &str) -> Bid {
 type Bids = Counted<Bid, ByNumber, OfAuction>;
 
 // The first bid of the bidder under the number stands at this place.
-fn expect_place(rt: &impl Abort, bids: &Bids, bidder: &str, number: u64, place: Option<usize>) {
+fn stands_at(
+    rt: &impl Abort,
+    bids: &Bids,
+    bidder: &str,
+    number: u64,
+    place: Option<usize>,
+) -> bool {
     let key = (name(rt, bidder), number);
-    assert_eq!(rt; bids.keyed().find(&key), place);
-    assert_eq!(rt; bids.keyed().has(&key), place.is_some());
+    bids.keyed().find(&key) == place && bids.keyed().has(&key) == place.is_some()
 }
 
 // So many bids are in the auction.
-fn expect_count(rt: &impl Abort, bids: &Bids, auction: &str, count: usize) {
-    assert_eq!(rt; bids.count(&name(rt, auction)), count);
+fn counts(rt: &impl Abort, bids: &Bids, auction: &str, count: usize) -> bool {
+    bids.count(&name(rt, auction)) == count
+}
+
+// Adds a bid, for which there is room.
+fn add(rt: &impl Abort, bids: &mut Bids, bidder: &str, number: u64, auction: &str) {
+    assert!(rt; 0 < bids.spare());
+    bids.push(bid_of(rt, bidder, number, auction));
 }
 
 fn five_bids<R: AllocGlobal + Abort>(rt: &R) -> Result<Bids, OutOfMemory> {
     let mut bids: Bids = Counted::new(rt.alloc());
-    assert_eq!(rt; bids.spare(), 0);
+    assert!(rt; bids.spare() == 0);
     bids.reserve(5)?;
-    for (bidder, number, auction) in [
-        ("ann", 7, "bill13"),
-        ("bob", 7, "bill13"),
-        ("ann", 8, "bill26"),
-        ("ann", 7, "bill26"),
-        ("eve", 1, "bill13"),
-    ] {
-        assert!(rt; 0 < bids.spare());
-        bids.push(bid_of(rt, bidder, number, auction));
-    }
+    add(rt, &mut bids, "ann", 7, "bill13");
+    add(rt, &mut bids, "bob", 7, "bill13");
+    add(rt, &mut bids, "ann", 8, "bill26");
+    add(rt, &mut bids, "ann", 7, "bill26");
+    add(rt, &mut bids, "eve", 1, "bill13");
     assert_eq!(rt; bids.rows().len(), 5);
     Ok(bids)
 }
@@ -128,16 +134,16 @@ fn five_bids<R: AllocGlobal + Abort>(rt: &R) -> Result<Bids, OutOfMemory> {
 fn bids_are_found_by_bidder_and_number_and_counted_by_auction(rt: HostRuntime) -> Result<(), Fail> {
     let bids = five_bids(&rt)?;
     // The first of two that have the same bidder and number.
-    expect_place(&rt, &bids, "ann", 7, Some(0));
-    expect_place(&rt, &bids, "ann", 8, Some(2));
-    expect_place(&rt, &bids, "bob", 8, None);
-    expect_place(&rt, &bids, "eve", 1, Some(4));
-    expect_place(&rt, &bids, "ev", 1, None);
+    assert!(rt; stands_at(&rt, &bids, "ann", 7, Some(0)));
+    assert!(rt; stands_at(&rt, &bids, "ann", 8, Some(2)));
+    assert!(rt; stands_at(&rt, &bids, "bob", 8, None));
+    assert!(rt; stands_at(&rt, &bids, "eve", 1, Some(4)));
+    assert!(rt; stands_at(&rt, &bids, "ev", 1, None));
     let bob = bids.keyed().get(&(name(&rt, "bob"), 7)).copied();
     assert_eq!(rt; bob, Some(bid_of(&rt, "bob", 7, "bill13")));
-    expect_count(&rt, &bids, "bill13", 3);
-    expect_count(&rt, &bids, "bill26", 2);
-    expect_count(&rt, &bids, "bill52", 0);
+    assert!(rt; counts(&rt, &bids, "bill13", 3));
+    assert!(rt; counts(&rt, &bids, "bill26", 2));
+    assert!(rt; counts(&rt, &bids, "bill52", 0));
     Ok(())
 }
 
@@ -147,21 +153,22 @@ fn bids_that_go_are_found_and_counted_no_more(rt: HostRuntime) -> Result<(), Fai
     // The later of the two goes, and the first is still found.
     assert_eq!(rt; bids.pop(), Some(bid_of(&rt, "eve", 1, "bill13")));
     assert_eq!(rt; bids.pop(), Some(bid_of(&rt, "ann", 7, "bill26")));
-    expect_place(&rt, &bids, "ann", 7, Some(0));
-    expect_place(&rt, &bids, "eve", 1, None);
-    expect_count(&rt, &bids, "bill13", 2);
-    expect_count(&rt, &bids, "bill26", 1);
+    assert!(rt; stands_at(&rt, &bids, "ann", 7, Some(0)));
+    assert!(rt; stands_at(&rt, &bids, "eve", 1, None));
+    assert!(rt; counts(&rt, &bids, "bill13", 2));
+    assert!(rt; counts(&rt, &bids, "bill26", 1));
     Ok(())
 }
 
+// Each page is found by its year and by its number where a walk finds it.
 fn expect_same(rt: &impl Abort, pages: &TwiceKeyed<Page, ByYear, ByPage>) {
     for key in 0..9 {
         let by_year = pages.rows().iter().position(|page| page.year == key);
-        assert_eq!(rt; pages.keyed().find(&key), by_year);
-        assert_eq!(rt; pages.keyed().has(&key), by_year.is_some());
+        assert!(rt; pages.keyed().find(&key) == by_year);
+        assert!(rt; pages.keyed().has(&key) == by_year.is_some());
         let by_number = pages.rows().iter().position(|page| page.number == key);
-        assert_eq!(rt; pages.find_other(&key), by_number);
-        assert_eq!(rt; pages.has_other(&key), by_number.is_some());
+        assert!(rt; pages.find_other(&key) == by_number);
+        assert!(rt; pages.has_other(&key) == by_number.is_some());
     }
 }
 
@@ -189,18 +196,27 @@ fn pages_are_found_by_either_key_as_a_walk_finds_them(rt: HostRuntime) -> Result
     Ok(())
 }
 
+type LastBids = Latest<Bid, InAuction>;
+
+fn add_last(
+    rt: &impl Abort,
+    bids: &mut LastBids,
+    bidder: &str,
+    number: u64,
+    auction: &str,
+) -> Result<(), OutOfMemory> {
+    bids.reserve(1)?;
+    assert!(rt; 0 < bids.spare());
+    bids.push(bid_of(rt, bidder, number, auction));
+    Ok(())
+}
+
 #[test]
 fn the_last_bid_of_an_auction_is_found(rt: HostRuntime) -> Result<(), Fail> {
-    let mut bids: Latest<Bid, InAuction> = Latest::new(rt.alloc());
-    for (bidder, number, auction) in [
-        ("ann", 7, "bill13"),
-        ("bob", 7, "bill26"),
-        ("eve", 1, "bill13"),
-    ] {
-        bids.reserve(1)?;
-        assert!(rt; 0 < bids.spare());
-        bids.push(bid_of(&rt, bidder, number, auction));
-    }
+    let mut bids: LastBids = Latest::new(rt.alloc());
+    add_last(&rt, &mut bids, "ann", 7, "bill13")?;
+    add_last(&rt, &mut bids, "bob", 7, "bill26")?;
+    add_last(&rt, &mut bids, "eve", 1, "bill13")?;
     assert_eq!(rt;
         bids.last(&name(&rt, "bill13")).copied(),
         Some(bid_of(&rt, "eve", 1, "bill13"))
@@ -218,17 +234,26 @@ fn the_last_bid_of_an_auction_is_found(rt: HostRuntime) -> Result<(), Fail> {
 
 type Chain = Chained<Bid, ByNumber, OfAuction, InAuction>;
 
-// The bids of bidders, each with its number and auction, one after the other.
-fn chain_of<R: AllocGlobal + Abort>(
-    rt: &R,
-    rows: &[(&str, u64, &str)],
-) -> Result<Chain, OutOfMemory> {
+fn add_in_chain(
+    rt: &impl Abort,
+    bids: &mut Chain,
+    bidder: &str,
+    number: u64,
+    auction: &str,
+) -> Result<(), OutOfMemory> {
+    bids.reserve(1)?;
+    assert!(rt; 0 < bids.spare());
+    bids.push(bid_of(rt, bidder, number, auction));
+    Ok(())
+}
+
+fn five_in_a_chain<R: AllocGlobal + Abort>(rt: &R) -> Result<Chain, OutOfMemory> {
     let mut bids = Chained::new(rt.alloc());
-    for (bidder, number, auction) in rows.iter().copied() {
-        bids.reserve(1)?;
-        assert!(rt; 0 < bids.spare());
-        bids.push(bid_of(rt, bidder, number, auction));
-    }
+    add_in_chain(rt, &mut bids, "ann", 1, "bill13")?;
+    add_in_chain(rt, &mut bids, "bob", 2, "bill26")?;
+    add_in_chain(rt, &mut bids, "ann", 3, "bill13")?;
+    add_in_chain(rt, &mut bids, "eve", 4, "bill13")?;
+    add_in_chain(rt, &mut bids, "eve", 5, "bill26")?;
     Ok(bids)
 }
 
@@ -242,31 +267,22 @@ fn numbers_in(alloc: Global, bids: &Chain, auction: Ident) -> Result<Vec<u64>, O
 }
 
 // The bids in the auction are those with these numbers, in this order.
-fn expect_numbers<R: AllocGlobal + Abort>(
+fn has_numbers<R: AllocGlobal + Abort>(
     rt: &R,
     bids: &Chain,
     auction: &str,
     numbers: &[u64],
-) -> Result<(), OutOfMemory> {
+) -> Result<bool, OutOfMemory> {
     let found = numbers_in(rt.alloc(), bids, name(rt, auction))?;
-    assert_eq!(rt; found.as_slice(), numbers);
-    Ok(())
+    Ok(found.as_slice() == numbers)
 }
-
-const FIVE_BIDS: [(&str, u64, &str); 5] = [
-    ("ann", 1, "bill13"),
-    ("bob", 2, "bill26"),
-    ("ann", 3, "bill13"),
-    ("eve", 4, "bill13"),
-    ("eve", 5, "bill26"),
-];
 
 #[test]
 fn an_auction_is_gone_through_bid_by_bid(rt: HostRuntime) -> Result<(), Fail> {
-    let bids = chain_of(&rt, &FIVE_BIDS)?;
-    expect_numbers(&rt, &bids, "bill13", &[1, 3, 4])?;
-    expect_numbers(&rt, &bids, "bill26", &[2, 5])?;
-    expect_numbers(&rt, &bids, "bill52", &[])?;
+    let bids = five_in_a_chain(&rt)?;
+    assert!(rt; has_numbers(&rt, &bids, "bill13", &[1, 3, 4])?);
+    assert!(rt; has_numbers(&rt, &bids, "bill26", &[2, 5])?);
+    assert!(rt; has_numbers(&rt, &bids, "bill52", &[])?);
     assert_eq!(rt; bids.keyed().find(&(name(&rt, "ann"), 3)), Some(2));
     assert_eq!(rt; bids.count(&name(&rt, "bill13")), 3);
     Ok(())
@@ -274,45 +290,55 @@ fn an_auction_is_gone_through_bid_by_bid(rt: HostRuntime) -> Result<(), Fail> {
 
 #[test]
 fn bids_of_an_auction_go_and_come(rt: HostRuntime) -> Result<(), Fail> {
-    let mut bids = chain_of(&rt, &FIVE_BIDS)?;
+    let mut bids = five_in_a_chain(&rt)?;
     // The two last ones go, and another comes.
     assert!(rt; bids.pop().is_some());
     assert!(rt; bids.pop().is_some());
-    expect_numbers(&rt, &bids, "bill13", &[1, 3])?;
+    assert!(rt; has_numbers(&rt, &bids, "bill13", &[1, 3])?);
     bids.reserve(1)?;
     bids.push(bid_of(&rt, "bob", 6, "bill26"));
-    expect_numbers(&rt, &bids, "bill26", &[2, 6])?;
+    assert!(rt; has_numbers(&rt, &bids, "bill26", &[2, 6])?);
     for _ in 0..4 {
         assert!(rt; bids.pop().is_some());
     }
     assert_eq!(rt; bids.pop(), None);
-    expect_numbers(&rt, &bids, "bill13", &[])?;
+    assert!(rt; has_numbers(&rt, &bids, "bill13", &[])?);
     Ok(())
 }
 
 // Up to the last page before this one of its number there are so many.
-fn expect_before(
+fn ends_before(
     rt: &impl Abort,
     pages: &TwiceKeyed<Page, ByYear, ByPage>,
     place: usize,
     end: usize,
-) {
+) -> bool {
     assert!(rt; place < pages.rows().len());
-    assert_eq!(rt; pages.end_before(place), end);
+    pages.end_before(place) == end
+}
+
+fn add_page(
+    pages: &mut TwiceKeyed<Page, ByYear, ByPage>,
+    year: u64,
+    number: u64,
+) -> Result<(), OutOfMemory> {
+    pages.reserve(1)?;
+    pages.push(Page { year, number });
+    Ok(())
 }
 
 #[test]
 fn pages_of_one_number_lead_back_to_each_other(rt: HostRuntime) -> Result<(), Fail> {
     let mut pages: TwiceKeyed<Page, ByYear, ByPage> = TwiceKeyed::new(rt.alloc());
-    for (year, number) in [(1, 4), (2, 5), (3, 4), (4, 4)] {
-        pages.reserve(1)?;
-        pages.push(Page { year, number });
-    }
+    add_page(&mut pages, 1, 4)?;
+    add_page(&mut pages, 2, 5)?;
+    add_page(&mut pages, 3, 4)?;
+    add_page(&mut pages, 4, 4)?;
     assert_eq!(rt; pages.end_other(&4), 4);
     assert_eq!(rt; pages.end_other(&5), 2);
     assert_eq!(rt; pages.end_other(&6), 0);
-    expect_before(&rt, &pages, 3, 3);
-    expect_before(&rt, &pages, 2, 1);
-    expect_before(&rt, &pages, 0, 0);
+    assert!(rt; ends_before(&rt, &pages, 3, 3));
+    assert!(rt; ends_before(&rt, &pages, 2, 1));
+    assert!(rt; ends_before(&rt, &pages, 0, 0));
     Ok(())
 }

@@ -73,11 +73,43 @@ fn payloads_in(rt: &impl Abort, alloc: Global, file: &[u8]) -> Result<Vec<u8>, F
     let disk = disk_of(rt, alloc, file, Vec::new(alloc), 0)?;
     match Journal::open(alloc, disk) {
         Ok(mut journal) => payloads_of(rt, alloc, &mut journal),
-        Err((_disk, fault)) => {
-            assert!(rt; false, "{fault:?}");
+        Err((_disk, _fault)) => {
+            assert!(rt; false, "not opened");
             Ok(Vec::new(alloc))
         }
     }
+}
+
+// A file is opened: the payloads that it stands for, and what the disk holds afterwards.
+fn opened(
+    rt: &impl Abort,
+    alloc: Global,
+    file: &[u8],
+    found: &[u8],
+    after: &[u8],
+) -> Result<bool, Fail> {
+    let disk = disk_of(rt, alloc, file, Vec::new(alloc), 0)?;
+    match Journal::open(alloc, disk) {
+        Ok(journal) => Ok(
+            journal.into_disk().contents() == after
+                && payloads_in(rt, alloc, file)?.as_slice() == found,
+        ),
+        Err((_disk, _fault)) => Ok(false),
+    }
+}
+
+// A file is refused for this fault, and stays as it is.
+fn refused(
+    rt: &impl Abort,
+    alloc: Global,
+    file: &[u8],
+    wanted: JournalFault,
+) -> Result<bool, Fail> {
+    let disk = disk_of(rt, alloc, file, Vec::new(alloc), 0)?;
+    Ok(match Journal::open(alloc, disk) {
+        Ok(_opened) => false,
+        Err((disk, fault)) => fault == wanted && disk.contents() == file,
+    })
 }
 
 #[test]
@@ -85,60 +117,80 @@ fn files_are_opened(rt: HostRuntime) -> Result<(), Fail> {
     let alloc = rt.alloc();
     let whole = b"TBHOSTJOURNAL001\x01\0\0\0\x03abc\x01\0\0\0\x01d\0rest";
     let empty = b"TBHOSTJOURNAL001\0";
-    for (file, found, after) in [
-        (b"".as_slice(), b"".as_slice(), empty.as_slice()),
-        (b"seventeen bytes..", b"", empty),
-        (b"TBHOSTJOURNAL001\x07x", b"", b"TBHOSTJOURNAL001\x07x"),
-        (whole, b"\x10abc\x18d", whole),
-    ] {
-        let disk = disk_of(&rt, alloc, file, Vec::new(alloc), 0)?;
-        match Journal::open(alloc, disk) {
-            Ok(journal) => {
-                assert_eq!(rt; journal.into_disk().contents(), after);
-            }
-            Err((_disk, fault)) => assert!(rt; false, "{fault:?}"),
-        }
-        assert_eq!(rt; payloads_in(&rt, alloc, file)?.as_slice(), found);
-    }
+    assert!(rt; opened(&rt, alloc, b"", b"", empty)?);
+    assert!(rt; opened(&rt, alloc, b"seventeen bytes..", b"", empty)?);
+    assert!(rt;
+        opened(
+            &rt,
+            alloc,
+            b"TBHOSTJOURNAL001\x07x",
+            b"",
+            b"TBHOSTJOURNAL001\x07x"
+        )?
+    );
+    assert!(rt; opened(&rt, alloc, whole, b"\x10abc\x18d", whole)?);
     Ok(())
 }
 
 #[test]
 fn other_files_are_refused(rt: HostRuntime) -> Result<(), Fail> {
     let alloc = rt.alloc();
-    for (file, want) in [
-        (
-            b"aaaaaaaaaaaaaaaaaa".as_slice(),
-            JournalFault::NotAJournal([b'a'; 16]),
-        ),
-        (
+    assert!(rt;
+        refused(
+            &rt,
+            alloc,
+            b"aaaaaaaaaaaaaaaaaa",
+            JournalFault::NotAJournal([b'a'; 16])
+        )?
+    );
+    assert!(rt;
+        refused(
+            &rt,
+            alloc,
             b"TBHOSTJOURNAL001\x01\0\0\0\x03ab",
-            JournalFault::Damaged(16),
-        ),
-        (b"TBHOSTJOURNAL001\x01\0\0\0", JournalFault::Damaged(16)),
-        (b"TBHOSTJOURNAL001\x01\0\0\0\0\0", JournalFault::Damaged(16)),
-        (
+            JournalFault::Damaged(16)
+        )?
+    );
+    assert!(rt;
+        refused(
+            &rt,
+            alloc,
+            b"TBHOSTJOURNAL001\x01\0\0\0",
+            JournalFault::Damaged(16)
+        )?
+    );
+    assert!(rt;
+        refused(
+            &rt,
+            alloc,
+            b"TBHOSTJOURNAL001\x01\0\0\0\0\0",
+            JournalFault::Damaged(16)
+        )?
+    );
+    assert!(rt;
+        refused(
+            &rt,
+            alloc,
             b"TBHOSTJOURNAL001\x01\0\0\x80\x01abc",
-            JournalFault::Damaged(16),
-        ),
-        (
+            JournalFault::Damaged(16)
+        )?
+    );
+    assert!(rt;
+        refused(
+            &rt,
+            alloc,
             b"TBHOSTJOURNAL001\x01\0\0\0\x01a",
-            JournalFault::Damaged(22),
-        ),
-        (
+            JournalFault::Damaged(22)
+        )?
+    );
+    assert!(rt;
+        refused(
+            &rt,
+            alloc,
             b"TBHOSTJOURNAL001\x01\0\0\0\x01a\x01",
-            JournalFault::Damaged(22),
-        ),
-    ] {
-        let disk = disk_of(&rt, alloc, file, Vec::new(alloc), 0)?;
-        match Journal::open(alloc, disk) {
-            Ok(_opened) => assert!(rt; false, "it was opened"),
-            Err((disk, fault)) => {
-                assert_eq!(rt; fault, want);
-                assert_eq!(rt; disk.contents(), file);
-            }
-        }
-    }
+            JournalFault::Damaged(22)
+        )?
+    );
     Ok(())
 }
 
@@ -156,7 +208,7 @@ fn a_journal_has_the_bytes_of_its_format(rt: HostRuntime) -> Result<(), Fail> {
     let Ok(mut journal) = Journal::open(alloc, disk) else {
         return Ok(assert!(rt; false, "not opened"));
     };
-    assert_eq!(rt; add(&rt, &mut journal, payload), Ok(()));
+    assert!(rt; add(&rt, &mut journal, payload).is_ok());
     assert_eq!(rt; journal.into_disk().contents(), file);
     let mut found = vec![in alloc; 16]?;
     found.extend_from_slice(payload)?;
@@ -169,44 +221,65 @@ fn a_journal_has_the_bytes_of_its_format(rt: HostRuntime) -> Result<(), Fail> {
     Ok(())
 }
 
+// An append of "abc" fails on a disk of which these calls fail and that leaves this byte of a failed write, then `resolve`
+// fails once or not, and tells whether the payload counts. Whether it does, and what the file stands for once "d" is added.
+fn settled(
+    rt: &impl Abort,
+    alloc: Global,
+    fails: Vec<u64>,
+    torn: u8,
+    again: bool,
+) -> Result<(bool, Vec<u8>), Fail> {
+    let disk = disk_of(rt, alloc, b"", fails, torn)?;
+    let Ok(mut journal) = Journal::open(alloc, disk) else {
+        return Err(Fail::from("not opened"));
+    };
+    assert!(rt; add(rt, &mut journal, b"abc").is_err());
+    assert!(rt; !again || settle(rt, &mut journal).is_err());
+    let Ok(counts) = settle(rt, &mut journal) else {
+        return Err(Fail::from("not settled"));
+    };
+    assert!(rt; add(rt, &mut journal, b"d").is_ok());
+    Ok((
+        counts,
+        payloads_in(rt, alloc, journal.into_disk().contents())?,
+    ))
+}
+
+fn counts_at_last(
+    rt: &impl Abort,
+    alloc: Global,
+    fails: Vec<u64>,
+    torn: u8,
+    again: bool,
+) -> Result<bool, Fail> {
+    let (counts, found) = settled(rt, alloc, fails, torn, again)?;
+    Ok(counts && found.as_slice() == b"\x10abc\x18d".as_slice())
+}
+
+fn counts_never(
+    rt: &impl Abort,
+    alloc: Global,
+    fails: Vec<u64>,
+    torn: u8,
+    again: bool,
+) -> Result<bool, Fail> {
+    let (counts, found) = settled(rt, alloc, fails, torn, again)?;
+    Ok(!counts && found.as_slice() == b"\x10d".as_slice())
+}
+
 // Opening an empty disk takes the calls 0 to 3: a sync, the length, a write and a sync. Those of the first append are 4
 // to 7, and then come a sync and a read of `resolve`.
 #[test]
 fn a_payload_in_doubt_is_settled(rt: HostRuntime) -> Result<(), Fail> {
     let alloc = rt.alloc();
-    // The calls that fail, the byte that a failed write leaves, whether `resolve` fails once, and whether the payload
-    // counts.
-    for (first, second, torn, again, want) in [
-        (7, 99, 0, false, true),
-        (7, 8, 0, true, true),
-        (6, 99, 1, false, true),
-        (6, 99, 7, false, false),
-        (6, 8, 7, true, false),
-        (5, 99, 0, false, false),
-        (4, 99, 0, false, false),
-    ] {
-        let disk = disk_of(&rt, alloc, b"", vec![in alloc; first, second]?, torn)?;
-        let Ok(mut journal) = Journal::open(alloc, disk) else {
-            return Ok(assert!(rt; false, "not opened"));
-        };
-        assert_eq!(rt;
-            add(&rt, &mut journal, b"abc"),
-            Err(DiskFault),
-            "call {first}"
-        );
-        if again {
-            assert_eq!(rt; settle(&rt, &mut journal), Err(DiskFault), "call {second}");
-        }
-        assert_eq!(rt; settle(&rt, &mut journal), Ok(want), "call {first}");
-        assert_eq!(rt; add(&rt, &mut journal, b"d"), Ok(()), "call {first}");
-        let found = payloads_in(&rt, alloc, journal.into_disk().contents())?;
-        let want = if want {
-            b"\x10abc\x18d".as_slice()
-        } else {
-            b"\x10d"
-        };
-        assert_eq!(rt; found.as_slice(), want, "call {first}");
-    }
+    assert!(rt; counts_at_last(&rt, alloc, vec![in alloc; 7]?, 0, false)?);
+    assert!(rt; counts_at_last(&rt, alloc, vec![in alloc; 7, 8]?, 0, true)?);
+    assert!(rt; counts_at_last(&rt, alloc, vec![in alloc; 6]?, 1, false)?);
+    assert!(rt; counts_never(&rt, alloc, vec![in alloc; 6]?, 7, false)?);
+    assert!(rt; counts_never(&rt, alloc, vec![in alloc; 6, 8]?, 7, true)?);
+    assert!(rt; counts_never(&rt, alloc, vec![in alloc; 5]?, 0, false)?);
+    assert!(rt; counts_never(&rt, alloc, vec![in alloc; 4]?, 0, false)?);
     Ok(())
 }
 
@@ -266,6 +339,23 @@ fn any_call_may_fail(rt: HostRuntime) -> Result<(), Fail> {
 // The block behind the gate: a length, two bytes of payload and a closed gate.
 const BLOCK: &[u8] = b"\0\0\0\x02ab\0";
 
+// A file with a closed gate and so many bytes behind it stands for no payload, whichever of 0, 1 and 2 these are: so many images.
+fn none_stands(rt: &impl Abort, alloc: Global, size: usize, images: u32) -> Result<bool, Fail> {
+    for image in 0..images {
+        let mut file = HEADER.to_vec(alloc)?;
+        file.push(0)?;
+        let mut digits = image;
+        for _ in 0..size {
+            file.push((digits % 3) as u8)?;
+            digits /= 3;
+        }
+        if !payloads_in(rt, alloc, &file)?.is_empty() {
+            return Ok(false);
+        }
+    }
+    Ok(true)
+}
+
 #[test]
 fn a_crash_leaves_the_old_list_or_the_new(rt: HostRuntime) -> Result<(), Fail> {
     let alloc = rt.alloc();
@@ -273,37 +363,30 @@ fn a_crash_leaves_the_old_list_or_the_new(rt: HostRuntime) -> Result<(), Fail> {
     let Ok(mut journal) = Journal::open(alloc, disk) else {
         return Ok(assert!(rt; false, "not opened"));
     };
-    assert_eq!(rt; add(&rt, &mut journal, b"ab"), Ok(()));
+    assert!(rt; add(&rt, &mut journal, b"ab").is_ok());
     let after = journal.into_disk().contents().to_vec(alloc)?;
     let mut file = HEADER.to_vec(alloc)?;
     file.push(1)?;
     file.extend_from_slice(BLOCK)?;
-    assert_eq!(rt; after, file, "after the fourth call");
-    assert_eq!(rt;
-        payloads_in(&rt, alloc, &file)?.as_slice(),
-        b"\x10ab".as_slice()
-    );
+    assert!(rt; after == file);
+    assert!(rt; payloads_in(&rt, alloc, &file)?.as_slice() == b"\x10ab".as_slice());
     // While the gate byte is written it may be any byte. 0 is what stands there after the second call.
     for gate in 0..=255 {
         let mut file = HEADER.to_vec(alloc)?;
         file.push(gate)?;
         file.extend_from_slice(BLOCK)?;
         let want = if gate == 1 { 3 } else { 0 };
-        assert_eq!(rt; payloads_in(&rt, alloc, &file)?.len(), want, "gate {gate}");
+        assert!(rt; payloads_in(&rt, alloc, &file)?.len() == want);
     }
     // While the block is written, any bytes stand behind the closed gate, up to its end.
-    for (size, images) in [1u32, 3, 9, 27, 81, 243, 729, 2187].iter().enumerate() {
-        for image in 0..*images {
-            let mut file = HEADER.to_vec(alloc)?;
-            file.push(0)?;
-            let mut digits = image;
-            for _ in 0..size {
-                file.push((digits % 3) as u8)?;
-                digits /= 3;
-            }
-            assert_eq!(rt; payloads_in(&rt, alloc, &file)?.len(), 0, "image {image}");
-        }
-    }
+    assert!(rt; none_stands(&rt, alloc, 0, 1)?);
+    assert!(rt; none_stands(&rt, alloc, 1, 3)?);
+    assert!(rt; none_stands(&rt, alloc, 2, 9)?);
+    assert!(rt; none_stands(&rt, alloc, 3, 27)?);
+    assert!(rt; none_stands(&rt, alloc, 4, 81)?);
+    assert!(rt; none_stands(&rt, alloc, 5, 243)?);
+    assert!(rt; none_stands(&rt, alloc, 6, 729)?);
+    assert!(rt; none_stands(&rt, alloc, 7, 2187)?);
     Ok(())
 }
 
@@ -323,7 +406,7 @@ fn the_longest_payload_is_kept(rt: HostRuntime) -> Result<(), Fail> {
     let Ok(mut journal) = Journal::open(alloc, disk) else {
         return Ok(assert!(rt; false, "not opened"));
     };
-    assert_eq!(rt; add(&rt, &mut journal, &payload), Ok(()));
+    assert!(rt; add(&rt, &mut journal, &payload).is_ok());
     let Ok(mut journal) = Journal::open(alloc, journal.into_disk()) else {
         return Ok(assert!(rt; false, "not opened again"));
     };
