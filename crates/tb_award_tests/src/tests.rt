@@ -170,7 +170,7 @@ fn positions_lower_the_limit(rt: HostRuntime) -> Result<(), Fail> {
 #[test]
 fn limits_are_in_hundreds(rt: HostRuntime) {
     let offering = dollars(1_000_000_000);
-    assert_eq!(rt; cap(offering).value, 350_000_000);
+    assert!(rt; cap(offering).value == 350_000_000);
     assert!(rt; limit(offering, 0).value == 350_000_000);
     assert!(rt; limit(offering, 50).value == 349_999_900);
     assert!(rt; limit(offering, 100).value == 349_999_900);
@@ -285,15 +285,17 @@ fn figures(
     }
 }
 
-// The cut has these figures: stop, percentage, price, recognised below and at the stop, and sought.
-fn expect_cut(rt: &impl Abort, cut: &Cut, expected: (u32, u32, u64, u128, u128, u128)) {
-    let (steps, hundredths, millionths, below, at_stop, sought) = expected;
-    assert_eq!(rt; cut.stop.steps, steps);
-    assert_eq!(rt; cut.percent.hundredths, hundredths);
-    assert_eq!(rt; cut.price.millionths, millionths);
-    assert_eq!(rt; cut.below.value, below);
-    assert_eq!(rt; cut.at_stop.value, at_stop);
-    assert_eq!(rt; cut.sought.value, sought);
+// The cut has these figures.
+fn is_cut(cut: &Cut, steps: u32, hundredths: u32, millionths: u64, sought: u128) -> bool {
+    cut.stop.steps == steps
+        && cut.percent.hundredths == hundredths
+        && cut.price.millionths == millionths
+        && cut.sought.value == sought
+}
+
+// So much is recognised below the stop and at it.
+fn recognises(cut: &Cut, below: u128, at_stop: u128) -> bool {
+    cut.below.value == below && cut.at_stop.value == at_stop
 }
 
 // So much is awarded of an amount at a rate.
@@ -318,12 +320,8 @@ fn the_stop_is_where_the_amount_sought_is_reached(rt: HostRuntime) -> Result<(),
     let Some((cut, sum, median, low)) = figures(&rt, &recognised, 900_000_000) else {
         return Err(Fail::from("there is a cut"));
     };
-    let (below, at_stop) = (650_000_000, 450_000_000);
-    expect_cut(
-        &rt,
-        &cut,
-        (1066, 5556, 98_652_694, below, at_stop, 900_000_000),
-    );
+    assert!(rt; is_cut(&cut, 1066, 5556, 98_652_694, 900_000_000));
+    assert!(rt; recognises(&cut, 650_000_000, 450_000_000));
     assert!(rt;
         awards(
             &cut,
@@ -342,8 +340,8 @@ fn the_stop_is_where_the_amount_sought_is_reached(rt: HostRuntime) -> Result<(),
     );
     assert!(rt; awards(&cut, Rate { steps: 1066 }, dollars(100_000_000), 55_560_000));
     assert!(rt; awards(&cut, Rate { steps: 1067 }, dollars(100_000_000), 0));
-    assert_eq!(rt; sum, 900_020_000);
-    assert_eq!(rt; (median, low), (1065, 1064));
+    assert!(rt; sum == 900_020_000);
+    assert!(rt; median == 1065 && low == 1064);
     Ok(())
 }
 
@@ -365,12 +363,8 @@ fn the_percentage_is_the_least_that_reaches_the_amount_sought(rt: HostRuntime) -
     let Some((cut, sum, median, low)) = figures(&rt, &recognised, 300_000_000) else {
         return Err(Fail::from("there is a cut"));
     };
-    let (below, at_stop) = (210_000_000, 270_000_000);
-    expect_cut(
-        &rt,
-        &cut,
-        (1002, 3334, 98_733_583, below, at_stop, 300_000_000),
-    );
+    assert!(rt; is_cut(&cut, 1002, 3334, 98_733_583, 300_000_000));
+    assert!(rt; recognises(&cut, 210_000_000, 270_000_000));
     assert!(rt;
         awards(
             &cut,
@@ -380,8 +374,8 @@ fn the_percentage_is_the_least_that_reaches_the_amount_sought(rt: HostRuntime) -
         )
     );
     assert!(rt; awards(&cut, Rate { steps: 1002 }, dollars(90_000_000), 30_006_000));
-    assert_eq!(rt; sum, 300_018_000);
-    assert_eq!(rt; (median, low), (1000, 1000));
+    assert!(rt; sum == 300_018_000);
+    assert!(rt; median == 1000 && low == 1000);
     Ok(())
 }
 
@@ -399,16 +393,12 @@ fn a_short_auction_stops_at_its_greatest_rate_and_is_awarded_whole(
     let Some((cut, sum, median, low)) = figures(&rt, &recognised, 900_000_000) else {
         return Err(Fail::from("there is a cut"));
     };
-    let (below, at_stop) = (100_000_000, 200_000_000);
-    expect_cut(
-        &rt,
-        &cut,
-        (900, 10_000, 98_862_500, below, at_stop, 900_000_000),
-    );
+    assert!(rt; is_cut(&cut, 900, 10_000, 98_862_500, 900_000_000));
+    assert!(rt; recognises(&cut, 100_000_000, 200_000_000));
     assert!(rt; awards(&cut, Rate { steps: 800 }, dollars(100_000_000), 100_000_000));
     assert!(rt; awards(&cut, Rate { steps: 900 }, dollars(200_000_000), 200_000_000));
-    assert_eq!(rt; sum, 300_000_000);
-    assert_eq!(rt; (median, low), (900, 800));
+    assert!(rt; sum == 300_000_000);
+    assert!(rt; median == 900 && low == 800);
     Ok(())
 }
 

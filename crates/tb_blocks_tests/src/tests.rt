@@ -15,19 +15,63 @@ fn place_below(seed: usize, count: usize) -> usize {
     if count == 0 { 0 } else { (seed >> 33) % count }
 }
 
-fn expect_same(rt: &impl Abort, list: &Blocks<u64>, plain: &Vec<u64>) -> Result<(), Fail> {
-    assert_eq!(rt; list.len(), plain.len());
+fn has_same_elements(list: &Blocks<u64>, plain: &Vec<u64>) -> bool {
     for place in 0..list.len() {
-        assert_eq!(rt; Some(list.at(place)), plain.get(place));
+        if Some(list.at(place)) != plain.get(place) {
+            return false;
+        }
     }
-    let mut place = 0;
-    while place < list.len() {
+    list.len() == plain.len()
+}
+
+// The runs, one behind the other, begin and end with the elements of their places.
+fn has_same_runs(list: &Blocks<u64>, plain: &Vec<u64>) -> bool {
+    let mut place = 0usize;
+    for _ in 0..list.len() {
+        if place >= list.len() {
+            return true;
+        }
         let run = list.run_from(place);
-        assert_eq!(rt; run.first(), plain.get(place));
-        place += run.len();
-        assert_eq!(rt; run.last(), plain.get(place - 1));
+        let first = run.first() == plain.get(place);
+        place = place.saturating_add(run.len());
+        if !first || run.last() != plain.get(place.saturating_sub(1)) {
+            return false;
+        }
     }
-    Ok(())
+    true
+}
+
+fn insert(
+    list: &mut Blocks<u64>,
+    plain: &mut Vec<u64>,
+    seed: usize,
+    element: u64,
+) -> Result<bool, Fail> {
+    let place = place_below(seed, plain.len() + 1);
+    list.reserve(1)?;
+    if place > list.len() || place > plain.len() {
+        return Ok(false);
+    }
+    list.insert(place, element);
+    plain.insert(place, element)?;
+    Ok(true)
+}
+
+// Whether the element that is replaced is the same.
+fn replace(list: &mut Blocks<u64>, plain: &mut Vec<u64>, seed: usize, element: u64) -> bool {
+    let place = place_below(seed, plain.len());
+    if place >= list.len() || place >= plain.len() {
+        return false;
+    }
+    let same = list.replace(place, element) == plain[place];
+    plain[place] = element;
+    same
+}
+
+// Whether the element that is removed is the same.
+fn remove(list: &mut Blocks<u64>, plain: &mut Vec<u64>, seed: usize) -> bool {
+    let place = place_below(seed, plain.len());
+    place < list.len() && place < plain.len() && list.remove(place) == plain.remove(place)
 }
 
 #[test]
@@ -37,27 +81,19 @@ fn a_list_in_blocks_is_as_a_vector(rt: HostRuntime) -> Result<(), Fail> {
     let mut seed = 1;
     for step in 0..6000u64 {
         seed = next(seed);
-        let place = place_below(seed, plain.len() + 1);
-        list.reserve(1)?;
-        assert!(rt; place <= list.len());
-        assert!(rt; place <= plain.len());
-        list.insert(place, step);
-        plain.insert(place, step)?;
+        assert!(rt; insert(&mut list, &mut plain, seed, step)?);
     }
-    expect_same(&rt, &list, &plain)?;
+    assert!(rt; has_same_elements(&list, &plain) && has_same_runs(&list, &plain));
     for step in 0..5000u64 {
         seed = next(seed);
-        let place = place_below(seed, plain.len());
-        assert!(rt; place < list.len());
-        assert!(rt; place < plain.len());
         if step % 3 == 0 {
-            assert_eq!(rt; list.replace(place, step), plain[place]);
-            plain[place] = step;
+            assert!(rt; replace(&mut list, &mut plain, seed, step));
         } else {
-            assert_eq!(rt; list.remove(place), plain.remove(place));
+            assert!(rt; remove(&mut list, &mut plain, seed));
         }
     }
-    expect_same(&rt, &list, &plain)
+    assert!(rt; has_same_elements(&list, &plain) && has_same_runs(&list, &plain));
+    Ok(())
 }
 
 #[derive(Clone, Copy, Debug, Drop, PartialEq, Eq)]
@@ -104,80 +140,130 @@ fn add<T: Keyed + Drop>(list: &mut Ordered<T>, element: T) -> Result<bool, Fail>
     Ok(true)
 }
 
+fn loan_of(step: u32) -> Loan {
+    let step = u64::from(step);
+    Loan {
+        number: step * 1999 % 5003,
+        par: step,
+    }
+}
+
+// Whether the loan of a step is added, and no other of its number after it.
+fn comes_once(loans: &mut Ordered<Loan>, step: u32) -> Result<bool, Fail> {
+    let loan = loan_of(step);
+    let again = Loan {
+        number: loan.number,
+        par: 0,
+    };
+    Ok(add(loans, loan)? && !add(loans, again)?)
+}
+
+fn goes_once(loans: &mut Ordered<Loan>, step: u32) -> bool {
+    let loan = loan_of(step);
+    loans.remove(&loan.number) == Some(loan) && loans.remove(&loan.number).is_none()
+}
+
+// The loans of 5,000 steps. Their numbers are remainders of 5,003, each once.
+fn five_thousand_loans<R: AllocGlobal + Abort>(rt: &R) -> Result<Ordered<Loan>, Fail> {
+    let mut loans = Ordered::new(rt.alloc());
+    for step in 0..5000u32 {
+        assert!(rt; comes_once(&mut loans, step)?);
+    }
+    Ok(loans)
+}
+
+fn is_in_order(loans: &Ordered<Loan>) -> bool {
+    for place in 1..loans.len() {
+        if loans.at(place - 1).number >= loans.at(place).number {
+            return false;
+        }
+    }
+    true
+}
+
 #[test]
 fn loans_stand_in_the_order_of_their_numbers(rt: HostRuntime) -> Result<(), Fail> {
-    let mut loans = Ordered::new(rt.alloc());
-    for step in 0..5000u64 {
-        let number = step * 1999 % 5003;
-        assert!(rt; add(&mut loans, Loan { number, par: step })?);
-        assert!(rt; !add(&mut loans, Loan { number, par: 0 })?);
-    }
-    assert_eq!(rt; loans.len(), 5000);
-    for place in 1..loans.len() {
-        assert!(rt; loans.at(place - 1).number < loans.at(place).number);
-    }
+    let loans = five_thousand_loans(&rt)?;
+    assert!(rt; loans.len() == 5000 && is_in_order(&loans));
     // Of the numbers below 5,003 the remainders of 1,999 times 5,000, 5,001 and 5,002 are missing: 4,009, 1,005, 3,004.
-    assert_eq!(rt; loans.find(&1004), Some(1004));
-    assert_eq!(rt; loans.find(&1005), None);
-    assert_eq!(rt; loans.find(&3005), Some(3003));
-    assert_eq!(rt; loans.place_of(&5003), 5000);
-    let old = Loan {
-        number: 5002,
-        par: 4999,
-    };
-    for step in 0..5000u64 {
-        let number = step * 1999 % 5003;
-        assert_eq!(rt; loans.remove(&number), Some(Loan { number, par: step }));
-        assert_eq!(rt; loans.remove(&number), None);
-    }
-    assert_eq!(rt; loans.len(), 0);
-    assert!(rt; add(&mut loans, old)?);
-    assert_eq!(rt; loans.remove(&5002), Some(old));
+    assert!(rt; loans.find(&1004) == Some(1004));
+    assert!(rt; loans.find(&1005) == None);
+    assert!(rt; loans.find(&3005) == Some(3003));
+    assert!(rt; loans.place_of(&5003) == 5000);
     Ok(())
 }
 
 #[test]
-fn notes_stand_by_year_and_last_page_first(rt: HostRuntime) -> Result<(), Fail> {
-    let mut notes = Ordered::new(rt.alloc());
-    for (year, page) in [(2026, 1), (2025, 7), (2026, 3), (2025, 9), (2026, 2)] {
-        assert!(rt; add(&mut notes, Note { year, page })?);
+fn loans_are_removed_by_their_numbers(rt: HostRuntime) -> Result<(), Fail> {
+    let mut loans = five_thousand_loans(&rt)?;
+    for step in 0..5000u32 {
+        assert!(rt; goes_once(&mut loans, step));
     }
-    assert_eq!(rt; notes.len(), 5);
-    let wanted = [
-        Note {
-            year: 2025,
-            page: 9,
-        },
-        Note {
-            year: 2025,
-            page: 7,
-        },
-        Note {
-            year: 2026,
-            page: 3,
-        },
-        Note {
-            year: 2026,
-            page: 2,
-        },
-        Note {
-            year: 2026,
-            page: 1,
-        },
-    ];
-    assert_eq!(rt; notes.run_from(0), wanted.as_slice());
-    assert_eq!(rt; notes.find(&wanted[2].key()), Some(2));
-    assert_eq!(rt;
-        notes.find(&Note {
-            year: 2026,
-            page: 4
-        }
-        .key()),
-        None
-    );
-    assert_eq!(rt; notes.remove(&wanted[1].key()), Some(wanted[1]));
-    assert_eq!(rt; notes.len(), 4);
-    assert_eq!(rt; notes.run_from(1), &wanted[2..]);
+    assert!(rt; loans.len() == 0);
+    let old = Loan {
+        number: 5002,
+        par: 4999,
+    };
+    assert!(rt; add(&mut loans, old)?);
+    assert!(rt; loans.remove(&5002) == Some(old));
+    Ok(())
+}
+
+// Five notes, added in another order than theirs.
+fn five_notes<R: AllocGlobal + Abort>(rt: &R) -> Result<Ordered<Note>, Fail> {
+    let mut notes = Ordered::new(rt.alloc());
+    assert!(rt; add_note(&mut notes, 2026, 1)?);
+    assert!(rt; add_note(&mut notes, 2025, 7)?);
+    assert!(rt; add_note(&mut notes, 2026, 3)?);
+    assert!(rt; add_note(&mut notes, 2025, 9)?);
+    assert!(rt; add_note(&mut notes, 2026, 2)?);
+    Ok(notes)
+}
+
+fn add_note(notes: &mut Ordered<Note>, year: u32, page: u32) -> Result<bool, Fail> {
+    add(notes, Note { year, page })
+}
+
+// Whether the note of this year and page stands at the place of a run.
+fn stands_at(run: &[Note], place: usize, year: u32, page: u32) -> bool {
+    run.get(place) == Some(&Note { year, page })
+}
+
+// Where the note of this year and page stands.
+fn place_of(notes: &Ordered<Note>, year: u32, page: u32) -> Option<usize> {
+    notes.find(&Note { year, page }.key())
+}
+
+#[test]
+fn notes_stand_by_year_and_last_page_first(rt: HostRuntime) -> Result<(), Fail> {
+    let notes = five_notes(&rt)?;
+    assert!(rt; notes.len() == 5);
+    let run = notes.run_from(0);
+    assert!(rt; run.len() == 5);
+    assert!(rt; stands_at(run, 0, 2025, 9));
+    assert!(rt; stands_at(run, 1, 2025, 7));
+    assert!(rt; stands_at(run, 2, 2026, 3));
+    assert!(rt; stands_at(run, 3, 2026, 2));
+    assert!(rt; stands_at(run, 4, 2026, 1));
+    assert!(rt; place_of(&notes, 2026, 3) == Some(2));
+    assert!(rt; place_of(&notes, 2026, 4) == None);
+    Ok(())
+}
+
+#[test]
+fn a_note_is_removed_from_between_others(rt: HostRuntime) -> Result<(), Fail> {
+    let mut notes = five_notes(&rt)?;
+    let old = Note {
+        year: 2025,
+        page: 7,
+    };
+    assert!(rt; notes.remove(&old.key()) == Some(old));
+    assert!(rt; notes.len() == 4);
+    let run = notes.run_from(1);
+    assert!(rt; run.len() == 3);
+    assert!(rt; stands_at(run, 0, 2026, 3));
+    assert!(rt; stands_at(run, 1, 2026, 2));
+    assert!(rt; stands_at(run, 2, 2026, 1));
     Ok(())
 }
 
@@ -191,8 +277,7 @@ fn want_of_memory_leaves_the_list(rt: HostRuntime) -> Result<(), Fail> {
     assert!(rt; list.reserve(usize::MAX).is_err());
     // It succeeds, or fails where an allocation is made to fail.
     let _ = list.reserve(5000);
-    assert_eq!(rt; list.len(), 1000);
-    assert_eq!(rt; list.at(999), &0);
-    assert_eq!(rt; list.remove(0), 999);
+    assert!(rt; list.len() == 1000 && *list.at(999) == 0);
+    assert!(rt; list.remove(0) == 999);
     Ok(())
 }

@@ -19,8 +19,8 @@ use Rattle.tb_history.specs.Readings.{is_first, AreHoldingLines}
 use Rattle.tb_history.proofs.SameLemmas.{is_same-equal, is_same-refl}
 use Rattle.tb_history.proofs.SettledLemmas.{HaveNames, IsLegal-names}
 use Rattle.tb_core.specs.declared.tables.Tables.{Tables}
-use Rattle.tb_core.specs.Auctions.{announced_in}
-use Rattle.tb_core.specs.Accounting.{numbers_in}
+use Rattle.tb_tables.specs.Auctions.{announced_in}
+use Rattle.tb_ledger.specs.Accounting.{numbers_in}
 use Rattle.tb_core.specs.Shown.{HasNoLine, is_shown}
 use Rattle.tb_core.specs.House.{AreTied}
 use Rattle.tb_core.proofs.ShownLemmas.{first-bill, held-tied, later-hidden}

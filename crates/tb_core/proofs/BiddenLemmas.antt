@@ -15,7 +15,7 @@ use Rattle.tb_results.proofs.LegalLemmas.{IsLegal-sound}
 use Rattle.tb_core.specs.declared.tables.Tables.{Tables}
 use Rattle.tb_core.specs.Bidden.{IsAuctionOf}
 use Rattle.tb_core.specs.House.{AreTied}
-use Rattle.tb_core.specs.Settling.{positions_by}
+use Rattle.tb_ledger.specs.Settling.{positions_by}
 use Rattle.tb_core.proofs.SettleLemmas.{positions-tied}
 
 -- the book and the positions are of the auction's bidding

@@ -7,12 +7,12 @@ use Rattle.tb_holdings.specs.Book.{Book, TakesRoom}
 use Rattle.tb_history.specs.declared.roster.Enrolment.{Enrolment}
 use Rattle.tb_history.specs.Entries.{enrolled_by}
 use Rattle.tb_history.specs.Moves.{movement_by}
-use Rattle.tb_core.specs.declared.scratch.Scratch.{Scratch}
+use Rattle.tb_ledger.specs.declared.scratch.Scratch.{Scratch}
 use Rattle.tb_core.specs.declared.tables.Tables.{Tables}
-use Rattle.tb_core.specs.Accounting.{numbers_in}
+use Rattle.tb_ledger.specs.Accounting.{numbers_in}
 use Rattle.tb_core.specs.Crediting.{movement_in}
-use Rattle.tb_core.specs.Rooms.{settles}
-use Rattle.tb_core.specs.Settling.{IsTaken, KeepsScratch}
+use Rattle.tb_tables.specs.Kinds.{settles}
+use Rattle.tb_ledger.specs.Settling.{IsTaken, KeepsScratch}
 use Rattle.tb_core.specs.House.{HasAccountRoom, HasEntered, HasRows, HasRoom, KeepsRows, with_accounts}
 
 -- what is no settlement moves by its numbers alone

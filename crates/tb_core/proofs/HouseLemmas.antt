@@ -5,11 +5,11 @@ use Rattle.tb_message.specs.declared.message.Message.{Message}
 use Rattle.tb_message.specs.declared.message.Message.TheVariants as message
 use Rattle.tb_history.specs.Entries.{bid_by, enrolled_by}
 use Rattle.tb_history.specs.Legal.{Follows, Longer}
-use Rattle.tb_core.specs.declared.scratch.Scratch.{Scratch}
+use Rattle.tb_ledger.specs.declared.scratch.Scratch.{Scratch}
 use Rattle.tb_core.specs.declared.tables.Tables.{Tables}
 use Rattle.tb_index.specs.Listed.{Listed}
-use Rattle.tb_core.specs.Settling.{HasScratch}
-use Rattle.tb_core.specs.Accounting.{TellsNext}
+use Rattle.tb_ledger.specs.Settling.{HasScratch}
+use Rattle.tb_ledger.specs.Accounting.{TellsNext}
 use Rattle.tb_core.specs.Crediting.{movement_in}
 use Rattle.tb_core.specs.House.{AreTied, AreSame, HasEntered, HasRows, HasRoom, IsHouse, room_of}
 use Rattle.tb_core.proofs.TiedLemmas.{AreTied-same, AreTied-push}
@@ -21,14 +21,15 @@ use Rattle.tb_history.specs.declared.bids.Bid.{Bid}
 use Rattle.tb_history.specs.Roster.{enrolments}
 use Rattle.tb_history.specs.LiveBids.{par_of}
 use Rattle.tb_history.proofs.GrowthLemmas.{bids-snoc}
-use Rattle.tb_core.specs.Rooms.{Fits, HasRoomAhead, KeepsRoom, TakesRoom, announces, behind_all, has_place}
-use Rattle.tb_core.specs.Shelving.{TakesMessage}
+use Rattle.tb_shelving.specs.Rooms.{Fits, HasRoomAhead, KeepsRoom, TakesRoom, behind_all, has_place}
+use Rattle.tb_tables.specs.Kinds.{announces}
+use Rattle.tb_shelving.specs.Shelving.{TakesMessage}
 use Rattle.tb_core.proofs.EnterLemmas.{one-bidder}
-use Rattle.tb_core.proofs.BookLemmas.{Follows-next, HasNextRoom, takes-message}
-use Rattle.tb_core.proofs.KeptLemmas.{IsKeptShelf-both, KeepsRoom-kept}
-use Rattle.tb_core.proofs.NumberLemmas.{IsLegal-bidders}
+use Rattle.tb_shelving.proofs.BookLemmas.{Follows-next, HasNextRoom, takes-message}
+use Rattle.tb_shelving.proofs.KeptLemmas.{IsKeptShelf-both, KeepsRoom-kept}
+use Rattle.tb_shelving.proofs.NumberLemmas.{IsLegal-bidders}
 use Rattle.tb_history.proofs.ParLemmas.{IsLegal-par}
-use Rattle.tb_core.proofs.RoomLemmas.{TakesRoom-by, length-behind}
+use Rattle.tb_shelving.proofs.RoomLemmas.{TakesRoom-by, length-behind}
 
 -- so it is in accounts
 room_max : (one other bidders spare : ℕ)

@@ -14,8 +14,8 @@ use Rattle.tb_history.specs.Readings.{place_of}
 use Rattle.tb_history.proofs.LegalLemmas.{IsLegal-orderly}
 use Rattle.tb_core.specs.declared.tables.Tables.{Tables}
 use Rattle.tb_core.specs.House.{AreTied}
-use Rattle.tb_core.specs.Standings.{competitive_there, noncompetitive_there}
-use Rattle.tb_core.proofs.SumLemmas.{book-announced, book-booked, competitive-booked, noncompetitive-booked}
+use Rattle.tb_shelving.specs.Standings.{competitive_there, noncompetitive_there}
+use Rattle.tb_shelving.proofs.SumLemmas.{book-announced, book-booked, competitive-booked, noncompetitive-booked}
 
 -- its competitive par
 pub tied-competitive : (h : List Entry) (tables : Tables) → AreTied h tables

@@ -1,21 +1,18 @@
 -- The rows of a message that moves par, on the accounts that tell what has moved, are those on the history.
-use Rattle.std.proofs.Common.{◌≡◌, ℕ, ◌+◌, ◌≤◌, ◌==◌, Bool, true, false, not, Option, Some, None, List, [], ◌∷◌, ◌++◌, nat_lt, length, length-append, refl, sym, ap, ◌∙◌, arith}
+use Rattle.std.proofs.Common.{◌≡◌, ℕ, ◌+◌, ◌≤◌, ◌==◌, Bool, true, not, Option, Some, None, List, [], ◌∷◌, ◌++◌, nat_lt, length, length-append, refl, sym, ap, ◌∙◌, arith}
 use Rattle.std.specs.Prelude.{◌↔◌, IfSome, IsNone}
 use Rattle.std.specs.Option.{option_map}
 use Rattle.std.specs.List.{AllByRecursion}
 use Rattle.std.proofs.lemmas.Bool.{leb-false}
 use Rattle.tb_units.specs.Amounts.{dollars_of, dollars_of-value}
 use Rattle.tb_units.specs.declared.amount.Dollars.{Dollars}
-use Rattle.tb_units.specs.declared.day.Day.{Day}
 use Rattle.tb_units.specs.declared.moment.Moment.{Moment}
 use Rattle.tb_terms.specs.declared.announcement.Announcement.{Announcement}
 use Rattle.tb_terms.specs.declared.cusip.Cusip.{Cusip}
 use Rattle.tb_terms.specs.declared.terms.Terms.{Terms}
 use Rattle.tb_terms.specs.declared.refusal.Refusal.TheVariants as refusal
-use Rattle.tb_terms.specs.Rows.{Row, refusal_in}
-use Rattle.tb_terms.specs.Eastern.{start_of}
+use Rattle.tb_terms.specs.Rows.{Row}
 use Rattle.tb_rules.specs.BidRule.{is_no_par}
-use Rattle.tb_history.specs.Values.{day_of, day_of-number}
 use Rattle.tb_holdings.specs.declared.mark.Mark.{Mark as FoundMark}
 use Rattle.tb_holdings.specs.declared.mark.KeptMark.{KeptMark}
 use Rattle.tb_holdings.specs.Marks.{new_mark}
@@ -30,7 +27,7 @@ use Rattle.tb_history.specs.declared.accounts.Mark.{Mark}
 use Rattle.tb_history.specs.Entries.{is_same, entered_by}
 use Rattle.tb_history.specs.Roster.{registrations, announcements, redemptions, holidays, is_registered, is_redeemed, is_of_bill, bill_of, unsettled_of}
 use Rattle.tb_history.specs.Holdings.{free_of, open_marks, mark_of, left_of}
-use Rattle.tb_history.specs.Tables.{rows_of, transfer_rows, par_rows, mark_rows, left_in, release_rows, unsettled_rows, redeem_rows}
+use Rattle.tb_history.specs.Tables.{rows_of, transfer_rows, par_rows, mark_rows, left_in, release_rows, redeem_rows}
 use Rattle.tb_history.specs.Legal.{IsLegal, Follows}
 use Rattle.tb_history.specs.Moves.{Numbering, as_moved, has_bill, participants_of, AreNumbered}
 use Rattle.tb_history.proofs.GrowthLemmas.{holidays-snoc}
@@ -41,9 +38,9 @@ use Rattle.tb_history.proofs.PassLemmas.{AreTold, found_any, free-told, opens-to
 use Rattle.tb_history.proofs.ToldLemmas.{IsLegal-told}
 use Rattle.tb_history.proofs.ConservedLemmas.{places-numbered}
 use Rattle.tb_core.specs.declared.tables.Tables.{Tables}
-use Rattle.tb_core.specs.Auctions.{announced_in, announcement_in}
-use Rattle.tb_core.specs.Accounting.{numbers_in, numbers_of, moved_in}
-use Rattle.tb_core.specs.ParRows.{kept_rows, kept_release_rows}
+use Rattle.tb_tables.specs.Auctions.{announced_in, announcement_in}
+use Rattle.tb_ledger.specs.Accounting.{numbers_in, numbers_of, moved_in}
+use Rattle.tb_refusals.specs.ParRows.{kept_rows, kept_release_rows}
 use Rattle.tb_core.specs.House.{AreTied}
 use Rattle.tb_core.proofs.TiedLemmas.{numbers-tied}
 
@@ -238,13 +235,6 @@ pub tied_redeem : (h : List Entry) (tables : Tables)
     ≡ rows_of h sender moment (message.Redeem cusip)
 tied_redeem h tables tied sender moment cusip found redeemed unsettled bill gone first =
     rw (bill, gone, first, tied.auctions_are, tied.redeemed_are, tied.settled_are) refl
-
--- the rows behind that of the redemption, by the payment date
-pub due_rows : (unsettled : Option Announcement) (payment : Day) (number seconds : ℕ)
-    → number ≡ payment.number
-    → refusal_in (unsettled_rows unsettled ++ (refusal.NotDue payment, nat_lt seconds (start_of payment.number)) ∷ [])
-    ≡ refusal_in (unsettled_rows unsettled ++ (refusal.NotDue (day_of number), nat_lt seconds (start_of number)) ∷ [])
-due_rows unsettled payment number seconds is = rw (is, day_of-number payment) refl
 
 -- a holiday is one more, of few
 holidays-few : (h : List Entry) (s : List ℕ) (moment : Moment) (m : Message)

@@ -15,7 +15,7 @@ use Rattle.tb_history.specs.Moves.{has_bill}
 use Rattle.tb_history.proofs.PassLemmas.{found_any}
 use Rattle.tb_history.specs.Answer.{asked_rows, auction_rows, may_ask, query_refusal}
 use Rattle.tb_core.specs.declared.tables.Tables.{Tables}
-use Rattle.tb_core.specs.Auctions.{announced_in}
+use Rattle.tb_tables.specs.Auctions.{announced_in}
 use Rattle.tb_core.specs.House.{AreTied}
 
 -- where no row of a table holds, none of those behind the first two does

@@ -37,10 +37,10 @@ use Rattle.tb_history.proofs.PassLemmas.{AreTold, opens-told}
 use Rattle.tb_history.proofs.ToldLemmas.{sender-registered, transfer_rows-clear, other-number, bill-found, passes-message, IsLegal-told}
 use Rattle.tb_history.proofs.ConservedLemmas.{places-numbered}
 use Rattle.tb_core.specs.declared.tables.Tables.{Tables}
-use Rattle.tb_core.specs.Auctions.{announced_in}
-use Rattle.tb_core.specs.Rooms.{settles}
+use Rattle.tb_tables.specs.Auctions.{announced_in}
+use Rattle.tb_tables.specs.Kinds.{settles}
 use Rattle.tb_core.specs.Crediting.{movement_in}
-use Rattle.tb_core.specs.Accounting.{numbers_of, moved_in, IsReady}
+use Rattle.tb_ledger.specs.Accounting.{numbers_of, moved_in, IsReady}
 use Rattle.tb_core.specs.House.{AreTied, AreFew}
 use Rattle.tb_core.proofs.TiedLemmas.{movement-tied}
 

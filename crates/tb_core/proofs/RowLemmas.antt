@@ -14,10 +14,10 @@ use Rattle.tb_history.specs.Roster.{enrolment_of, is_under, announcement_of, is_
 use Rattle.tb_history.specs.LiveBids.{bid_of, is_cancelled, standing_of}
 use Rattle.tb_history.specs.Tables.{rows_of, announce_rows, bid_rows, cancel_rows, position_rows, publish_rows, settle_rows}
 use Rattle.tb_core.specs.declared.tables.Tables.{Tables}
-use Rattle.tb_core.specs.Auctions.{announced_in, announcement_in}
-use Rattle.tb_core.specs.Standings.{capped}
+use Rattle.tb_tables.specs.Auctions.{announced_in, announcement_in}
+use Rattle.tb_shelving.specs.Standings.{capped}
 use Rattle.tb_core.specs.House.{AreTied}
-use Rattle.tb_core.proofs.StandingLemmas.{bid_rows-capped}
+use Rattle.tb_shelving.proofs.StandingLemmas.{bid_rows-capped}
 
 -- announce
 pub tied_announce : (h : List Entry) (tables : Tables) → AreTied h tables

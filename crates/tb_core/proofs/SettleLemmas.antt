@@ -26,13 +26,14 @@ use Rattle.tb_results.proofs.LegalLemmas.{IsLegal-sound}
 use Rattle.tb_core.specs.declared.tables.Tables.{Tables}
 use Rattle.tb_core.specs.House.{AreTied, IsHouse, room_of}
 use Rattle.tb_index.specs.Listed.{Listed}
-use Rattle.tb_core.specs.Rooms.{Fits, settles}
-use Rattle.tb_core.specs.Settling.{positions_by}
+use Rattle.tb_shelving.specs.Rooms.{Fits}
+use Rattle.tb_tables.specs.Kinds.{settles}
+use Rattle.tb_ledger.specs.Settling.{positions_by}
 use Rattle.tb_core.specs.Crediting.{HasSettleRoom, bidding_on}
 use Rattle.tb_history.specs.Awarded.{Bidding}
 use Rattle.tb_units.proofs.PlaceLemmas.{find_passes}
 use Rattle.tb_history.proofs.SameLemmas.{is_same-equal}
-use Rattle.tb_core.proofs.SumLemmas.{book-announced, book-booked}
+use Rattle.tb_shelving.proofs.SumLemmas.{book-announced, book-booked}
 
 -- a position in an auction is that by the reports in the auction
 position_of-own : (reported : List Report) (auction bidder : List ℕ)

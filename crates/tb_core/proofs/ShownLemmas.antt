@@ -22,8 +22,8 @@ use Rattle.tb_history.specs.Readings.{is_first, IsHoldingLine, AreHoldingLines, 
 use Rattle.tb_history.proofs.PassLemmas.{AreTold, found_any, held-told, pledged-told}
 use Rattle.tb_history.proofs.ConservedLemmas.{places-numbered, paid-told, registered-at}
 use Rattle.tb_core.specs.declared.tables.Tables.{Tables}
-use Rattle.tb_core.specs.Auctions.{announced_in}
-use Rattle.tb_core.specs.Accounting.{numbers_in, numbers_of, moved_in}
+use Rattle.tb_tables.specs.Auctions.{announced_in}
+use Rattle.tb_ledger.specs.Accounting.{numbers_in, numbers_of, moved_in}
 use Rattle.tb_core.specs.Shown.{IsLineOf, is_shown, IsShown, IsPaidOut}
 use Rattle.tb_core.specs.House.{AreTied}
 use Rattle.tb_core.proofs.TiedLemmas.{numbers-tied}

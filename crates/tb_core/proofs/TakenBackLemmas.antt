@@ -27,18 +27,18 @@ use Rattle.tb_history.proofs.GrowthLemmas.{registrations-snoc, enrolments-snoc, 
 use Rattle.tb_history.proofs.NumberingLemmas.{movements-grow}
 use Rattle.tb_results.specs.Biddings.{book_line_of}
 use Rattle.tb_core.specs.declared.tables.Tables.{Tables}
-use Rattle.tb_core.specs.Accounting.{moved_in}
-use Rattle.tb_core.specs.Calendar.{IsCalendar}
-use Rattle.tb_core.specs.Shelving.{AreShelved}
-use Rattle.tb_core.specs.Settling.{HasScratch}
+use Rattle.tb_ledger.specs.Accounting.{moved_in}
+use Rattle.tb_tables.specs.Calendar.{IsCalendar}
+use Rattle.tb_shelving.specs.Shelving.{AreShelved}
+use Rattle.tb_ledger.specs.Settling.{HasScratch}
 use Rattle.tb_core.specs.House.{AreTied, EndsWithBid, HasRoom, IsBid, IsHouse, IsTakenBack, room_of}
-use Rattle.tb_core.specs.Rooms.{KeepsRoom, has_place}
-use Rattle.tb_core.proofs.BookLemmas.{Follows-next, IsNext, apart-lines, bid_rows-known, lines_in, uncancelled}
+use Rattle.tb_shelving.specs.Rooms.{KeepsRoom, has_place}
+use Rattle.tb_shelving.proofs.BookLemmas.{Follows-next, IsNext, apart-lines, bid_rows-known, lines_in, uncancelled}
 use Rattle.tb_core.proofs.HouseLemmas.{HasScratch-less}
-use Rattle.tb_core.proofs.KeptLemmas.{list_all-weaker}
-use Rattle.tb_core.proofs.LiveLemmas.{live-more, live-other}
-use Rattle.tb_core.proofs.RoomLemmas.{place-message, places-changed}
-use Rattle.tb_core.proofs.ShelfLemmas.{lines-changed, lines-taken}
+use Rattle.tb_shelving.proofs.KeptLemmas.{list_all-weaker}
+use Rattle.tb_shelving.proofs.LiveLemmas.{live-more, live-other}
+use Rattle.tb_shelving.proofs.RoomLemmas.{place-message, places-changed}
+use Rattle.tb_shelving.proofs.ShelfLemmas.{lines-changed, lines-taken}
 
 -- a bid that was the next message
 abbrev IsNextBid : List Entry → Moment → Bid → Type 0

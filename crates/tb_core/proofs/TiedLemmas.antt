@@ -1,5 +1,5 @@
 -- The tables stay tied to the history as it grows.
-use Rattle.std.proofs.Common.{◌≡◌, ℕ, ◌++◌, List, [], ◌∷◌, Option, Some, None, true, false, refl, sym, ap, ◌∙◌, subst, append-nil, arith}
+use Rattle.std.proofs.Common.{◌≡◌, ℕ, ◌++◌, List, [], ◌∷◌, Option, Some, None, true, false, refl, sym, ap, ◌∙◌, subst, arith}
 use Rattle.std.specs.Prelude.{option_to_list}
 use Rattle.std.specs.List.{AllByRecursion}
 use Rattle.tb_terms.specs.declared.checking.TermsFault.{TermsFault}
@@ -17,10 +17,10 @@ use Rattle.tb_history.proofs.AcceptedLemmas.{IsClear, accepted-passes}
 use Rattle.tb_history.proofs.HistoryLemmas.{last_of-push}
 use Rattle.tb_history.proofs.GrowthLemmas.{registrations-snoc, enrolments-snoc, holidays-snoc, announcements-snoc, publications-snoc, settlements-snoc, redemptions-snoc, bids-snoc, cancels-snoc, reports-snoc}
 use Rattle.tb_core.specs.declared.tables.Tables.{Tables}
-use Rattle.tb_core.specs.Auctions.{announced_in}
+use Rattle.tb_tables.specs.Auctions.{IsInOrder, announced_in}
 use Rattle.tb_history.specs.declared.roster.Enrolment.{Enrolment}
 use Rattle.tb_history.specs.declared.bids.Bid.{Bid}
-use Rattle.tb_core.specs.Shelving.{HasShelved}
+use Rattle.tb_shelving.specs.Shelving.{HasShelved}
 use Rattle.tb_units.specs.declared.day.Day.{Day}
 use Rattle.tb_movements.specs.Movements.{Movement}
 use Rattle.tb_movements.specs.Told.{IsTold}
@@ -29,16 +29,12 @@ use Rattle.tb_history.specs.Moves.{Numbering, settled_as, movement_by}
 use Rattle.tb_history.proofs.NumberingLemmas.{movements-grow}
 use Rattle.tb_terms.specs.declared.announcement.Announcement.{Announcement}
 use Rattle.tb_core.specs.Crediting.{settled_in, movement_in}
-use Rattle.tb_core.specs.Calendar.{IsCalendar}
-use Rattle.tb_core.specs.Accounting.{numbers_in, numbers_of, moved_in, TellsNext}
-use Rattle.tb_core.specs.House.{AreTied, AreSame, HasEntered, IsInOrder}
-use Rattle.tb_core.proofs.CalendarLemmas.{IsCalendar-push}
-use Rattle.tb_core.proofs.BookLemmas.{AreBooks-nil, AreBooks-push}
-use Rattle.tb_core.proofs.KeptLemmas.{AreBooks-kept}
-
--- nothing is added
-pub nothing_more : {X : Type 0} (xs : List X) → xs ≡ xs ++ []
-nothing_more xs = sym (append-nil xs)
+use Rattle.tb_tables.specs.Calendar.{IsCalendar}
+use Rattle.tb_ledger.specs.Accounting.{numbers_in, numbers_of, moved_in, TellsNext}
+use Rattle.tb_core.specs.House.{AreTied, AreSame, HasEntered}
+use Rattle.tb_tables.proofs.CalendarLemmas.{IsCalendar-push}
+use Rattle.tb_shelving.proofs.BookLemmas.{AreBooks-nil, AreBooks-push}
+use Rattle.tb_shelving.proofs.KeptLemmas.{AreBooks-kept}
 
 -- a table that was what the history said is it again, where both are longer by the same
 grown : {X : Type 0} (new old said before after : List X)

@@ -1,30 +1,16 @@
 -- What a message moves, by the tables, and the room of a settlement in them.
-use Rattle.std.specs.Prelude.{ℕ, ◌≤◌, List, [], Option, Some, None, length, map, vec_capacity}
-use Rattle.std.specs.List.{position_or_len}
+use Rattle.std.specs.Prelude.{ℕ, ◌≤◌, List, [], Option, Some, None, length, vec_capacity}
 use Rattle.tb_terms.specs.declared.announcement.Announcement.{Announcement}
 use Rattle.tb_message.specs.declared.message.Message.{Message}
 use Rattle.tb_message.specs.declared.message.Message.TheVariants as message
-use Rattle.tb_movements.specs.Movements.{Credit, Movement, Settled}
-use Rattle.tb_history.specs.declared.roster.Registration.{Registration}
-use Rattle.tb_history.specs.declared.roster.Enrolment.{Enrolment}
-use Rattle.tb_history.specs.Entries.{is_same}
+use Rattle.tb_movements.specs.Movements.{Movement, Settled}
 use Rattle.tb_history.specs.Roster.{announcement_of}
-use Rattle.tb_history.specs.Awarded.{Bidding, bidding_of, awarded}
+use Rattle.tb_history.specs.Awarded.{Bidding, bidding_of}
 use Rattle.tb_history.specs.Moves.{movement_by}
 use Rattle.tb_core.specs.declared.tables.Tables.{Tables}
-use Rattle.tb_core.specs.Auctions.{announced_in}
-use Rattle.tb_core.specs.Accounting.{numbers_in}
-
--- a bidder's award, for its participant
-abbrev pub credit_for : List Registration → Bidding → Enrolment → Credit
-credit_for submitters bidding e = record {
-  holder = position_or_len (λ (r : Registration). is_same r.submitter e.submitter) submitters;
-  par = awarded bidding e.bidder;
-}
-
--- those of some bidders
-abbrev pub credits_for : List Registration → Bidding → List Enrolment → List Credit
-credits_for submitters bidding bidders = map (credit_for submitters bidding) bidders
+use Rattle.tb_tables.specs.Auctions.{announced_in}
+use Rattle.tb_ledger.specs.Accounting.{numbers_in}
+use Rattle.tb_ledger.specs.Credits.{credits_for}
 
 -- the bidding of an auction
 abbrev pub bidding_on : Tables → Announcement → Bidding

@@ -1,8 +1,5 @@
 -- The host as contracts see it, and how its tables are tied to the history.
-use Rattle.std.specs.Prelude.{◌≡◌, ℕ, ◌+◌, ◌*◌, ◌^◌, ◌<◌, ◌≤◌, ◌++◌, List, [], ◌∷◌, None, length}
-use Rattle.std.specs.List.{AllByRecursion}
-use Rattle.tb_terms.specs.declared.announcement.Announcement.{Announcement}
-use Rattle.tb_terms.specs.Faults.{fault_of}
+use Rattle.std.specs.Prelude.{◌≡◌, ℕ, ◌+◌, ◌*◌, ◌^◌, ◌<◌, ◌≤◌, ◌++◌, List, [], ◌∷◌, length}
 use Rattle.tb_message.specs.declared.message.Entry.{Entry}
 use Rattle.tb_message.specs.declared.message.Message.{Message}
 use Rattle.tb_message.specs.declared.message.Message.TheVariants as message
@@ -16,14 +13,14 @@ use Rattle.tb_history.specs.LiveBids.{bids, cancels, reports}
 use Rattle.tb_history.specs.Legal.{IsLegal, last_of}
 use Rattle.tb_movements.specs.Told.{IsTold}
 use Rattle.tb_holdings.specs.Book.{Book}
-use Rattle.tb_core.specs.declared.scratch.Scratch.{Scratch}
+use Rattle.tb_ledger.specs.declared.scratch.Scratch.{Scratch}
 use Rattle.tb_core.specs.declared.tables.Tables.{Tables}
-use Rattle.tb_core.specs.Auctions.{announced_in}
-use Rattle.tb_core.specs.Calendar.{IsCalendar, AddsDays}
-use Rattle.tb_core.specs.Accounting.{moved_in, TellsSame}
-use Rattle.tb_core.specs.Rooms.{Room}
-use Rattle.tb_core.specs.Settling.{HasScratch, IsTaken, KeepsScratch}
-use Rattle.tb_core.specs.Shelving.{AreBooks, HasShelved, IsKeptShelf}
+use Rattle.tb_tables.specs.Auctions.{announced_in}
+use Rattle.tb_tables.specs.Calendar.{IsCalendar, AddsDays}
+use Rattle.tb_ledger.specs.Accounting.{moved_in, TellsSame}
+use Rattle.tb_shelving.specs.Rooms.{Room}
+use Rattle.tb_ledger.specs.Settling.{HasScratch, IsTaken, KeepsScratch}
+use Rattle.tb_shelving.specs.Shelving.{AreBooks, HasShelved, IsKeptShelf}
 use Rattle.tb_index.specs.Listed.{Listed}
 
 -- the history, and for which messages there is room
@@ -123,10 +120,6 @@ pub record AreSame (old new : Tables) : Type 0 where
   pub lasts : old.scratch.lasts ≤ new.scratch.lasts
   pub calendar : new.calendar.list ≡ old.calendar.list
   pub accounts : TellsSame old.accounts new.accounts
-
--- an announcement that the message makes is in order
-abbrev pub IsInOrder : Message → Type 0
-IsInOrder message = AllByRecursion (λ (a : Announcement). fault_of a ≡ None) (announced_by message)
 
 -- the message is a bid
 abbrev pub IsBid : Message → Type 0

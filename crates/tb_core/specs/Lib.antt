@@ -1,13 +1,5 @@
-pub mod Auctions
-pub mod Announced
-pub mod Accounting
-pub mod Calendar
+pub use Rattle.tb_shelving.specs.Rooms
 pub mod Conserved
-pub mod ParRows
-pub mod Standings
-pub mod Shelving
-pub mod Rooms
-pub mod Settling
 pub mod Crediting
 pub mod Shown
 pub mod House

@@ -12,8 +12,8 @@ use Rattle.tb_history.specs.Roster.{announcements, bill_of, is_registered, regis
 use Rattle.tb_history.specs.Holdings as history
 use Rattle.tb_history.specs.Readings.{is_first, IsHoldingLine, IsPaidLine}
 use Rattle.tb_core.specs.declared.tables.Tables.{Tables}
-use Rattle.tb_core.specs.Auctions.{announced_in}
-use Rattle.tb_core.specs.Accounting.{numbers_in}
+use Rattle.tb_tables.specs.Auctions.{announced_in}
+use Rattle.tb_ledger.specs.Accounting.{numbers_in}
 use Rattle.tb_core.specs.House.{AreTied}
 
 -- the line is what the book has of a holder and a security

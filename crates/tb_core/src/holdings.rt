@@ -5,22 +5,21 @@ ghost use Rattle.tb_terms.specs.declared.cusip.Cusip.{Cusip};
 ghost use Rattle.tb_message.specs.declared.message.Entry.{Entry};
 ghost use Rattle.tb_history.specs.declared.roster.Registration.{Registration};
 ghost use Rattle.tb_history.specs.Roster.{registrations, announcements, bill_of, is_registered};
-ghost use Rattle.tb_history.specs.Holdings.{held_of, paid_to};
+ghost use Rattle.tb_history.specs.Holdings.{paid_to};
 ghost use Rattle.tb_history.specs.Moves.{has_bill};
 ghost use Rattle.tb_history.specs.Readings.{AreHoldings, AreHoldingLines, ArePaidLines, IsRedemption};
 ghost use Rattle.tb_history.specs.Readings as readings;
-ghost use Rattle.tb_core.specs.Auctions.{announced_in};
-ghost use Rattle.tb_core.specs.Accounting.{numbers_in};
+ghost use Rattle.tb_tables.specs.Auctions.{announced_in};
+ghost use Rattle.tb_ledger.specs.Accounting.{numbers_in};
 ghost use Rattle.tb_core.specs.Shown.{HasNoLine, IsLineOf, IsShown, IsPaidOut, is_shown};
 ghost use Rattle.tb_core.specs.House.{AreTied, AreFew};
 
-use crate::accounts::{bill_number, holder_number};
-use crate::auctions::{Auctions, bill_terms};
-use crate::names::is_same;
 use crate::tables::Tables;
 use std::alloc::Global;
 use tb_history::{HoldingLine, Holdings, Listing, PaidLine, Redemption, Registration};
 use tb_holdings::Accounts;
+use tb_ledger::{bill_number, holder_number};
+use tb_tables::{Auctions, bill_terms, is_same};
 use tb_terms::{Cusip, Terms};
 use tb_units::{Ident, OutOfMemory};
 

@@ -22,24 +22,12 @@ ghost use Rattle.tb_results.specs.Biddings.{AreBooked};
 ghost use Rattle.tb_core.specs.Conserved.{IsConserved};
 ghost use Rattle.tb_core.specs.CloseAwards.{IsClose};
 ghost use Rattle.tb_core.specs.House.{EndsWithBid, IsHouse, room_of};
-ghost use Rattle.tb_core.specs.Rooms.{Fits, KeepsRoom, TakesRoom, behind, behind_all};
+ghost use Rattle.tb_shelving.specs.Rooms.{Fits, KeepsRoom, TakesRoom, behind, behind_all};
 
-use crate::accounts::{find_pledge, free_par, holder_number, open_pledges};
-use crate::auctions::{bill_terms, terms_of, unsettled_terms};
-use crate::bidding::{find_bid, has_cancel};
 use crate::books::book_of;
 use crate::holdings::{holdings_lines, redemption_lines};
-use crate::kept::{Entries, count_sent, find_kept};
-use crate::names::{has_name, is_operator, is_same};
-use crate::par_refusals::{pledge_refusal, redeem_refusal, release_refusal, transfer_refusal};
-use crate::permits::{is_permitted, repeated};
 use crate::reading::{awards_reading, bid_lines, results_reading};
-use crate::refusals::{
-    announce_refusal, bid_refusal, cancel_refusal, enrol_refusal, holiday_refusal,
-    position_refusal, publish_refusal, register_refusal, settle_refusal,
-};
-use crate::refused::{QueryRefused, auction_refusal, may_ask, redemption_refusal};
-use crate::roster::{find_submitter, has_bill, has_submitter, is_enrolled};
+use crate::refused::QueryRefused;
 use crate::standing::own_of;
 use crate::tables::Tables;
 use std::alloc::Global;
@@ -47,7 +35,18 @@ use std::marker::Model;
 use tb_book::Book;
 use tb_history::{Awards, Bids, Holdings, Reading, Redemption, Results};
 use tb_index::Counted;
+use tb_ledger::{find_pledge, free_par, holder_number, open_pledges};
 use tb_message::{Entry, Message, Query, Verdict};
+use tb_refusals::{
+    announce_refusal, auction_refusal, bid_refusal, cancel_refusal, enrol_refusal, holiday_refusal,
+    is_permitted, may_ask, pledge_refusal, position_refusal, publish_refusal, redeem_refusal,
+    redemption_refusal, register_refusal, release_refusal, repeated, settle_refusal,
+    transfer_refusal,
+};
+use tb_tables::{
+    Entries, bill_terms, count_sent, find_bid, find_kept, find_submitter, has_bill, has_cancel,
+    has_name, has_submitter, is_enrolled, is_operator, is_same, terms_of, unsettled_terms,
+};
 use tb_terms::{Announcement, Cusip, EasternDays, Refusal, Terms};
 use tb_units::{Dollars, Ident, Moment, OutOfMemory, Rate};
 

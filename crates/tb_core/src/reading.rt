@@ -5,13 +5,13 @@ ghost use Rattle.tb_history.specs.Holdings.{bidding_in};
 ghost use Rattle.tb_history.specs.Readings.{AreAwards, AreResults, bid_line, bid_lines};
 ghost use Rattle.tb_core.specs.Bidden.{IsAuctionOf};
 
-use crate::bidding::{Bids, Cancels, bids_from, is_live};
-use crate::positions::positions_in;
 use crate::tables::Tables;
 use std::alloc::Global;
 use tb_book::Book;
 use tb_history::{Awards, Bid, BidLine, Listing, Results};
+use tb_ledger::positions_in;
 use tb_results::{awards, results};
+use tb_tables::{Bids, Cancels, bids_from, is_live};
 use tb_terms::Terms;
 use tb_units::{Ident, OutOfMemory};
 

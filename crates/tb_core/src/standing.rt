@@ -1,32 +1,16 @@
 //! What stands of a bidder in an auction.
-ghost use Rattle.std.specs.Prelude.{◌≡◌, ◌+◌, ◌≤◌, List};
-ghost use Rattle.std.specs.Option.{option_map_or};
-ghost use Rattle.tb_units.specs.Multiples.{most_par};
+ghost use Rattle.std.specs.Prelude.{◌≡◌, List};
 ghost use Rattle.tb_rules.specs.BidRule.{standing_in};
 ghost use Rattle.tb_message.specs.declared.message.Entry.{Entry};
-ghost use Rattle.tb_shelf.specs.Shelves.{book_in};
 ghost use Rattle.tb_history.specs.LiveBids.{standing_of};
 ghost use Rattle.tb_core.specs.House.{AreTied};
-ghost use Rattle.tb_core.specs.Standings.{capped, competitive_there, noncompetitive_there};
+ghost use Rattle.tb_shelving.specs.Standings.{capped};
 
-use crate::bidding::{few_bids, has_report};
-use crate::roster::number_of;
 use crate::tables::Tables;
 use tb_rules::Own;
-use tb_shelf::Shelf;
-use tb_units::{Dollars, Ident};
-
-// The sums of the bidder of a number in the auction's book, which are zero where there is no book.
-fn sums_of(shelf: &Shelf, auction: &Ident, number: u32) -> (Dollars, Dollars)
-    ensures competitive { result.0.value ≡ competitive_there number (book_in shelf.now.books auction.now) }
-    ensures noncompetitive { result.1.value ≡ noncompetitive_there number (book_in shelf.now.books auction.now) }
-    ensures limited { result.0.value + result.1.value ≤ most_par }
-{
-    match shelf.book(auction) {
-        Some(book) => book.totals(number),
-        None => (Dollars { value: 0 }, Dollars { value: 0 }),
-    }
-}
+use tb_shelving::sums_of;
+use tb_tables::{few_bids, has_report, number_of};
+use tb_units::Ident;
 
 /// What stands of the bidder in the auction, its par by the auction's book. Accepted bids are counted up to the most
 /// there can be.

@@ -1,38 +1,32 @@
 //! The tables of the host together.
 ghost use Rattle.std.specs.Prelude.{◌≡◌, ℕ, ◌+◌, ◌≤◌, ◌<◌, ◌^◌, ◌↔◌, true, List, Some, [], length, OnOk};
-ghost use Rattle.tb_core.specs.Rooms.{HasRoomAhead, behind_all, settles};
-ghost use Rattle.tb_core.specs.Settling.{HasScratch};
-ghost use Rattle.tb_core.specs.Shelving.{TakesMessage};
+ghost use Rattle.tb_shelving.specs.Rooms.{HasRoomAhead, behind_all};
+ghost use Rattle.tb_tables.specs.Kinds.{settles};
+ghost use Rattle.tb_ledger.specs.Settling.{HasScratch};
+ghost use Rattle.tb_shelving.specs.Shelving.{TakesMessage};
 ghost use Rattle.tb_movements.specs.Told.{IsTold};
 ghost use Rattle.tb_holdings.specs.Book.{TakesRoom};
 ghost use Rattle.tb_message.specs.declared.message.Entry.{Entry};
 ghost use Rattle.tb_history.specs.Roster.{announcement_of, announcements};
-ghost use Rattle.tb_core.specs.Auctions.{announced_in};
-ghost use Rattle.tb_core.specs.Accounting.{IsReady, TellsNext};
+ghost use Rattle.tb_tables.specs.Auctions.{IsInOrder, announced_in};
+ghost use Rattle.tb_ledger.specs.Accounting.{IsReady, TellsNext};
 ghost use Rattle.tb_core.specs.Crediting.{HasSettleRoom, movement_in, settled_in};
-ghost use Rattle.tb_core.specs.House.{AreFew, AreSame, AreTied, HasEntered, HasRoom, HasRows, IsInOrder, IsTakenBack, KeepsRows};
+ghost use Rattle.tb_core.specs.House.{AreFew, AreSame, AreTied, HasEntered, HasRoom, HasRows, IsTakenBack, KeepsRows};
 
-use crate::accounts::{account, bill_number, reserve_accounts};
-use crate::ahead::{count_announced, has_settlement, have_places, reserve_places};
-use crate::auctions::{Auctions, terms_of};
-use crate::bidding::{Bids, Cancels, Reports};
-use crate::calendar::Calendar;
-use crate::crediting::credit_awards;
-use crate::entering::{
-    enter_auction, enter_bid, enter_bidder, enter_calendar, enter_cancel, enter_holiday,
-    enter_published, enter_redeemed, enter_report, enter_settled, enter_submitter,
-};
-use crate::names::Names;
-use crate::roster::{Bidders, Bills, Holidays, Submitters, number_of};
-use crate::scratch::Scratch;
-use crate::settling::cut_auction;
-use crate::shelving::enter_line;
 use std::alloc::Global;
 use tb_holdings::Accounts;
 use tb_index::{Chained, Keyed, Latest, TwiceKeyed};
+use tb_ledger::{Scratch, account, bill_number, credit_awards, cut_auction, reserve_accounts};
 use tb_message::{Entry, Message};
 use tb_movements::empty_book;
 use tb_shelf::Shelf;
+use tb_shelving::{count_announced, enter_line, has_settlement, have_places, reserve_places};
+use tb_tables::{
+    Auctions, Bidders, Bids, Bills, Calendar, Cancels, Holidays, Names, Reports, Submitters,
+    enter_auction, enter_bid, enter_bidder, enter_calendar, enter_cancel, enter_holiday,
+    enter_published, enter_redeemed, enter_report, enter_settled, enter_submitter, number_of,
+    terms_of,
+};
 use tb_terms::{EasternDays, Terms};
 use tb_units::{Ident, Moment, OutOfMemory};
 

@@ -18,7 +18,7 @@ use Rattle.tb_desk.proofs.JudgeLemmas.{sealed-all}
 use Rattle.tb_host.specs.DiskRun.{Stays}
 use Rattle.tb_host.specs.Headline.{Begins}
 use Rattle.tb_host.specs.ImportRun.{AreSent, IsImport, SentRow}
-use Rattle.tb_host.specs.ScriptHeadline.{AreAnsweredBy, AreRepliedIn, AreSealedReplies, HasAccepted, IsRowAcknowledged, RowsHeadline, RunHasHeadline, SentTurn}
+use Rattle.tb_host.specs.ScriptHeadline.{AreAnsweredBy, AreRepliedIn, AreSealedReplies, AreSentAt, HasAccepted, IsRowAcknowledged, RowsHeadline, RunHasHeadline, SentTurn}
 use Rattle.tb_host.specs.Standings.{Standing}
 use Rattle.tb_host.specs.declared.sender.Sender.{Sender}
 use Rattle.tb_host.proofs.AnsweredLemmas.{Begins-both, Contains-begins, IsBetween-here, IsLegal-begins, answered-on, rows-stand}
@@ -108,28 +108,11 @@ module _ (disk : DiskState) (first last : Standing) (after : List Entry) (turn :
       );
     }
 
--- a run of rows between those before it and those behind it
-record IsSentAt (sender : Sender) (clock clock' : ClockState) (first last : Standing) (before : List (List SentRow))
-    (run : List SentRow) (behind : List (List SentRow)) (text : List ℕ) : Type 0
-  where
-    pub read : ClockState
-    pub read' : ClockState
-    pub stood : Standing
-    pub next : Standing
-    pub earlier : List ℕ
-    pub lines : List ℕ
-    pub later : List ℕ
-    pub led : IsImport sender clock read first before earlier stood
-    pub sent : AreSent (caller_of (registrations stood.history) sender.operator sender.key) read read' run stood lines
-        next
-    pub leads : IsImport sender read' clock' next behind later last
-    pub written : text ≡ earlier ++ (lines ++ later)
-
 -- an import is cut there
 import-cut : (sender : Sender) (clock clock' : ClockState) (first last : Standing) (before : List (List SentRow))
     (run : List SentRow) (behind : List (List SentRow)) (text : List ℕ)
     → IsImport sender clock clock' first (before ++ run ∷ behind) text last
-    → IsSentAt sender clock clock' first last before run behind text
+    → AreSentAt sender clock clock' first last before run behind text
 import-cut sender clock clock' first last [] run behind text sent = record {
   read = clock;
   read' = sent.0;
@@ -200,17 +183,7 @@ pub RunHasHeadline-here : (sender : Sender) (disk : DiskState) (clock clock' : C
 RunHasHeadline-here sender disk clock clock' first last before run behind text sent stays =
     let cut = import-cut sender clock clock' first last before run behind text sent in
     record {
-      read = cut.read;
-      read' = cut.read';
-      stood = cut.stood;
-      next = cut.next;
-      earlier = cut.earlier;
-      lines = cut.lines;
-      later = cut.later;
-      led = cut.led;
-      sent = cut.sent;
-      leads = cut.leads;
-      written = cut.written;
+      at = cut;
       headline = λ caller known.
           caller-headline disk first last cut.stood cut.next cut.read cut.read' caller run cut.lines
           (import-grown sender clock cut.read before first cut.stood cut.earlier cut.led)

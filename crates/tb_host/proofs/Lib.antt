@@ -48,3 +48,4 @@ mod ScriptHeadlineLemmas
 mod OwnLineLemmas
 mod ImportHeadlineLemmas
 mod OwnRowLemmas
+pub mod PlanLemmas

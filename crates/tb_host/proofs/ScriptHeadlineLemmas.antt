@@ -20,7 +20,7 @@ use Rattle.tb_desk.specs.declared.reply.Reply.TheVariants as turned
 use Rattle.tb_host.specs.DiskRun.{Stays}
 use Rattle.tb_host.specs.Headline.{Begins}
 use Rattle.tb_host.specs.Replies.{Asks, IsAnswered, IsReply, IsSaid, IsTold, asked_by, refused}
-use Rattle.tb_host.specs.ScriptHeadline.{HasHeadline, IsAcknowledged, IsRepliedIn, IsRowAccepted, IsSealedReply, IsToldByTheRule, LineHeadline, Replied, Says, accepted_line}
+use Rattle.tb_host.specs.ScriptHeadline.{HasHeadline, IsAcknowledged, IsActedOnAt, IsRepliedIn, IsRowAccepted, IsSealedReply, IsToldByTheRule, LineHeadline, Replied, Says, accepted_line}
 use Rattle.tb_host.specs.ScriptRun.{IsActedOn, IsRun}
 use Rattle.tb_host.specs.Standings.{Standing}
 use Rattle.tb_host.specs.Turns.{told, turn_text, unavailable}
@@ -226,25 +226,11 @@ module _ (disk : DiskState) (first last : Standing) (after : List Entry) (line :
 
 -- ---- one line of a run
 
--- a line between those before it and those behind it
-record IsCutAt (operator : List ℕ) (first last : Standing) (before : List (List ℕ)) (line : List ℕ)
-    (behind : List (List ℕ)) (replies : List ℕ) : Type 0
-  where
-    pub stood : Standing
-    pub next : Standing
-    pub earlier : List ℕ
-    pub reply : List ℕ
-    pub later : List ℕ
-    pub led : IsRun operator first before earlier stood
-    pub acted : IsActedOn operator stood line reply next
-    pub leads : IsRun operator next behind later last
-    pub written : replies ≡ earlier ++ (reply ++ later)
-
 -- a run is cut there
 run-cut : (operator : List ℕ) (first last : Standing) (before : List (List ℕ)) (line : List ℕ)
     (behind : List (List ℕ)) (replies : List ℕ)
     → IsRun operator first (before ++ line ∷ behind) replies last
-    → IsCutAt operator first last before line behind replies
+    → IsActedOnAt operator first last before line behind replies
 run-cut operator first last [] line behind replies run = record {
   stood = first;
   next = run.1;
@@ -299,15 +285,7 @@ HasHeadline-here operator disk first last before line behind replies run stays =
       stays = stays;
     } in
     record {
-      stood = cut.stood;
-      next = cut.next;
-      earlier = cut.earlier;
-      reply = cut.reply;
-      later = cut.later;
-      led = cut.led;
-      acted = cut.acted;
-      leads = cut.leads;
-      written = cut.written;
+      at = cut;
       history = on.history;
       settled = on.settled;
       headline = line-headline disk first last cut.next.history replied kept;

@@ -114,10 +114,9 @@ pub record LineHeadline (disk : DiskState) (first last : List Entry) (line : Rep
   pub sealed : IsSealedReply line
   pub holdings : AddsUp line.history × AddsUp last
 
--- One line of a run, between those before it and those behind it. It was acted on where those before it led, and
--- answered on the history there, or on that with the group in doubt; and of its reply the headline holds.
-pub record HasHeadline (operator : List ℕ) (disk : DiskState) (first last : Standing) (before : List (List ℕ))
-    (line : List ℕ) (behind : List (List ℕ)) (replies : List ℕ) : Type 0
+-- one line of a run, between those before it and those behind it: it was acted on where those before it led
+pub record IsActedOnAt (operator : List ℕ) (first last : Standing) (before : List (List ℕ)) (line : List ℕ)
+    (behind : List (List ℕ)) (replies : List ℕ) : Type 0
   where
     pub stood : Standing
     pub next : Standing
@@ -128,14 +127,21 @@ pub record HasHeadline (operator : List ℕ) (disk : DiskState) (first last : St
     pub acted : IsActedOn operator stood line reply next
     pub leads : IsRun operator next behind later last
     pub written : replies ≡ earlier ++ (reply ++ later)
+
+-- The line was answered on the history where it was acted on, or on that with the group in doubt; and of its reply the
+-- headline holds.
+pub record HasHeadline (operator : List ℕ) (disk : DiskState) (first last : Standing) (before : List (List ℕ))
+    (line : List ℕ) (behind : List (List ℕ)) (replies : List ℕ) : Type 0
+  where
+    pub at : IsActedOnAt operator first last before line behind replies
     pub history : List Entry
-    pub settled : (history ≡ stood.history) ⊎ (history ≡ stood.history ++ stood.doubt)
+    pub settled : (history ≡ at.stood.history) ⊎ (history ≡ at.stood.history ++ at.stood.doubt)
     pub headline : LineHeadline disk first.history last.history (record {
-      caller = caller_of (registrations stood.history) operator acted.key;
-      moment = acted.moment;
-      json = acted.json;
+      caller = caller_of (registrations at.stood.history) operator at.acted.key;
+      moment = at.acted.moment;
+      json = at.acted.json;
       history = history;
-      reply = reply;
+      reply = at.reply;
     })
 
 -- the line asks the entry's message, by a key that is its submitter's on the last history
@@ -230,9 +236,9 @@ pub record AreAnsweredBy (disk : DiskState) (first last stood : Standing) (clock
     pub settled : (turn.history ≡ stood.history) ⊎ (turn.history ≡ stood.history ++ stood.doubt)
     pub headline : RowsHeadline disk first.history last.history turn
 
--- One run of rows, between those before it and those behind it. It was sent where those before it led: nobody's rows
--- were refused (`AreSent`), and of a caller's the headline holds.
-pub record RunHasHeadline (sender : Sender) (disk : DiskState) (clock clock' : ClockState) (first last : Standing)
+-- one run of rows, between those before it and those behind it: it was sent where those before it led, and refused
+-- where its key is nobody's
+pub record AreSentAt (sender : Sender) (clock clock' : ClockState) (first last : Standing)
     (before : List (List SentRow)) (run : List SentRow) (behind : List (List SentRow)) (text : List ℕ) : Type 0
   where
     pub read : ClockState
@@ -247,6 +253,12 @@ pub record RunHasHeadline (sender : Sender) (disk : DiskState) (clock clock' : C
         next
     pub leads : IsImport sender read' clock' next behind later last
     pub written : text ≡ earlier ++ (lines ++ later)
+
+-- and where the rows are a caller's, the headline holds of its replies
+pub record RunHasHeadline (sender : Sender) (disk : DiskState) (clock clock' : ClockState) (first last : Standing)
+    (before : List (List SentRow)) (run : List SentRow) (behind : List (List SentRow)) (text : List ℕ) : Type 0
+  where
+    pub at : AreSentAt sender clock clock' first last before run behind text
     pub headline : (caller : List ℕ)
-        → caller_of (registrations stood.history) sender.operator sender.key ≡ Some caller
-        → AreAnsweredBy disk first last stood read read' caller run lines
+        → caller_of (registrations at.stood.history) sender.operator sender.key ≡ Some caller
+        → AreAnsweredBy disk first last at.stood at.read at.read' caller run at.lines

@@ -1,6 +1,6 @@
 //! Runs in which bills are settled, moved and redeemed. The replies are worked out by hand from the rules.
-use crate::run_tests::{WORDS, replies, script};
-use crate::tests::{ended, run};
+use crate::run_tests::{WORDS, are_replied};
+use crate::tests::{Host, runs};
 use std::test::Fail;
 
 /// A bill of 1,000: 400 and 400 are transferred, 500 are pledged and 300 of them released. It matures on a Saturday
@@ -220,17 +220,21 @@ const REOPENED: [(&str, &str); 25] = [
 
 #[test]
 fn bills_are_settled_moved_and_redeemed(rt: HostRuntime) -> Result<(), Fail> {
-    for cases in [WORKED.as_slice(), REOPENED.as_slice()] {
-        let text = script(rt.alloc(), "", cases)?;
-        let told = replies(rt.alloc(), "", cases)?;
-        let run = run(&rt, rt.alloc(), &WORDS, text.as_str(), 4096, &[], &[])?;
-        ended(&rt, &run, 0, &told, "");
-    }
+    let host = Host {
+        rt: &rt,
+        alloc: rt.alloc(),
+    };
+    assert!(rt; are_replied(&host, "", "", &WORKED)?);
+    assert!(rt; are_replied(&host, "", "", &REOPENED)?);
     Ok(())
 }
 
 #[test]
 fn a_roster_of_4096_submitters_is_full(rt: HostRuntime) -> Result<(), Fail> {
+    let host = Host {
+        rt: &rt,
+        alloc: rt.alloc(),
+    };
     let alloc = rt.alloc();
     let mut text = String::new(alloc);
     let mut told = String::new(alloc);
@@ -246,7 +250,6 @@ fn a_roster_of_4096_submitters_is_full(rt: HostRuntime) -> Result<(), Fail> {
     }
     text.push_str("end\n")?;
     told.push_str("refused 51 RosterFull\n")?;
-    let run = run(&rt, alloc, &WORDS, text.as_str(), 8192, &[], &[])?;
-    ended(&rt, &run, 0, &told, "");
+    assert!(rt; runs(&host, &WORDS, &text, 8192, 0, &told, "")?);
     Ok(())
 }

@@ -2,7 +2,7 @@
 //! replies are worked out by hand from the formats and the rules.
 use crate::opening::{RESULTS, opened, registered};
 use crate::run_tests::{ORDINARY, WORDS};
-use crate::tests::{Outcome, disk_of, ended, leaves, run, run_on};
+use crate::tests::{Host, Outcome, disk_of, ended, is_ended, joined, run, run_on};
 use std::alloc::Global;
 use std::process::Abort;
 use std::str;
@@ -66,52 +66,73 @@ fn run_script<R: Threads + Wait + Sync>(
     run_on(rt, alloc, &WORDS, text, 4096, &[], &[], disk)
 }
 
+// The script on a disk with these contents, of which no call fails: it ends with this status, has written this, and
+// leaves these contents. The reads of these numbers would fail.
+fn goes_on<R: Abort + Threads + Wait + Sync>(
+    host: &Host<'_, R>,
+    contents: &[u8],
+    text: &str,
+    failing_reads: &[u64],
+    status: u8,
+    out: &str,
+    err: &str,
+    left: &[u8],
+) -> Result<bool, Fail> {
+    let (rt, alloc) = (host.rt, host.alloc);
+    let disk = disk_of(rt, alloc, contents, &[], 0)?;
+    let run = run_on(rt, alloc, &WORDS, text, 4096, failing_reads, &[], disk)?;
+    Ok(is_ended(&run, status, out, err) && run.disk.contents() == left)
+}
+
 #[test]
 fn a_journal_has_the_bytes_of_its_format(rt: HostRuntime) -> Result<(), Fail> {
-    let alloc = rt.alloc();
-    let first = run(&rt, alloc, &WORDS, FIRST, 64, &[], &[])?;
-    leaves(&rt, &first, 0, "accepted 1 1730700000\n", "", ONE_ENTRY);
-    for contents in [b"".as_slice(), b"seventeen bytes.."] {
-        let disk = disk_of(&rt, alloc, contents, &[], 0)?;
-        let empty = run_script(&rt, alloc, "end\n", disk)?;
-        leaves(&rt, &empty, 0, "", "", EMPTY);
-    }
+    let host = Host {
+        rt: &rt,
+        alloc: rt.alloc(),
+    };
+    let accepted = "accepted 1 1730700000\n";
+    assert!(rt; goes_on(&host, b"", FIRST, &[], 0, accepted, "", ONE_ENTRY)?);
+    assert!(rt; goes_on(&host, b"", "end\n", &[], 0, "", "", EMPTY)?);
+    assert!(rt; goes_on(&host, b"seventeen bytes..", "end\n", &[], 0, "", "", EMPTY)?);
     Ok(())
 }
 
 #[test]
 fn a_second_run_goes_on_with_the_history_of_the_first(rt: HostRuntime) -> Result<(), Fail> {
+    let host = Host {
+        rt: &rt,
+        alloc: rt.alloc(),
+    };
     let alloc = rt.alloc();
     let first = run(&rt, alloc, &WORDS, ORDINARY, 4096, &[], &[])?;
-    let disk = disk_of(&rt, alloc, first.disk.contents(), &[], 0)?;
-    let second = run_script(&rt, alloc, ORDINARY, disk)?;
-    let told = format!(in alloc; "{SECOND_REPLIES}{RESULTS}{SECOND_AWARDS}{RESULTS}")?;
-    leaves(&rt, &second, 0, &told, "", first.disk.contents());
+    let journal = first.disk.contents();
+    let told = joined(alloc, &[SECOND_REPLIES, RESULTS, SECOND_AWARDS, RESULTS])?;
+    assert!(rt; goes_on(&host, journal, ORDINARY, &[], 0, &told, "", journal)?);
     Ok(())
+}
+
+// These contents are refused so, and stay. The first read would fail: nothing is read.
+fn is_refused<R: Abort + Threads + Wait + Sync>(
+    host: &Host<'_, R>,
+    contents: &[u8],
+    status: u8,
+    told: &str,
+) -> Result<bool, Fail> {
+    goes_on(host, contents, FIRST, &[0], status, "", told, contents)
 }
 
 #[test]
 fn a_file_that_is_no_journal_is_refused_and_stays(rt: HostRuntime) -> Result<(), Fail> {
-    let alloc = rt.alloc();
-    for (contents, status, told) in [
-        (
-            b"aaaaaaaaaaaaaaaa\n.".as_slice(),
-            7,
-            "not a journal 61616161616161616161616161616161\n",
-        ),
-        (
-            b"\0\x01\x7f\x80\xff\xfeTBHOSTJOURNAL",
-            7,
-            "not a journal 00017f80fffe5442484f53544a4f5552\n",
-        ),
-        (&ONE_ENTRY[..40], 8, "damaged at 16\n"),
-        (&ONE_ENTRY[..54], 8, "damaged at 54\n"),
-    ] {
-        // The first read would fail: nothing is read.
-        let disk = disk_of(&rt, alloc, contents, &[], 0)?;
-        let refused = run_on(&rt, alloc, &WORDS, FIRST, 64, &[0], &[], disk)?;
-        leaves(&rt, &refused, status, "", told, contents);
-    }
+    let host = Host {
+        rt: &rt,
+        alloc: rt.alloc(),
+    };
+    let letters = "not a journal 61616161616161616161616161616161\n";
+    let bytes = "not a journal 00017f80fffe5442484f53544a4f5552\n";
+    assert!(rt; is_refused(&host, b"aaaaaaaaaaaaaaaa\n.", 7, letters)?);
+    assert!(rt; is_refused(&host, b"\0\x01\x7f\x80\xff\xfeTBHOSTJOURNAL", 7, bytes)?);
+    assert!(rt; is_refused(&host, &ONE_ENTRY[..40], 8, "damaged at 16\n")?);
+    assert!(rt; is_refused(&host, &ONE_ENTRY[..54], 8, "damaged at 54\n")?);
     Ok(())
 }
 
@@ -217,15 +238,25 @@ fn the_next_message_resolves_what_is_in_doubt(rt: HostRuntime) -> Result<(), Fai
     Ok(())
 }
 
+// These words leave the disk without a call.
+fn leaves_the_disk<R: Abort + Threads + Wait + Sync>(
+    host: &Host<'_, R>,
+    words: &[&str],
+    status: u8,
+) -> Result<bool, Fail> {
+    let (rt, alloc) = (host.rt, host.alloc);
+    let disk = disk_of(rt, alloc, b"kept", &[0], 0)?;
+    let run = run_on(rt, alloc, words, "end\n", 64, &[], &[], disk)?;
+    Ok(run.status == status && run.disk.calls() == 0 && run.disk.contents() == b"kept".as_slice())
+}
+
 #[test]
 fn award_leaves_the_disk(rt: HostRuntime) -> Result<(), Fail> {
-    let alloc = rt.alloc();
-    for (words, status) in [(["award"].as_slice(), 3), (["award", "all"].as_slice(), 2)] {
-        let disk = disk_of(&rt, alloc, b"kept", &[0], 0)?;
-        let run = run_on(&rt, alloc, words, "end\n", 64, &[], &[], disk)?;
-        assert_eq!(rt; run.status, status);
-        assert_eq!(rt; run.disk.calls(), 0);
-        assert_eq!(rt; run.disk.contents(), b"kept".as_slice());
-    }
+    let host = Host {
+        rt: &rt,
+        alloc: rt.alloc(),
+    };
+    assert!(rt; leaves_the_disk(&host, &["award"], 3)?);
+    assert!(rt; leaves_the_disk(&host, &["award", "all"], 2)?);
     Ok(())
 }

@@ -1,7 +1,7 @@
 //! How many reads the commands make: none behind the line that ends them, and none between a line and its reply.
 use crate::import_tests::{IMPORT, TWO as TABLE};
 use crate::run_tests::{TWO as SCRIPT, WORDS as RUN};
-use crate::tests::{BOOK, disk_of, serve_from};
+use crate::tests::{BOOK, Host, disk_of, joined, serve_from};
 use std::alloc::Global;
 use std::process::Abort;
 use std::sync::Wait;
@@ -32,32 +32,23 @@ impl Source for Watched {
 /// Runs the host on a text of which each byte is a read: it ends so, after so many reads. The writes of these numbers
 /// fail.
 fn reads<R: Abort + Threads + Wait + Sync>(
-    rt: &R,
-    alloc: Global,
+    host: &Host<'_, R>,
     words: &[&str],
     text: &str,
     failing_writes: &[u64],
     status: u8,
     reads: usize,
-) -> Result<(), Fail> {
+) -> Result<bool, Fail> {
+    let (rt, alloc) = (host.rt, host.alloc);
     let bytes = text.as_bytes().to_vec(alloc)?;
+    let disk = disk_of(rt, alloc, b"", &[], 0)?;
     let mut input = Watched {
         source: TextSource::new(bytes, 1, Vec::new(alloc)),
         reads: 0,
     };
-    let disk = disk_of(rt, alloc, b"", &[], 0)?;
-    let (run, _gates) = serve_from(
-        rt,
-        alloc,
-        words,
-        &mut input,
-        failing_writes,
-        disk,
-        Vec::new(alloc),
-    )?;
-    assert_eq!(rt; run.status, status, "{text}");
-    assert_eq!(rt; input.reads, reads as u64, "{text}");
-    Ok(())
+    let gates = Vec::new(alloc);
+    let (run, _gates) = serve_from(rt, alloc, words, &mut input, failing_writes, disk, gates)?;
+    Ok(run.status == status && input.reads == reads as u64)
 }
 
 const OFFERING: &str = "offering 1000000000 1000000 91\n";
@@ -73,72 +64,79 @@ fn long_line(alloc: Global) -> Result<String, Fail> {
 
 const LONG: usize = 8192 + 2;
 
+// These lines, and what stands behind them: nothing of that is read. Of a long line as much is read as tells that it is
+// one.
+fn ends_behind<R: Abort + Threads + Wait + Sync>(
+    host: &Host<'_, R>,
+    words: &[&str],
+    front: &str,
+    last: &str,
+    rest: &str,
+    status: u8,
+) -> Result<bool, Fail> {
+    let text = joined(host.alloc, &[front, last, rest])?;
+    let read = front.len().saturating_add(last.len().min(LONG));
+    reads(host, words, &text, &[], status, read)
+}
+
 #[test]
 fn award_reads_nothing_behind_the_line_that_ends_it(rt: HostRuntime) -> Result<(), Fail> {
-    let alloc = rt.alloc();
-    let long = long_line(alloc)?;
-    for (first, rest, status) in [
-        (BOOK, "more\n", 0),
-        ("bad\n", "more\nend\n", 3),
-        ("n a 100\n", "end\n", 3),
-        (long.as_str(), "\nend\n", 3),
-    ] {
-        let text = format!(in alloc; "{first}{rest}")?;
-        let read = first.len().min(LONG);
-        reads(&rt, alloc, &["award"], &text, &[], status, read)?;
-    }
-    for (last, rest) in [
-        ("bad\n", "end\n"),
-        ("n a 101\n", "end\n"),
-        ("offering 1000000000 1000000 91\n", "end\n"),
-        (long.as_str(), "\nend\n"),
-    ] {
-        let text = format!(in alloc; "{OFFERING}n a 100\n{last}{rest}")?;
-        let read = OFFERING
-            .len()
-            .saturating_add(8)
-            .saturating_add(last.len().min(LONG));
-        reads(&rt, alloc, &["award"], &text, &[], 3, read)?;
-    }
+    let host = Host {
+        rt: &rt,
+        alloc: rt.alloc(),
+    };
+    let long = long_line(rt.alloc())?;
+    let front = "offering 1000000000 1000000 91\nn a 100\n";
+    assert!(rt; ends_behind(&host, &["award"], "", BOOK, "more\n", 0)?);
+    assert!(rt; ends_behind(&host, &["award"], "", "bad\n", "more\nend\n", 3)?);
+    assert!(rt; ends_behind(&host, &["award"], "", "n a 100\n", "end\n", 3)?);
+    assert!(rt; ends_behind(&host, &["award"], "", &long, "\nend\n", 3)?);
+    assert!(rt; ends_behind(&host, &["award"], front, "bad\n", "end\n", 3)?);
+    assert!(rt; ends_behind(&host, &["award"], front, "n a 101\n", "end\n", 3)?);
+    assert!(rt; ends_behind(&host, &["award"], front, OFFERING, "end\n", 3)?);
+    assert!(rt; ends_behind(&host, &["award"], front, &long, "\nend\n", 3)?);
     Ok(())
 }
 
 // One read more than there are bytes finds the end of the input.
+fn finds_the_end<R: Abort + Threads + Wait + Sync>(
+    host: &Host<'_, R>,
+    words: &[&str],
+    text: &str,
+    status: u8,
+) -> Result<bool, Fail> {
+    reads(host, words, text, &[], status, text.len().saturating_add(1))
+}
+
 #[test]
 fn the_end_of_the_input_is_found_once(rt: HostRuntime) -> Result<(), Fail> {
-    let alloc = rt.alloc();
-    for text in [
-        "",
-        "offering 1000000000 1000000 91\n",
-        "offering 1000000000 1000000 91",
-    ] {
-        let read = text.len().saturating_add(1);
-        reads(&rt, alloc, &["award"], text, &[], 3, read)?;
-    }
-    for text in ["", "1730700000 k1 {}\n", "1730700000 k1 {}"] {
-        let read = text.len().saturating_add(1);
-        reads(&rt, alloc, &RUN, text, &[], 3, read)?;
-    }
-    for (text, status) in [(TABLE, 0), ("number\n", 3), ("", 3)] {
-        let read = text.len().saturating_add(1);
-        reads(&rt, alloc, &IMPORT, text, &[], status, read)?;
-    }
+    let host = Host {
+        rt: &rt,
+        alloc: rt.alloc(),
+    };
+    assert!(rt; finds_the_end(&host, &["award"], "", 3)?);
+    assert!(rt; finds_the_end(&host, &["award"], "offering 1000000000 1000000 91\n", 3)?);
+    assert!(rt; finds_the_end(&host, &["award"], "offering 1000000000 1000000 91", 3)?);
+    assert!(rt; finds_the_end(&host, &RUN, "", 3)?);
+    assert!(rt; finds_the_end(&host, &RUN, "1730700000 k1 {}\n", 3)?);
+    assert!(rt; finds_the_end(&host, &RUN, "1730700000 k1 {}", 3)?);
+    assert!(rt; finds_the_end(&host, &IMPORT, TABLE, 0)?);
+    assert!(rt; finds_the_end(&host, &IMPORT, "number\n", 3)?);
+    assert!(rt; finds_the_end(&host, &IMPORT, "", 3)?);
     Ok(())
 }
 
 #[test]
 fn run_reads_nothing_behind_the_line_that_ends_it(rt: HostRuntime) -> Result<(), Fail> {
-    let alloc = rt.alloc();
-    let long = long_line(alloc)?;
-    for (last, rest, status) in [
-        ("end\n", "more\n", 0),
-        ("bad\n", "more\nend\n", 3),
-        (long.as_str(), "\nend\n", 3),
-    ] {
-        let text = format!(in alloc; "1730700000 k1 {{}}\n{last}{rest}")?;
-        let read = last.len().min(LONG).saturating_add(17);
-        reads(&rt, alloc, &RUN, &text, &[], status, read)?;
-    }
+    let host = Host {
+        rt: &rt,
+        alloc: rt.alloc(),
+    };
+    let long = long_line(rt.alloc())?;
+    let front = "1730700000 k1 {}\n";
+    assert!(rt; ends_behind(&host, &RUN, front, "end\n", "more\n", 0)?);
+    assert!(rt; ends_behind(&host, &RUN, front, "bad\n", "more\nend\n", 3)?);
+    assert!(rt; ends_behind(&host, &RUN, front, &long, "\nend\n", 3)?);
     Ok(())
 }
 
@@ -146,8 +144,12 @@ fn run_reads_nothing_behind_the_line_that_ends_it(rt: HostRuntime) -> Result<(),
 // behind that line was read.
 #[test]
 fn a_line_is_answered_before_more_is_read(rt: HostRuntime) -> Result<(), Fail> {
-    for (write, read) in [(0, 83), (1, 100)] {
-        reads(&rt, rt.alloc(), &RUN, SCRIPT, &[write], 5, read)?;
-    }
-    reads(&rt, rt.alloc(), &RUN, SCRIPT, &[2], 0, 104)
+    let host = Host {
+        rt: &rt,
+        alloc: rt.alloc(),
+    };
+    assert!(rt; reads(&host, &RUN, SCRIPT, &[0], 5, 83)?);
+    assert!(rt; reads(&host, &RUN, SCRIPT, &[1], 5, 100)?);
+    assert!(rt; reads(&host, &RUN, SCRIPT, &[2], 0, 104)?);
+    Ok(())
 }

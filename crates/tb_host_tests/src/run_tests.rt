@@ -1,8 +1,11 @@
 //! Runs of scripts. The ordinary auction and the rows of refusals are worked out by hand from the rules.
 use crate::opening::{RESULTS, opened, registered};
-use crate::tests::{ended, run};
+use crate::tests::{Host, ends, joined, runs};
 use std::alloc::Global;
+use std::process::Abort;
+use std::sync::Wait;
 use std::test::Fail;
+use std::thread::Threads;
 
 /// The words of a run whose operator is `root`.
 pub const WORDS: [&str; 3] = ["run", "--op", "root"];
@@ -174,21 +177,31 @@ const ANNOUNCEMENTS: [(&str, &str); 6] = [
     ),
 ];
 
+// The ordinary auction, in pieces of this size.
+fn goes_through<R: Abort + Threads + Wait + Sync>(
+    host: &Host<'_, R>,
+    piece: usize,
+) -> Result<bool, Fail> {
+    let told = joined(host.alloc, &[ORDINARY_REPLIES, RESULTS])?;
+    runs(host, &WORDS, ORDINARY, piece, 0, &told, "")
+}
+
 #[test]
 fn an_ordinary_auction_goes_from_its_announcement_to_its_awards(
     rt: HostRuntime,
 ) -> Result<(), Fail> {
-    let told = format!(in rt.alloc(); "{ORDINARY_REPLIES}{RESULTS}")?;
-    for piece in [1, 100, ORDINARY.len()] {
-        let run = run(&rt, rt.alloc(), &WORDS, ORDINARY, piece, &[], &[])?;
-        assert_eq!(rt; run.status, 0, "pieces of {piece}");
-        ended(&rt, &run, 0, &told, "");
-    }
+    let host = Host {
+        rt: &rt,
+        alloc: rt.alloc(),
+    };
+    assert!(rt; goes_through(&host, 1)?);
+    assert!(rt; goes_through(&host, 100)?);
+    assert!(rt; goes_through(&host, ORDINARY.len())?);
     Ok(())
 }
 
 /// The lines behind the first ones, and the end of the script.
-pub fn script(alloc: Global, first: &str, cases: &[(&str, &str)]) -> Result<String, Fail> {
+fn script(alloc: Global, first: &str, cases: &[(&str, &str)]) -> Result<String, Fail> {
     let mut text = first.to_string(alloc)?;
     for (line, _) in cases {
         text.push_str(line)?;
@@ -199,7 +212,7 @@ pub fn script(alloc: Global, first: &str, cases: &[(&str, &str)]) -> Result<Stri
 }
 
 /// The replies to them, behind those to the first ones.
-pub fn replies(alloc: Global, first: &str, cases: &[(&str, &str)]) -> Result<String, Fail> {
+fn replies(alloc: Global, first: &str, cases: &[(&str, &str)]) -> Result<String, Fail> {
     let mut text = first.to_string(alloc)?;
     for (_, reply) in cases {
         text.push_str(reply)?;
@@ -208,46 +221,67 @@ pub fn replies(alloc: Global, first: &str, cases: &[(&str, &str)]) -> Result<Str
     Ok(text)
 }
 
+/// The first lines are replied to so, and each of the others as it says.
+pub fn are_replied<R: Abort + Threads + Wait + Sync>(
+    host: &Host<'_, R>,
+    first: &str,
+    first_replies: &str,
+    cases: &[(&str, &str)],
+) -> Result<bool, Fail> {
+    let text = script(host.alloc, first, cases)?;
+    let told = replies(host.alloc, first_replies, cases)?;
+    runs(host, &WORDS, &text, 4096, 0, &told, "")
+}
+
 #[test]
 fn each_line_has_its_reply(rt: HostRuntime) -> Result<(), Fail> {
-    for cases in [
-        BID_RULES.as_slice(),
-        CLOSINGS.as_slice(),
-        READINGS.as_slice(),
-        ANNOUNCEMENTS.as_slice(),
-    ] {
-        let text = script(rt.alloc(), OPENED, cases)?;
-        let told = replies(rt.alloc(), OPENED_REPLIES, cases)?;
-        let run = run(&rt, rt.alloc(), &WORDS, text.as_str(), 4096, &[], &[])?;
-        ended(&rt, &run, 0, &told, "");
-    }
+    let host = Host {
+        rt: &rt,
+        alloc: rt.alloc(),
+    };
+    assert!(rt; are_replied(&host, OPENED, OPENED_REPLIES, &BID_RULES)?);
+    assert!(rt; are_replied(&host, OPENED, OPENED_REPLIES, &CLOSINGS)?);
+    assert!(rt; are_replied(&host, OPENED, OPENED_REPLIES, &READINGS)?);
+    assert!(rt; are_replied(&host, OPENED, OPENED_REPLIES, &ANNOUNCEMENTS)?);
     Ok(())
 }
 
 const FIRST: &str = registered!();
 
+// The first message, and what stands right behind it: that is replied to so, and then this is told.
+fn stops<R: Abort + Threads + Wait + Sync>(
+    host: &Host<'_, R>,
+    rest: &str,
+    out: &str,
+    told: &str,
+) -> Result<bool, Fail> {
+    let text = joined(host.alloc, &[FIRST, rest])?;
+    let out = joined(host.alloc, &["accepted 1 1730700000\n", out])?;
+    runs(host, &WORDS, &text, 7, 3, &out, told)
+}
+
 #[test]
 fn lines_before_a_bad_one_are_acted_on(rt: HostRuntime) -> Result<(), Fail> {
-    for (rest, out, told) in [
-        ("\nk1 {}\nend\n", "", "bad input at line 2\n"),
-        ("\n", "", "bad input at line 2\n"),
-        ("", "", "bad input at line 2\n"),
-        ("\n1730700000 k1 \nend\n", "", "bad input at line 2\n"),
-        ("\n1730700000  k1 {}\nend\n", "", "bad input at line 2\n"),
-        ("\n946702799 k1 {}\nend\n", "", "bad input at line 2\n"),
-        ("\nend \n", "", "bad input at line 2\n"),
-        (
+    let host = Host {
+        rt: &rt,
+        alloc: rt.alloc(),
+    };
+    let second = "bad input at line 2\n";
+    assert!(rt; stops(&host, "\nk1 {}\nend\n", "", second)?);
+    assert!(rt; stops(&host, "\n", "", second)?);
+    assert!(rt; stops(&host, "", "", second)?);
+    assert!(rt; stops(&host, "\n1730700000 k1 \nend\n", "", second)?);
+    assert!(rt; stops(&host, "\n1730700000  k1 {}\nend\n", "", second)?);
+    assert!(rt; stops(&host, "\n946702799 k1 {}\nend\n", "", second)?);
+    assert!(rt; stops(&host, "\nend \n", "", second)?);
+    assert!(rt;
+        stops(
+            &host,
             "\n1730700000 k1 {\n\n",
             "refused 5 BadJson\n",
             "bad input at line 3\n",
-        ),
-    ] {
-        let text = format!(in rt.alloc(); "{FIRST}{rest}")?;
-        let out = format!(in rt.alloc(); "accepted 1 1730700000\n{out}")?;
-        let run = run(&rt, rt.alloc(), &WORDS, &text, 7, &[], &[])?;
-        assert_eq!(rt; run.status, 3, "{text}");
-        ended(&rt, &run, 3, &out, told);
-    }
+        )?
+    );
     Ok(())
 }
 
@@ -255,60 +289,115 @@ fn lines_before_a_bad_one_are_acted_on(rt: HostRuntime) -> Result<(), Fail> {
 fn a_script_may_be_empty_and_its_last_line_may_lack_the_line_feed(
     rt: HostRuntime,
 ) -> Result<(), Fail> {
-    for text in ["end\n", "end", "end\r\nwhat comes behind", "end\nend\n"] {
-        let run = run(&rt, rt.alloc(), &["run", "--op=root"], text, 3, &[], &[])?;
-        ended(&rt, &run, 0, "", "");
-    }
+    let host = Host {
+        rt: &rt,
+        alloc: rt.alloc(),
+    };
+    let words = ["run", "--op=root"];
+    assert!(rt; runs(&host, &words, "end\n", 3, 0, "", "")?);
+    assert!(rt; runs(&host, &words, "end", 3, 0, "", "")?);
+    assert!(rt; runs(&host, &words, "end\r\nwhat comes behind", 3, 0, "", "")?);
+    assert!(rt; runs(&host, &words, "end\nend\n", 3, 0, "", "")?);
     Ok(())
 }
 
 #[test]
 fn faulty_words_are_told(rt: HostRuntime) -> Result<(), Fail> {
-    for words in [
-        ["run"].as_slice(),
-        ["run", "--op"].as_slice(),
-        ["run", "--op", "Root"].as_slice(),
-        ["run", "--op", "root", "more"].as_slice(),
-        ["serve", "--op", "root"].as_slice(),
-        ["trial", "1", "0"].as_slice(),
-        ["import", "--op", "root"].as_slice(),
-    ] {
-        let run = run(&rt, rt.alloc(), words, "end\n", 3, &[], &[])?;
-        ended(&rt, &run, 2, "", "usage\n");
-    }
+    let host = Host {
+        rt: &rt,
+        alloc: rt.alloc(),
+    };
+    assert!(rt; runs(&host, &["run"], "end\n", 3, 2, "", "usage\n")?);
+    assert!(rt; runs(&host, &["run", "--op"], "end\n", 3, 2, "", "usage\n")?);
+    assert!(rt;
+        runs(
+            &host,
+            &["run", "--op", "Root"],
+            "end\n",
+            3,
+            2,
+            "",
+            "usage\n"
+        )?
+    );
+    assert!(rt;
+        runs(
+            &host,
+            &["run", "--op", "root", "more"],
+            "end\n",
+            3,
+            2,
+            "",
+            "usage\n"
+        )?
+    );
+    assert!(rt;
+        runs(
+            &host,
+            &["serve", "--op", "root"],
+            "end\n",
+            3,
+            2,
+            "",
+            "usage\n"
+        )?
+    );
+    assert!(rt; runs(&host, &["trial", "1", "0"], "end\n", 3, 2, "", "usage\n")?);
+    assert!(rt;
+        runs(
+            &host,
+            &["import", "--op", "root"],
+            "end\n",
+            3,
+            2,
+            "",
+            "usage\n"
+        )?
+    );
     Ok(())
 }
 
 pub const TWO: &str = registered!("\n1730700000 k1 {}\nend\n");
 
+const TWO_REPLIES: &str = "accepted 1 1730700000\nrefused 6 BadShape number\n";
+
+// Each byte is a read, and this one fails.
+fn is_cut_off<R: Abort + Threads + Wait + Sync>(
+    host: &Host<'_, R>,
+    read: u64,
+    out: &str,
+) -> Result<bool, Fail> {
+    ends(host, &WORDS, TWO, 1, &[read], &[], 4, out, "read fault\n")
+}
+
+// The lines end behind 83, 100 and 104 bytes, and nothing is read behind them.
 #[test]
 fn whole_lines_are_acted_on_where_a_read_fails(rt: HostRuntime) -> Result<(), Fail> {
-    // Each byte is a read: the lines end behind 83, 100 and 104 bytes, and nothing is read behind them.
-    for (read, out) in [
-        (0, ""),
-        (82, ""),
-        (83, "accepted 1 1730700000\n"),
-        (99, "accepted 1 1730700000\n"),
-        (100, "accepted 1 1730700000\nrefused 6 BadShape number\n"),
-        (103, "accepted 1 1730700000\nrefused 6 BadShape number\n"),
-    ] {
-        let run = run(&rt, rt.alloc(), &WORDS, TWO, 1, &[read], &[])?;
-        assert_eq!(rt; run.status, 4, "read {read}");
-        ended(&rt, &run, 4, out, "read fault\n");
-    }
-    let done = run(&rt, rt.alloc(), &WORDS, TWO, 1, &[104], &[])?;
-    assert_eq!(rt; done.status, 0);
+    let host = Host {
+        rt: &rt,
+        alloc: rt.alloc(),
+    };
+    assert!(rt; is_cut_off(&host, 0, "")?);
+    assert!(rt; is_cut_off(&host, 82, "")?);
+    assert!(rt; is_cut_off(&host, 83, "accepted 1 1730700000\n")?);
+    assert!(rt; is_cut_off(&host, 99, "accepted 1 1730700000\n")?);
+    assert!(rt; is_cut_off(&host, 100, TWO_REPLIES)?);
+    assert!(rt; is_cut_off(&host, 103, TWO_REPLIES)?);
+    assert!(rt; ends(&host, &WORDS, TWO, 1, &[104], &[], 0, TWO_REPLIES, "")?);
     Ok(())
 }
 
+// Each line has one write.
 #[test]
 fn a_write_that_fails_ends_the_run(rt: HostRuntime) -> Result<(), Fail> {
-    for (write, out) in [(0, ""), (1, "accepted 1 1730700000\n")] {
-        let failed = run(&rt, rt.alloc(), &WORDS, TWO, 64, &[], &[write])?;
-        ended(&rt, &failed, 5, out, "write fault\n");
-    }
-    let done = run(&rt, rt.alloc(), &WORDS, TWO, 64, &[], &[2])?;
-    assert_eq!(rt; done.status, 0, "each line has one write");
+    let host = Host {
+        rt: &rt,
+        alloc: rt.alloc(),
+    };
+    let first = "accepted 1 1730700000\n";
+    assert!(rt; ends(&host, &WORDS, TWO, 64, &[], &[0], 5, "", "write fault\n")?);
+    assert!(rt; ends(&host, &WORDS, TWO, 64, &[], &[1], 5, first, "write fault\n")?);
+    assert!(rt; ends(&host, &WORDS, TWO, 64, &[], &[2], 0, TWO_REPLIES, "")?);
     Ok(())
 }
 
@@ -359,15 +448,28 @@ fn other_bids(alloc: Global) -> Result<(String, String), Fail> {
     Ok((bids, accepted))
 }
 
+// Dealer1's lines with those of others between, and the replies.
+fn is_told_the_same<R: Abort + Threads + Wait + Sync>(
+    host: &Host<'_, R>,
+    others: &str,
+    replies: &str,
+) -> Result<bool, Fail> {
+    let text = joined(host.alloc, &[OPENED, BEFORE, others, BEHIND])?;
+    let told = joined(
+        host.alloc,
+        &[OPENED_REPLIES, BEFORE_REPLIES, replies, BEHIND_REPLIES],
+    )?;
+    runs(host, &WORDS, &text, 8192, 0, &told, "")
+}
+
 #[test]
 fn replies_are_the_same_where_others_send_a_thousand_bids(rt: HostRuntime) -> Result<(), Fail> {
-    let alloc = rt.alloc();
-    let (bids, accepted) = other_bids(alloc)?;
-    for (others, replies) in [("", ""), (bids.as_str(), accepted.as_str())] {
-        let text = format!(in alloc; "{OPENED}{BEFORE}{others}{BEHIND}")?;
-        let told = format!(in alloc; "{OPENED_REPLIES}{BEFORE_REPLIES}{replies}{BEHIND_REPLIES}")?;
-        let run = run(&rt, alloc, &WORDS, text.as_str(), 8192, &[], &[])?;
-        ended(&rt, &run, 0, &told, "");
-    }
+    let host = Host {
+        rt: &rt,
+        alloc: rt.alloc(),
+    };
+    let (bids, accepted) = other_bids(rt.alloc())?;
+    assert!(rt; is_told_the_same(&host, "", "")?);
+    assert!(rt; is_told_the_same(&host, &bids, &accepted)?);
     Ok(())
 }

@@ -33,91 +33,89 @@ const POSITION_ALONE: &str = "offering 1000000000 1000000 91\n\
     c z 5.100 100000000\n\
     end\n";
 
-/// Books worked out by hand, and what `award full` prints for them. The same books are in `examples/award/`.
-const WORKED: [(&str, &str); 5] = [
-    // A bid above 35 percent of the offering is cut to it.
-    (
-        "offering 1000000000 1000000 91\n\
-         n n1 100000000\n\
-         c a 5.320 300000000\n\
-         c b 5.325 350000000\n\
-         c c 5.330 400000000\n\
-         c d 5.330 100000000\n\
-         end\n",
-        "high 5.330\n\
-         allotted 55.56\n\
-         price 98.652694\n\
-         award n1 100000000 98652694.00\n\
-         award a 300000000 295958082.00\n\
-         award b 350000000 345284429.00\n\
-         award c 194460000 191840028.75\n\
-         award d 55560000 54811436.79\n",
-    ),
-    // A position lowers the limit.
-    (
-        "offering 10000000000 1000000 91\n\
-         p x 1000000000\n\
-         c x 4.000 1000000000\n\
-         c x 4.005 1000000000\n\
-         c x 4.010 1000000000\n\
-         c y 4.010 3500000000\n\
-         c z 4.015 3500000000\n\
-         c w 4.020 3500000000\n\
-         end\n",
-        "high 4.020\n\
-         allotted 14.29\n\
-         price 98.983833\n\
-         award x 2500000000 2474595825.00\n\
-         award y 3500000000 3464434155.00\n\
-         award z 3500000000 3464434155.00\n\
-         award w 500150000 495067640.75\n",
-    ),
-    // A position above the cap leaves nothing, and the bids fall short.
-    (
-        "offering 1000000000 1000000 91\n\
-         p z 400000000\n\
-         c y 5.000 100000000\n\
-         c z 5.100 100000000\n\
-         end\n",
-        "high 5.000\n\
-         allotted 100.00\n\
-         price 98.736111\n\
-         award z 0 0.00\n\
-         award y 100000000 98736111.00\n",
-    ),
-    // Nothing is left of the offering, so the floor is sought.
-    (
-        "offering 1000000000 100000000 91\n\
-         n m 1200000000\n\
-         c a 5.000 60000000\n\
-         c b 5.010 80000000\n\
-         end\n",
-        "high 5.010\n\
-         allotted 50.00\n\
-         price 98.733583\n\
-         award m 1200000000 1184802996.00\n\
-         award a 60000000 59240149.80\n\
-         award b 40000000 39493433.20\n",
-    ),
-    // A third is missing at the stop: 33.34 percent.
-    (
-        "offering 300000000 1000000 91\n\
-         c a 5.000 105000000\n\
-         c b 5.000 105000000\n\
-         c c 5.010 90000000\n\
-         c d 5.010 90000000\n\
-         c e 5.010 90000000\n\
-         end\n",
-        "high 5.010\n\
-         allotted 33.34\n\
-         price 98.733583\n\
-         award a 105000000 103670262.15\n\
-         award b 105000000 103670262.15\n\
-         award c 30006000 29625998.91\n\
-         award d 30006000 29625998.91\n\
-         award e 30006000 29625998.91\n",
-    ),
-];
+// Books worked out by hand, and what `award full` prints for them. The same books are in `examples/award/`.
+
+/// A bid above 35 percent of the offering is cut to it.
+const CUT_BOOK: &str = "offering 1000000000 1000000 91\n\
+    n n1 100000000\n\
+    c a 5.320 300000000\n\
+    c b 5.325 350000000\n\
+    c c 5.330 400000000\n\
+    c d 5.330 100000000\n\
+    end\n";
+
+const CUT_TEXT: &str = "high 5.330\n\
+    allotted 55.56\n\
+    price 98.652694\n\
+    award n1 100000000 98652694.00\n\
+    award a 300000000 295958082.00\n\
+    award b 350000000 345284429.00\n\
+    award c 194460000 191840028.75\n\
+    award d 55560000 54811436.79\n";
+
+/// A position lowers the limit.
+const LOWERED_BOOK: &str = "offering 10000000000 1000000 91\n\
+    p x 1000000000\n\
+    c x 4.000 1000000000\n\
+    c x 4.005 1000000000\n\
+    c x 4.010 1000000000\n\
+    c y 4.010 3500000000\n\
+    c z 4.015 3500000000\n\
+    c w 4.020 3500000000\n\
+    end\n";
+
+const LOWERED_TEXT: &str = "high 4.020\n\
+    allotted 14.29\n\
+    price 98.983833\n\
+    award x 2500000000 2474595825.00\n\
+    award y 3500000000 3464434155.00\n\
+    award z 3500000000 3464434155.00\n\
+    award w 500150000 495067640.75\n";
+
+/// A position above the cap leaves nothing, and the bids fall short.
+const SHORT_BOOK: &str = "offering 1000000000 1000000 91\n\
+    p z 400000000\n\
+    c y 5.000 100000000\n\
+    c z 5.100 100000000\n\
+    end\n";
+
+const SHORT_TEXT: &str = "high 5.000\n\
+    allotted 100.00\n\
+    price 98.736111\n\
+    award z 0 0.00\n\
+    award y 100000000 98736111.00\n";
+
+/// Nothing is left of the offering, so the floor is sought.
+const FLOOR_BOOK: &str = "offering 1000000000 100000000 91\n\
+    n m 1200000000\n\
+    c a 5.000 60000000\n\
+    c b 5.010 80000000\n\
+    end\n";
+
+const FLOOR_TEXT: &str = "high 5.010\n\
+    allotted 50.00\n\
+    price 98.733583\n\
+    award m 1200000000 1184802996.00\n\
+    award a 60000000 59240149.80\n\
+    award b 40000000 39493433.20\n";
+
+/// A third is missing at the stop: 33.34 percent.
+const THIRD_BOOK: &str = "offering 300000000 1000000 91\n\
+    c a 5.000 105000000\n\
+    c b 5.000 105000000\n\
+    c c 5.010 90000000\n\
+    c d 5.010 90000000\n\
+    c e 5.010 90000000\n\
+    end\n";
+
+const THIRD_TEXT: &str = "high 5.010\n\
+    allotted 33.34\n\
+    price 98.733583\n\
+    award a 105000000 103670262.15\n\
+    award b 105000000 103670262.15\n\
+    award c 30006000 29625998.91\n\
+    award d 30006000 29625998.91\n\
+    award e 30006000 29625998.91\n";
 
 /// What the clock gives.
 const NOON: Moment = Moment {
@@ -136,7 +134,66 @@ pub struct Outcome {
     pub disk: MemoryDisk,
 }
 
+/// What the host runs on: threads, and memory.
+#[derive(Drop)]
+pub struct Host<'r, R> {
+    pub rt: &'r R,
+    pub alloc: Global,
+}
+
+/// Runs the host on an empty disk, with the text in pieces of this size: it ends with this status, and has written this
+/// to its output and this to its errors.
+pub fn runs<R: Abort + Threads + Wait + Sync>(
+    host: &Host<'_, R>,
+    words: &[&str],
+    text: &str,
+    piece: usize,
+    status: u8,
+    out: &str,
+    err: &str,
+) -> Result<bool, Fail> {
+    ends(host, words, text, piece, &[], &[], status, out, err)
+}
+
+/// The same where the reads and the writes of these numbers fail.
+pub fn ends<R: Abort + Threads + Wait + Sync>(
+    host: &Host<'_, R>,
+    words: &[&str],
+    text: &str,
+    piece: usize,
+    failing_reads: &[u64],
+    failing_writes: &[u64],
+    status: u8,
+    out: &str,
+    err: &str,
+) -> Result<bool, Fail> {
+    let run = run(
+        host.rt,
+        host.alloc,
+        words,
+        text,
+        piece,
+        failing_reads,
+        failing_writes,
+    )?;
+    Ok(is_ended(&run, status, out, err))
+}
+
 /// The run ended with this status, and has written this to its output and this to its errors.
+pub fn is_ended(run: &Outcome, status: u8, out: &str, err: &str) -> bool {
+    run.status == status && run.out.bytes() == out.as_bytes() && run.err.bytes() == err.as_bytes()
+}
+
+/// The texts, one behind the other.
+pub fn joined(alloc: Global, texts: &[&str]) -> Result<String, Fail> {
+    let mut whole = String::new(alloc);
+    for text in texts {
+        whole.push_str(text)?;
+    }
+    Ok(whole)
+}
+
+/// The same, told of each part.
 pub fn ended(rt: &impl Abort, run: &Outcome, status: u8, out: &str, err: &str) {
     assert_eq!(rt; run.status, status);
     assert_eq!(rt; run.out.bytes(), out.as_bytes());
@@ -265,104 +322,165 @@ pub fn serve_from<R: Threads + Wait + Sync, I: Source>(
     Ok((outcome, gates))
 }
 
+const FULL: [&str; 2] = ["award", "full"];
+
 #[test]
 fn the_text_is_printed_however_the_book_is_cut_into_pieces(rt: HostRuntime) -> Result<(), Fail> {
-    for (words, text) in [
-        (["award"].as_slice(), TEXT),
-        (["award", "full"].as_slice(), FULL_TEXT),
-    ] {
-        for piece in [1, 2, 7, BOOK.len()] {
-            let run = run(&rt, rt.alloc(), words, BOOK, piece, &[], &[])?;
-            assert_eq!(rt; run.status, 0, "pieces of {piece}");
-            ended(&rt, &run, 0, text, "");
-        }
-    }
+    let host = Host {
+        rt: &rt,
+        alloc: rt.alloc(),
+    };
+    assert!(rt; runs(&host, &["award"], BOOK, 1, 0, TEXT, "")?);
+    assert!(rt; runs(&host, &["award"], BOOK, 2, 0, TEXT, "")?);
+    assert!(rt; runs(&host, &["award"], BOOK, 7, 0, TEXT, "")?);
+    assert!(rt; runs(&host, &["award"], BOOK, BOOK.len(), 0, TEXT, "")?);
+    assert!(rt; runs(&host, &FULL, BOOK, 1, 0, FULL_TEXT, "")?);
+    assert!(rt; runs(&host, &FULL, BOOK, 2, 0, FULL_TEXT, "")?);
+    assert!(rt; runs(&host, &FULL, BOOK, 7, 0, FULL_TEXT, "")?);
+    assert!(rt; runs(&host, &FULL, BOOK, BOOK.len(), 0, FULL_TEXT, "")?);
     Ok(())
 }
 
 #[test]
 fn worked_books_have_their_texts(rt: HostRuntime) -> Result<(), Fail> {
-    for (book, text) in &WORKED {
-        let run = run(&rt, rt.alloc(), &["award", "full"], book, 64, &[], &[])?;
-        ended(&rt, &run, 0, text, "");
-    }
+    let host = Host {
+        rt: &rt,
+        alloc: rt.alloc(),
+    };
+    assert!(rt; runs(&host, &FULL, CUT_BOOK, 64, 0, CUT_TEXT, "")?);
+    assert!(rt; runs(&host, &FULL, LOWERED_BOOK, 64, 0, LOWERED_TEXT, "")?);
+    assert!(rt; runs(&host, &FULL, SHORT_BOOK, 64, 0, SHORT_TEXT, "")?);
+    assert!(rt; runs(&host, &FULL, FLOOR_BOOK, 64, 0, FLOOR_TEXT, "")?);
+    assert!(rt; runs(&host, &FULL, THIRD_BOOK, 64, 0, THIRD_TEXT, "")?);
     Ok(())
 }
 
 #[test]
 fn nobody_gets_an_award_where_nothing_is_recognised(rt: HostRuntime) -> Result<(), Fail> {
-    for (words, text) in [
-        (["award"].as_slice(), "no awards\n"),
-        (["award", "full"].as_slice(), "no awards\naward z 0 0.00\n"),
-    ] {
-        let run = run(&rt, rt.alloc(), words, POSITION_ALONE, 7, &[], &[])?;
-        ended(&rt, &run, 0, text, "");
-    }
+    let host = Host {
+        rt: &rt,
+        alloc: rt.alloc(),
+    };
+    assert!(rt; runs(&host, &["award"], POSITION_ALONE, 7, 0, "no awards\n", "")?);
+    assert!(rt;
+        runs(
+            &host,
+            &FULL,
+            POSITION_ALONE,
+            7,
+            0,
+            "no awards\naward z 0 0.00\n",
+            ""
+        )?
+    );
     Ok(())
+}
+
+// Each byte of the book is a read: so one of them fails.
+fn tells_each_read<R: Abort + Threads + Wait + Sync>(
+    host: &Host<'_, R>,
+    words: &[&str],
+) -> Result<bool, Fail> {
+    for call in 0..BOOK.len() as u64 {
+        if !ends(host, words, BOOK, 1, &[call], &[], 4, "", "read fault\n")? {
+            return Ok(false);
+        }
+    }
+    Ok(true)
 }
 
 #[test]
 fn each_read_that_fails_ends_the_run(rt: HostRuntime) -> Result<(), Fail> {
-    // Each byte of the book is a read, and nothing is read behind them.
+    let host = Host {
+        rt: &rt,
+        alloc: rt.alloc(),
+    };
     let reads = BOOK.len() as u64;
-    for words in [["award"].as_slice(), ["award", "full"].as_slice()] {
-        for call in 0..reads {
-            let run = run(&rt, rt.alloc(), words, BOOK, 1, &[call], &[])?;
-            assert_eq!(rt; run.status, 4, "read {call}");
-            ended(&rt, &run, 4, "", "read fault\n");
-        }
-        let run = run(&rt, rt.alloc(), words, BOOK, 1, &[reads], &[])?;
-        assert_eq!(rt; run.status, 0);
-    }
+    assert!(rt; tells_each_read(&host, &["award"])?);
+    assert!(rt; tells_each_read(&host, &FULL)?);
+    // Nothing is read behind them.
+    assert!(rt; ends(&host, &["award"], BOOK, 1, &[reads], &[], 0, TEXT, "")?);
+    assert!(rt; ends(&host, &FULL, BOOK, 1, &[reads], &[], 0, FULL_TEXT, "")?);
     Ok(())
 }
 
+// There is one write.
 #[test]
 fn each_write_that_fails_ends_the_run(rt: HostRuntime) -> Result<(), Fail> {
-    for words in [["award"].as_slice(), ["award", "full"].as_slice()] {
-        let failed = run(&rt, rt.alloc(), words, BOOK, BOOK.len(), &[], &[0])?;
-        ended(&rt, &failed, 5, "", "write fault\n");
-        let done = run(&rt, rt.alloc(), words, BOOK, BOOK.len(), &[], &[1])?;
-        assert_eq!(rt; done.status, 0, "there is one write");
-    }
+    let host = Host {
+        rt: &rt,
+        alloc: rt.alloc(),
+    };
+    assert!(rt;
+        ends(
+            &host,
+            &["award"],
+            BOOK,
+            BOOK.len(),
+            &[],
+            &[0],
+            5,
+            "",
+            "write fault\n"
+        )?
+    );
+    assert!(rt; ends(&host, &["award"], BOOK, BOOK.len(), &[], &[1], 0, TEXT, "")?);
+    assert!(rt;
+        ends(
+            &host,
+            &FULL,
+            BOOK,
+            BOOK.len(),
+            &[],
+            &[0],
+            5,
+            "",
+            "write fault\n"
+        )?
+    );
+    assert!(rt; ends(&host, &FULL, BOOK, BOOK.len(), &[], &[1], 0, FULL_TEXT, "")?);
     Ok(())
 }
 
+// The award of a book of two lines, without an end or with a bid too many, ends at the third.
 #[test]
 fn faulty_words_and_books_are_told(rt: HostRuntime) -> Result<(), Fail> {
-    for (words, text, status, told) in [
-        ([].as_slice(), BOOK, 2, "usage\n"),
-        (["award", "more"].as_slice(), BOOK, 2, "usage\n"),
-        (["award", "full", "full"].as_slice(), BOOK, 2, "usage\n"),
-        (["trial", "1", "0"].as_slice(), BOOK, 2, "usage\n"),
-        (["award"].as_slice(), "", 3, "bad input at line 1\n"),
-        (
-            ["award"].as_slice(),
-            "offering 1000000000 1000000 91\nn a 100\n",
+    let host = Host {
+        rt: &rt,
+        alloc: rt.alloc(),
+    };
+    let unended = "offering 1000000000 1000000 91\nn a 100\n";
+    let mixed = "offering 1000000000 1000000 91\nn a 100\nc a 5.000 100\nend\n";
+    assert!(rt; runs(&host, &[], BOOK, 7, 2, "", "usage\n")?);
+    assert!(rt; runs(&host, &["award", "more"], BOOK, 7, 2, "", "usage\n")?);
+    assert!(rt; runs(&host, &["award", "full", "full"], BOOK, 7, 2, "", "usage\n")?);
+    assert!(rt; runs(&host, &["trial", "1", "0"], BOOK, 7, 2, "", "usage\n")?);
+    assert!(rt; runs(&host, &["award"], "", 7, 3, "", "bad input at line 1\n")?);
+    assert!(rt;
+        runs(
+            &host,
+            &["award"],
+            unended,
+            7,
             3,
-            "bad input at line 3\n",
-        ),
-        (
-            ["award", "full"].as_slice(),
-            "offering 1000000000 1000000 91\nn a 100\nc a 5.000 100\nend\n",
-            3,
-            "bad input at line 3\n",
-        ),
-    ] {
-        let run = run(&rt, rt.alloc(), words, text, 7, &[], &[])?;
-        ended(&rt, &run, status, "", told);
-    }
+            "",
+            "bad input at line 3\n"
+        )?
+    );
+    assert!(rt; runs(&host, &FULL, mixed, 7, 3, "", "bad input at line 3\n")?);
     Ok(())
 }
 
 #[test]
 fn a_trial_prints_its_figures(rt: HostRuntime) -> Result<(), Fail> {
+    let host = Host {
+        rt: &rt,
+        alloc: rt.alloc(),
+    };
     let words = ["trial", "1", "1"];
     let text = "bids 1\nhigh 5.050\nallotted 100.00\nprice 98.723472\nawarded 27200\n";
     // No read is made.
-    let done = run(&rt, rt.alloc(), &words, BOOK, 7, &[0], &[1])?;
-    ended(&rt, &done, 0, text, "");
-    let failed = run(&rt, rt.alloc(), &words, BOOK, 7, &[], &[0])?;
-    ended(&rt, &failed, 5, "", "write fault\n");
+    assert!(rt; ends(&host, &words, BOOK, 7, &[0], &[1], 0, text, "")?);
+    assert!(rt; ends(&host, &words, BOOK, 7, &[], &[0], 5, "", "write fault\n")?);
     Ok(())
 }

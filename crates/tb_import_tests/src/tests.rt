@@ -17,10 +17,11 @@ fn bid(rt: &impl Abort, rate: Option<Rate>) -> Message {
     }
 }
 
-// The two bids of the tables below.
-fn are_both(rt: &impl Abort, bids: &[(u64, Message)]) {
+// Whether the table has the two bids of the tests below.
+fn has_both<R: AllocGlobal + Abort>(rt: &R, table: &[u8]) -> bool {
+    let bids = read_bids(rt.alloc(), table).expect(rt, "a table");
     let both = [(7, bid(rt, Some(Rate { steps: 860 }))), (8, bid(rt, None))];
-    assert_eq!(rt; bids, both.as_slice());
+    bids.as_slice() == both.as_slice()
 }
 
 // The first bad record of a table, or 0 where all records are good.
@@ -32,72 +33,61 @@ fn first_bad<R: AllocGlobal + Abort>(rt: &R, table: &[u8]) -> u64 {
     }
 }
 
+// The first bad record of a table whose second record is good and whose third one is this.
+fn first_bad_with<R: AllocGlobal + Abort>(rt: &R, row: &str) -> Result<u64, Fail> {
+    let mut table = Vec::new(rt.alloc());
+    table.extend_from_slice(b"number,auction,bidder,rate,amount\n7,bill13,fund1,4.300,0\n")?;
+    table.extend_from_slice(row.as_bytes())?;
+    table.extend_from_slice(b"\n8,,,,\n")?;
+    Ok(first_bad(rt, table.as_slice()))
+}
+
 #[test]
 fn equal_rows_count_once(rt: HostRuntime) {
     let table =
         b"number,auction,bidder,rate,amount\n7,bill13,fund1,4.300,100\n7,bill13,fund1,4.3,100\n8,bill13,fund1,,100\n";
-    let bids = read_bids(rt.alloc(), table).expect(&rt, "a table");
-    are_both(&rt, bids.as_slice());
+    assert!(rt; has_both(&rt, table));
 }
 
 #[test]
 fn quotes_line_ends_and_marks_are_read(rt: HostRuntime) {
     let table =
         b"\xEF\xBB\xBF\"number\",auction,bidder,rate,amount\r\n\r\n7,\"bill13\",fund1,\"4.300\",100\r\n\n8,bill13,fund1,,100";
-    let bids = read_bids(rt.alloc(), table).expect(&rt, "a table");
-    are_both(&rt, bids.as_slice());
+    assert!(rt; has_both(&rt, table));
 }
 
 #[test]
 fn the_first_bad_record_is_told(rt: HostRuntime) {
-    assert_eq!(rt; first_bad(&rt, b""), 1);
-    assert_eq!(rt; first_bad(&rt, b"\n\r\n"), 1);
-    assert_eq!(rt; first_bad(&rt, b"7,bill13,fund1,4.300,100\n"), 1);
-    assert_eq!(rt; first_bad(&rt, b"number,auction,bidder,rate\n"), 1);
-    assert_eq!(rt; first_bad(&rt, b"number,auction,bidder,rate,amount"), 0);
-    assert_eq!(rt;
-        first_bad(
-            &rt,
-            b"number,auction,bidder,rate,amount\n\n\n7,bill13,fund1,4.300\n"
-        ),
-        2
-    );
-    assert_eq!(rt;
-        first_bad(
-            &rt,
-            b"number,auction,bidder,rate,amount\n7,bill13,fund1,4.300,100,1\n"
-        ),
-        2
-    );
-    for row in [
-        "0,bill13,fund1,4.300,100",
-        "1000000000000001,bill13,fund1,4.300,100",
-        "07,bill13,fund1,4.300,100",
-        "7,Bill13,fund1,4.300,100",
-        "7,bill13,,4.300,100",
-        "7,bill13,fund1,4.301,100",
-        "7,bill13,fund1, ,100",
-        "7,bill13,fund1,4.300,1000000000001",
-        "7,bill13,fund1,4.300,",
-        "7,bill13,fund1,4.300,+100",
-    ] {
-        let table = format!(in rt.alloc();
-            "number,auction,bidder,rate,amount\n7,bill13,fund1,4.300,0\n{row}\n8,,,,\n"
-        );
-        let table = table.expect(&rt, "memory");
-        assert_eq!(rt; first_bad(&rt, table.as_bytes()), 3, "{row}");
-    }
+    assert!(rt; first_bad(&rt, b"") == 1);
+    assert!(rt; first_bad(&rt, b"\n\r\n") == 1);
+    assert!(rt; first_bad(&rt, b"7,bill13,fund1,4.300,100\n") == 1);
+    assert!(rt; first_bad(&rt, b"number,auction,bidder,rate\n") == 1);
+    assert!(rt; first_bad(&rt, b"number,auction,bidder,rate,amount") == 0);
+    let short = b"number,auction,bidder,rate,amount\n\n\n7,bill13,fund1,4.300\n";
+    assert!(rt; first_bad(&rt, short) == 2);
+    let long = b"number,auction,bidder,rate,amount\n7,bill13,fund1,4.300,100,1\n";
+    assert!(rt; first_bad(&rt, long) == 2);
+}
+
+#[test]
+fn the_first_bad_field_is_told(rt: HostRuntime) -> Result<(), Fail> {
+    assert!(rt; first_bad_with(&rt, "0,bill13,fund1,4.300,100")? == 3);
+    assert!(rt; first_bad_with(&rt, "1000000000000001,bill13,fund1,4.300,100")? == 3);
+    assert!(rt; first_bad_with(&rt, "07,bill13,fund1,4.300,100")? == 3);
+    assert!(rt; first_bad_with(&rt, "7,Bill13,fund1,4.300,100")? == 3);
+    assert!(rt; first_bad_with(&rt, "7,bill13,,4.300,100")? == 3);
+    assert!(rt; first_bad_with(&rt, "7,bill13,fund1,4.301,100")? == 3);
+    assert!(rt; first_bad_with(&rt, "7,bill13,fund1, ,100")? == 3);
+    assert!(rt; first_bad_with(&rt, "7,bill13,fund1,4.300,1000000000001")? == 3);
+    assert!(rt; first_bad_with(&rt, "7,bill13,fund1,4.300,")? == 3);
+    assert!(rt; first_bad_with(&rt, "7,bill13,fund1,4.300,+100")? == 3);
+    Ok(())
 }
 
 #[test]
 fn a_field_that_is_no_text_is_bad(rt: HostRuntime) {
-    assert_eq!(rt;
-        first_bad(
-            &rt,
-            b"number,auction,bidder,rate,amount\n7,bill13,fund1,\xFF,100\n"
-        ),
-        2
-    );
+    let table = b"number,auction,bidder,rate,amount\n7,bill13,fund1,\xFF,100\n";
+    assert!(rt; first_bad(&rt, table) == 2);
 }
 
 #[test]
@@ -109,9 +99,9 @@ fn short_records_are_read_whole(rt: HostRuntime) -> Result<(), Fail> {
         table.push_str(row.as_str())?;
     }
     let bids = read_bids(rt.alloc(), table.as_bytes()).expect(&rt, "a table");
-    assert_eq!(rt; bids.len(), 131_072);
-    let last = bids.last().map(|bid| bid.0);
-    assert_eq!(rt; last, Some(131_072));
+    assert!(rt; bids.len() == 131_072);
+    let last = bids.last().expect(&rt, "a bid");
+    assert!(rt; last.0 == 131_072);
     Ok(())
 }
 
@@ -123,9 +113,9 @@ fn record_1000001_is_one_too_many(rt: HostRuntime) -> Result<(), Fail> {
         table.extend_from_slice(b"1,a,b,,0\n")?;
     }
     let bids = read_bids(rt.alloc(), table.as_slice()).expect(&rt, "a table");
-    assert_eq!(rt; bids.len(), 1);
+    assert!(rt; bids.len() == 1);
     table.extend_from_slice(b"1,a,b,,0\n")?;
-    assert_eq!(rt; first_bad(&rt, table.as_slice()), 1_000_001);
+    assert!(rt; first_bad(&rt, table.as_slice()) == 1_000_001);
     Ok(())
 }
 
@@ -144,51 +134,64 @@ fn of_size(alloc: Global, size: usize) -> Result<Vec<u8>, AllocError> {
 #[test]
 fn a_table_has_at_most_134217728_bytes(rt: HostRuntime) -> Result<(), Fail> {
     let longest = of_size(rt.alloc(), 134_217_728)?;
-    assert_eq!(rt; first_bad(&rt, longest.as_slice()), 2);
+    assert!(rt; first_bad(&rt, longest.as_slice()) == 2);
     let longer = of_size(rt.alloc(), 134_217_729)?;
-    assert_eq!(rt; first_bad(&rt, longer.as_slice()), 1);
+    assert!(rt; first_bad(&rt, longer.as_slice()) == 1);
+    Ok(())
+}
+
+// Adds what a bidder is awarded, and what it pays.
+fn add_award(
+    rt: &impl Abort,
+    awards: &mut Awards,
+    bidder: &str,
+    amount: u64,
+    payment: u64,
+) -> Result<(), Fail> {
+    awards.push(AwardLine {
+        bidder: Ident::read(bidder).expect(rt, "a name"),
+        amount: Dollars {
+            value: u128::from(amount),
+        },
+        payment: Cents {
+            value: u128::from(payment),
+        },
+    })?;
     Ok(())
 }
 
 #[test]
-fn awards_are_exported(rt: HostRuntime) {
+fn awards_are_exported(rt: HostRuntime) -> Result<(), Fail> {
     let mut awards = Awards::new(rt.alloc());
     let bytes = export_awards(rt.alloc(), &awards).expect(&rt, "memory");
-    assert_eq!(rt; bytes.as_slice(), b"bidder,amount,payment\n".as_slice());
-    for (bidder, amount, payment) in [
-        ("fund1", 20_000_000_000, 1_978_412_778_000),
-        ("fund2", 0, 0),
-    ] {
-        let line = AwardLine {
-            bidder: Ident::read(bidder).expect(&rt, "a name"),
-            amount: Dollars { value: amount },
-            payment: Cents { value: payment },
-        };
-        awards.push(line).expect(&rt, "memory");
-    }
+    assert!(rt; bytes.as_slice() == b"bidder,amount,payment\n".as_slice());
+    add_award(&rt, &mut awards, "fund1", 20_000_000_000, 1_978_412_778_000)?;
+    add_award(&rt, &mut awards, "fund2", 0, 0)?;
     let bytes = export_awards(rt.alloc(), &awards).expect(&rt, "memory");
-    assert_eq!(rt;
-        bytes.as_slice(),
-        b"bidder,amount,payment\nfund1,20000000000,19784127780.00\nfund2,0,0.00\n".as_slice()
-    );
+    let wanted = b"bidder,amount,payment\nfund1,20000000000,19784127780.00\nfund2,0,0.00\n";
+    assert!(rt; bytes.as_slice() == wanted.as_slice());
+    Ok(())
+}
+
+// Adds 200 dollars of a security, all of it pledged.
+fn add_holding(holdings: &mut Holdings, bytes: [u8; 9]) -> Result<(), Fail> {
+    holdings.push(HoldingLine {
+        cusip: Cusip { bytes },
+        held: Dollars { value: 200 },
+        pledged: Dollars { value: 200 },
+        free: Dollars { value: 0 },
+    })?;
+    Ok(())
 }
 
 #[test]
-fn holdings_are_exported(rt: HostRuntime) {
+fn holdings_are_exported(rt: HostRuntime) -> Result<(), Fail> {
     let mut holdings = Holdings::new(rt.alloc());
-    for bytes in [b"912797AB3", b"AA,\"B\"\r\nC"] {
-        let line = HoldingLine {
-            cusip: Cusip { bytes: *bytes },
-            held: Dollars { value: 200 },
-            pledged: Dollars { value: 200 },
-            free: Dollars { value: 0 },
-        };
-        holdings.push(line).expect(&rt, "memory");
-    }
+    add_holding(&mut holdings, *b"912797AB3")?;
+    add_holding(&mut holdings, *b"AA,\"B\"\r\nC")?;
     let bytes = export_holdings(rt.alloc(), &holdings).expect(&rt, "memory");
     // What no CUSIP has stands in quotes, as RFC 4180 writes it.
-    assert_eq!(rt;
-        bytes.as_slice(),
-        b"cusip,held,pledged,free\n912797AB3,200,200,0\n\"AA,\"\"B\"\"\r\nC\",200,200,0\n".as_slice()
-    );
+    let wanted = b"cusip,held,pledged,free\n912797AB3,200,200,0\n\"AA,\"\"B\"\"\r\nC\",200,200,0\n";
+    assert!(rt; bytes.as_slice() == wanted.as_slice());
+    Ok(())
 }

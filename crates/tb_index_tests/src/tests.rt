@@ -126,7 +126,7 @@ fn five_bids<R: AllocGlobal + Abort>(rt: &R) -> Result<Bids, OutOfMemory> {
     add(rt, &mut bids, "ann", 8, "bill26");
     add(rt, &mut bids, "ann", 7, "bill26");
     add(rt, &mut bids, "eve", 1, "bill13");
-    assert_eq!(rt; bids.rows().len(), 5);
+    assert!(rt; bids.rows().len() == 5);
     Ok(bids)
 }
 
@@ -140,7 +140,7 @@ fn bids_are_found_by_bidder_and_number_and_counted_by_auction(rt: HostRuntime) -
     assert!(rt; stands_at(&rt, &bids, "eve", 1, Some(4)));
     assert!(rt; stands_at(&rt, &bids, "ev", 1, None));
     let bob = bids.keyed().get(&(name(&rt, "bob"), 7)).copied();
-    assert_eq!(rt; bob, Some(bid_of(&rt, "bob", 7, "bill13")));
+    assert!(rt; bob == Some(bid_of(&rt, "bob", 7, "bill13")));
     assert!(rt; counts(&rt, &bids, "bill13", 3));
     assert!(rt; counts(&rt, &bids, "bill26", 2));
     assert!(rt; counts(&rt, &bids, "bill52", 0));
@@ -151,8 +151,8 @@ fn bids_are_found_by_bidder_and_number_and_counted_by_auction(rt: HostRuntime) -
 fn bids_that_go_are_found_and_counted_no_more(rt: HostRuntime) -> Result<(), Fail> {
     let mut bids = five_bids(&rt)?;
     // The later of the two goes, and the first is still found.
-    assert_eq!(rt; bids.pop(), Some(bid_of(&rt, "eve", 1, "bill13")));
-    assert_eq!(rt; bids.pop(), Some(bid_of(&rt, "ann", 7, "bill26")));
+    assert!(rt; bids.pop() == Some(bid_of(&rt, "eve", 1, "bill13")));
+    assert!(rt; bids.pop() == Some(bid_of(&rt, "ann", 7, "bill26")));
     assert!(rt; stands_at(&rt, &bids, "ann", 7, Some(0)));
     assert!(rt; stands_at(&rt, &bids, "eve", 1, None));
     assert!(rt; counts(&rt, &bids, "bill13", 2));
@@ -160,39 +160,55 @@ fn bids_that_go_are_found_and_counted_no_more(rt: HostRuntime) -> Result<(), Fai
     Ok(())
 }
 
-// Each page is found by its year and by its number where a walk finds it.
-fn expect_same(rt: &impl Abort, pages: &TwiceKeyed<Page, ByYear, ByPage>) {
+type Pages = TwiceKeyed<Page, ByYear, ByPage>;
+
+fn add_page(pages: &mut Pages, year: u64, number: u64) -> Result<(), OutOfMemory> {
+    pages.reserve(1)?;
+    pages.push(Page { year, number });
+    Ok(())
+}
+
+// A page of this year and a page of this number are found where a walk finds them.
+fn finds_as_a_walk(pages: &Pages, key: u64) -> bool {
+    let by_year = pages.rows().iter().position(|page| page.year == key);
+    let by_number = pages.rows().iter().position(|page| page.number == key);
+    pages.keyed().find(&key) == by_year
+        && pages.keyed().has(&key) == by_year.is_some()
+        && pages.find_other(&key) == by_number
+        && pages.has_other(&key) == by_number.is_some()
+}
+
+fn finds_all(pages: &Pages) -> bool {
     for key in 0..9 {
-        let by_year = pages.rows().iter().position(|page| page.year == key);
-        assert!(rt; pages.keyed().find(&key) == by_year);
-        assert!(rt; pages.keyed().has(&key) == by_year.is_some());
-        let by_number = pages.rows().iter().position(|page| page.number == key);
-        assert!(rt; pages.find_other(&key) == by_number);
-        assert!(rt; pages.has_other(&key) == by_number.is_some());
+        if !finds_as_a_walk(pages, key) {
+            return false;
+        }
     }
+    true
+}
+
+// Adds the page of a step.
+fn add_step(pages: &mut Pages, step: u32) -> Result<(), OutOfMemory> {
+    let step = u64::from(step);
+    add_page(pages, step * 5 % 8, step * 3 % 7)
 }
 
 #[test]
 fn pages_are_found_by_either_key_as_a_walk_finds_them(rt: HostRuntime) -> Result<(), Fail> {
-    let mut pages: TwiceKeyed<Page, ByYear, ByPage> = TwiceKeyed::new(rt.alloc());
-    assert_eq!(rt; pages.pop(), None);
-    for step in 0..40u64 {
-        pages.reserve(1)?;
-        pages.push(Page {
-            year: step * 5 % 8,
-            number: step * 3 % 7,
-        });
-        expect_same(&rt, &pages);
+    let mut pages: Pages = TwiceKeyed::new(rt.alloc());
+    assert!(rt; pages.pop().is_none());
+    for step in 0..40u32 {
+        add_step(&mut pages, step)?;
+        assert!(rt; finds_all(&pages));
     }
     // The first page of the year 2 is the third, since 2 * 5 = 8 + 2.
     let third = Page { year: 2, number: 6 };
-    assert_eq!(rt; pages.keyed().get(&2).copied(), Some(third));
-    assert_eq!(rt; pages.get_other(&6).copied(), Some(third));
+    assert!(rt; pages.keyed().get(&2).copied() == Some(third));
+    assert!(rt; pages.get_other(&6).copied() == Some(third));
     for _ in 0..40 {
-        assert!(rt; pages.pop().is_some());
-        expect_same(&rt, &pages);
+        assert!(rt; pages.pop().is_some() && finds_all(&pages));
     }
-    assert_eq!(rt; pages.rows().len(), 0);
+    assert!(rt; pages.rows().len() == 0);
     Ok(())
 }
 
@@ -211,24 +227,22 @@ fn add_last(
     Ok(())
 }
 
+// The last bid of the auction is this.
+fn is_last(rt: &impl Abort, bids: &LastBids, auction: &str, bid: Bid) -> bool {
+    bids.last(&name(rt, auction)).copied() == Some(bid)
+}
+
 #[test]
 fn the_last_bid_of_an_auction_is_found(rt: HostRuntime) -> Result<(), Fail> {
     let mut bids: LastBids = Latest::new(rt.alloc());
     add_last(&rt, &mut bids, "ann", 7, "bill13")?;
     add_last(&rt, &mut bids, "bob", 7, "bill26")?;
     add_last(&rt, &mut bids, "eve", 1, "bill13")?;
-    assert_eq!(rt;
-        bids.last(&name(&rt, "bill13")).copied(),
-        Some(bid_of(&rt, "eve", 1, "bill13"))
-    );
-    assert_eq!(rt;
-        bids.last(&name(&rt, "bill26")).copied(),
-        Some(bid_of(&rt, "bob", 7, "bill26"))
-    );
-    assert_eq!(rt; bids.last(&name(&rt, "bill52")), None);
-    assert!(rt; bids.has(&name(&rt, "bill26")));
-    assert!(rt; !bids.has(&name(&rt, "bill52")));
-    assert_eq!(rt; bids.rows().len(), 3);
+    assert!(rt; is_last(&rt, &bids, "bill13", bid_of(&rt, "eve", 1, "bill13")));
+    assert!(rt; is_last(&rt, &bids, "bill26", bid_of(&rt, "bob", 7, "bill26")));
+    assert!(rt; bids.last(&name(&rt, "bill52")).is_none());
+    assert!(rt; bids.has(&name(&rt, "bill26")) && !bids.has(&name(&rt, "bill52")));
+    assert!(rt; bids.rows().len() == 3);
     Ok(())
 }
 
@@ -283,8 +297,8 @@ fn an_auction_is_gone_through_bid_by_bid(rt: HostRuntime) -> Result<(), Fail> {
     assert!(rt; has_numbers(&rt, &bids, "bill13", &[1, 3, 4])?);
     assert!(rt; has_numbers(&rt, &bids, "bill26", &[2, 5])?);
     assert!(rt; has_numbers(&rt, &bids, "bill52", &[])?);
-    assert_eq!(rt; bids.keyed().find(&(name(&rt, "ann"), 3)), Some(2));
-    assert_eq!(rt; bids.count(&name(&rt, "bill13")), 3);
+    assert!(rt; bids.keyed().find(&(name(&rt, "ann"), 3)) == Some(2));
+    assert!(rt; bids.count(&name(&rt, "bill13")) == 3);
     Ok(())
 }
 
@@ -301,42 +315,27 @@ fn bids_of_an_auction_go_and_come(rt: HostRuntime) -> Result<(), Fail> {
     for _ in 0..4 {
         assert!(rt; bids.pop().is_some());
     }
-    assert_eq!(rt; bids.pop(), None);
+    assert!(rt; bids.pop().is_none());
     assert!(rt; has_numbers(&rt, &bids, "bill13", &[])?);
     Ok(())
 }
 
 // Up to the last page before this one of its number there are so many.
-fn ends_before(
-    rt: &impl Abort,
-    pages: &TwiceKeyed<Page, ByYear, ByPage>,
-    place: usize,
-    end: usize,
-) -> bool {
+fn ends_before(rt: &impl Abort, pages: &Pages, place: usize, end: usize) -> bool {
     assert!(rt; place < pages.rows().len());
     pages.end_before(place) == end
 }
 
-fn add_page(
-    pages: &mut TwiceKeyed<Page, ByYear, ByPage>,
-    year: u64,
-    number: u64,
-) -> Result<(), OutOfMemory> {
-    pages.reserve(1)?;
-    pages.push(Page { year, number });
-    Ok(())
-}
-
 #[test]
 fn pages_of_one_number_lead_back_to_each_other(rt: HostRuntime) -> Result<(), Fail> {
-    let mut pages: TwiceKeyed<Page, ByYear, ByPage> = TwiceKeyed::new(rt.alloc());
+    let mut pages: Pages = TwiceKeyed::new(rt.alloc());
     add_page(&mut pages, 1, 4)?;
     add_page(&mut pages, 2, 5)?;
     add_page(&mut pages, 3, 4)?;
     add_page(&mut pages, 4, 4)?;
-    assert_eq!(rt; pages.end_other(&4), 4);
-    assert_eq!(rt; pages.end_other(&5), 2);
-    assert_eq!(rt; pages.end_other(&6), 0);
+    assert!(rt; pages.end_other(&4) == 4);
+    assert!(rt; pages.end_other(&5) == 2);
+    assert!(rt; pages.end_other(&6) == 0);
     assert!(rt; ends_before(&rt, &pages, 3, 3));
     assert!(rt; ends_before(&rt, &pages, 2, 1));
     assert!(rt; ends_before(&rt, &pages, 0, 0));

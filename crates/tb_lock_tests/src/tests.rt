@@ -33,14 +33,13 @@ fn two_passes_append_in_turn(rt: HostRuntime) -> Result<(), Fail> {
         panic!(rt; "no memory")
     };
     let mut other = lock.split(&mut pass);
-    assert_eq!(rt; append(&lock, &rt, &mut pass, 7), Outcome::Accepted);
-    assert_eq!(rt; append(&lock, &rt, &mut other, 8), Outcome::Accepted);
+    assert!(rt; append(&lock, &rt, &mut pass, 7) == Outcome::Accepted);
+    assert!(rt; append(&lock, &rt, &mut other, 8) == Outcome::Accepted);
     lock.join(&mut pass, other);
     let Ok(tally) = lock.close(pass) else {
         panic!(rt; "a turn is out")
     };
-    assert_eq!(rt; tally.numbers.as_slice(), [7, 8].as_slice());
-    assert_eq!(rt; tally.faults, 0);
+    assert!(rt; tally.numbers.as_slice() == [7, 8].as_slice() && tally.faults == 0);
     Ok(())
 }
 
@@ -55,7 +54,7 @@ fn a_turn_without_an_end_is_unserved(rt: HostRuntime) -> Result<(), Fail> {
     let Err(Unserved { ticket, serving }) = lock.close(pass) else {
         panic!(rt; "no turn is out")
     };
-    assert_eq!(rt; (ticket, serving), (1, 0));
+    assert!(rt; ticket == 1 && serving == 0);
     Ok(())
 }
 
@@ -80,6 +79,20 @@ fn append_both<R: Threads + Wait + Sync>(
     );
 }
 
+// Whether the 500 numbers from the first on stand among the others in their order, each once.
+fn stands_in_order(numbers: &[u64], first: u64) -> bool {
+    let mut next = first;
+    for number in numbers {
+        if *number / 500 == first / 500 {
+            if *number != next {
+                return false;
+            }
+            next = next.wrapping_add(1);
+        }
+    }
+    next == first.wrapping_add(500)
+}
+
 // Of four that wait, those behind the next in line sleep.
 #[test]
 fn four_threads_append_in_their_own_order(rt: HostRuntime) -> Result<(), Fail> {
@@ -101,16 +114,30 @@ fn four_threads_append_in_their_own_order(rt: HostRuntime) -> Result<(), Fail> {
     let Ok(tally) = lock.close(pass) else {
         panic!(rt; "a turn is out")
     };
-    assert_eq!(rt; tally.numbers.len(), 2000);
-    let mut next = [0, 500, 1000, 1500];
-    for number in &tally.numbers {
-        let thread = *number / 500;
-        assert!(rt; thread < 4);
-        assert_eq!(rt; *number, next[thread as usize]);
-        next[thread as usize] = u64::wrapping_add(*number, 1);
-    }
-    assert_eq!(rt; next, [500, 1000, 1500, 2000]);
+    assert!(rt; tally.numbers.len() == 2000);
+    assert!(rt; stands_in_order(&tally.numbers, 0));
+    assert!(rt; stands_in_order(&tally.numbers, 500));
+    assert!(rt; stands_in_order(&tally.numbers, 1000));
+    assert!(rt; stands_in_order(&tally.numbers, 1500));
     Ok(())
+}
+
+// Whether a number is answered so, and how many numbers there are then.
+fn is_answered<R: Wait>(
+    rt: &R,
+    lock: &TurnLock<Tally>,
+    pass: &mut Pass<Tally>,
+    number: u64,
+    outcome: Outcome,
+    entries: u64,
+) -> bool
+    requires own { IsPassOf lock.now pass.old }
+    requires idle { IsIdle pass.old }
+    ensures own { IsPassOf lock.now pass.new }
+    ensures idle { IsIdle pass.new }
+{
+    let found = append(lock, rt, pass, number);
+    count(lock, rt, pass) == entries && found == outcome
 }
 
 #[test]
@@ -119,24 +146,18 @@ fn a_number_that_meets_a_fault_is_in_doubt(rt: HostRuntime) -> Result<(), Fail> 
     let Ok((lock, mut pass)) = TurnLock::new(rt.alloc(), Tally::new(rt.alloc(), 3, 2)) else {
         panic!(rt; "no memory")
     };
-    for (number, outcome, entries) in [
-        (7, Outcome::Accepted, 1),
-        (8, Outcome::Faulted, 1),
-        // The 8 stands from this turn on.
-        (7, Outcome::Repeated, 2),
-        (9, Outcome::Accepted, 3),
-        // There is no room for the 5, nor for it as the group in doubt.
-        (5, Outcome::Faulted, 3),
-        (8, Outcome::Repeated, 3),
-    ] {
-        assert_eq!(rt; append(&lock, &rt, &mut pass, number), outcome, "{number}");
-        assert_eq!(rt; count(&lock, &rt, &mut pass), entries, "{number}");
-    }
+    assert!(rt; is_answered(&rt, &lock, &mut pass, 7, Outcome::Accepted, 1));
+    assert!(rt; is_answered(&rt, &lock, &mut pass, 8, Outcome::Faulted, 1));
+    // The 8 stands from this turn on.
+    assert!(rt; is_answered(&rt, &lock, &mut pass, 7, Outcome::Repeated, 2));
+    assert!(rt; is_answered(&rt, &lock, &mut pass, 9, Outcome::Accepted, 3));
+    // There is no room for the 5, nor for it as the group in doubt.
+    assert!(rt; is_answered(&rt, &lock, &mut pass, 5, Outcome::Faulted, 3));
+    assert!(rt; is_answered(&rt, &lock, &mut pass, 8, Outcome::Repeated, 3));
     let Ok(tally) = lock.close(pass) else {
         panic!(rt; "a turn is out")
     };
-    assert_eq!(rt; tally.numbers.as_slice(), [7, 8, 9].as_slice());
-    assert_eq!(rt; tally.doubt, None);
-    assert_eq!(rt; (tally.faults, tally.clock), (2, 6));
+    assert!(rt; tally.numbers.as_slice() == [7, 8, 9].as_slice());
+    assert!(rt; tally.doubt.is_none() && tally.faults == 2 && tally.clock == 6);
     Ok(())
 }

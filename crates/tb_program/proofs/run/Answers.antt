@@ -1,6 +1,6 @@
 -- there are as many gates as the words plan workers
 use Rattle.std.proofs.Common.{arith}
-use Rattle.tb_program.proofs.PlanLemmas.{HasGates-planned}
+use Rattle.tb_host.proofs.PlanLemmas.{HasGates-planned}
 use Rattle.tb_program.proofs.run.Goals as goal
 
 -- of a command that serves, as many as were made

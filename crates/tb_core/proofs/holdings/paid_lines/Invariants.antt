@@ -8,7 +8,7 @@ use Rattle.tb_history.specs.Roster.{announcements, registrations, is_registered}
 use Rattle.tb_history.specs.Holdings.{paid_to}
 use Rattle.tb_history.specs.Moves.{has_bill}
 use Rattle.tb_history.specs.Readings.{ArePaidLines}
-use Rattle.tb_core.specs.Accounting.{numbers_in}
+use Rattle.tb_ledger.specs.Accounting.{numbers_in}
 use Rattle.tb_core.specs.House.{AreTied}
 use Rattle.tb_core.proofs.holdings.paid_lines.Given as goal
 

@@ -5,7 +5,7 @@ use Rattle.std.proofs.lemmas.List.{take_all}
 use Rattle.tb_terms.specs.declared.announcement.Announcement.{Announcement}
 use Rattle.tb_terms.specs.declared.terms.Terms.{Terms}
 use Rattle.tb_history.specs.Readings.{AreHoldingLines}
-use Rattle.tb_core.specs.Auctions.{announced_in}
+use Rattle.tb_tables.specs.Auctions.{announced_in}
 use Rattle.tb_core.specs.Shown.{is_shown}
 use Rattle.tb_core.proofs.ShownLemmas.{announced_more}
 use Rattle.tb_core.proofs.BetweenLemmas.{lines-past}

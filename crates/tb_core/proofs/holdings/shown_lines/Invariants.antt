@@ -4,8 +4,8 @@ use Rattle.std.specs.Prelude.{filter}
 use Rattle.tb_message.specs.declared.message.Entry.{Entry}
 use Rattle.tb_history.specs.Roster.{registrations, is_registered}
 use Rattle.tb_history.specs.Readings.{AreHoldingLines}
-use Rattle.tb_core.specs.Auctions.{announced_in}
-use Rattle.tb_core.specs.Accounting.{numbers_in}
+use Rattle.tb_tables.specs.Auctions.{announced_in}
+use Rattle.tb_ledger.specs.Accounting.{numbers_in}
 use Rattle.tb_core.specs.Shown.{is_shown}
 use Rattle.tb_core.specs.House.{AreTied}
 use Rattle.tb_core.proofs.holdings.shown_lines.Given as goal

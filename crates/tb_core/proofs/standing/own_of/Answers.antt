@@ -2,7 +2,7 @@
 use Rattle.std.proofs.Common.{◌∙◌}
 use Rattle.tb_core.proofs.HouseLemmas.{few-bidders}
 use Rattle.tb_core.proofs.OwnLemmas.{tied-competitive, tied-noncompetitive}
-use Rattle.tb_core.proofs.StandingLemmas.{capped-is}
+use Rattle.tb_shelving.proofs.StandingLemmas.{capped-is}
 use Rattle.tb_core.proofs.standing.own_of.Goals as goal
 
 pub number_of-number-requires : goal.number_of-number-requires

@@ -1,6 +1,6 @@
 -- there are as many gates as the words plan workers
 use Rattle.std.proofs.Common.{arith}
-use Rattle.tb_host_tests.proofs.tests.PlanLemmas.{HasGates-planned}
+use Rattle.tb_host.proofs.PlanLemmas.{HasGates-planned}
 use Rattle.tb_host_tests.proofs.tests.serve_from.Goals as goal
 
 pub host_main-ended-requires-clause-gates : goal.host_main-ended-requires-clause-gates

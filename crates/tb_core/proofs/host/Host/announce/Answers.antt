@@ -3,7 +3,7 @@ use Rattle.std.proofs.Common.{◌≡◌, ◌∙◌, ap, subst, Bool}
 use Rattle.tb_message.specs.declared.message.Message.TheVariants as message
 use Rattle.tb_terms.specs.Rows.{refusal_in}
 use Rattle.tb_history.specs.Tables.{rows_of, announce_rows}
-use Rattle.tb_core.specs.Auctions.{announced_in}
+use Rattle.tb_tables.specs.Auctions.{announced_in}
 use Rattle.tb_core.specs.House.{House}
 use Rattle.tb_core.proofs.RowLemmas.{tied_announce}
 use Rattle.tb_core.proofs.host.Host.announce.Goals as goal

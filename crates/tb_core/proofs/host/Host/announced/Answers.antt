@@ -2,9 +2,9 @@
 use Rattle.std.proofs.Common.{◌≡◌, ◌∙◌, ap, sym, subst, is_some, true, Some, List}
 use Rattle.tb_terms.specs.declared.announcement.Announcement.{Announcement}
 use Rattle.tb_history.specs.Roster.{announcement_of, announcements}
-use Rattle.tb_core.specs.Auctions.{announcement_in}
+use Rattle.tb_tables.specs.Auctions.{announcement_in}
 use Rattle.tb_core.specs.House.{House}
-use Rattle.tb_core.proofs.FindLemmas.{announced_some}
+use Rattle.tb_tables.proofs.FindLemmas.{announced_some}
 use Rattle.tb_core.proofs.host.Host.announced.Goals as goal
 
 pub unwrap-requires : goal.unwrap-requires

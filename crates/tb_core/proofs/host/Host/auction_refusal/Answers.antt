@@ -4,7 +4,7 @@ use Rattle.tb_terms.specs.declared.announcement.Announcement.{Announcement}
 use Rattle.tb_terms.specs.Rows.{refusal_in}
 use Rattle.tb_history.specs.Roster.{announcement_of, announcements, is_published}
 use Rattle.tb_history.specs.Answer.{auction_rows}
-use Rattle.tb_core.specs.Auctions.{announced_in}
+use Rattle.tb_tables.specs.Auctions.{announced_in}
 use Rattle.tb_core.specs.House.{House}
 use Rattle.tb_core.proofs.QueryLemmas.{tied_auction}
 use Rattle.tb_core.proofs.host.Host.auction_refusal.Goals as goal

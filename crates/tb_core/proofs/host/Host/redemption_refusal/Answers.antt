@@ -6,7 +6,7 @@ use Rattle.tb_terms.specs.Rows.{refusal_in}
 use Rattle.tb_message.specs.declared.query.Query.TheVariants as query
 use Rattle.tb_history.specs.Roster.{bill_of}
 use Rattle.tb_history.specs.Answer.{asked_rows}
-use Rattle.tb_core.specs.Auctions.{announced_in}
+use Rattle.tb_tables.specs.Auctions.{announced_in}
 use Rattle.tb_core.specs.House.{House}
 use Rattle.tb_core.proofs.QueryLemmas.{tied_redemption}
 use Rattle.tb_core.proofs.host.Host.redemption_refusal.Goals as goal

@@ -5,7 +5,7 @@ use Rattle.tb_terms.specs.Rows.{refusal_in}
 use Rattle.tb_history.specs.Roster.{registrations, is_registered}
 use Rattle.tb_history.specs.Tables.{rows_of}
 use Rattle.tb_core.specs.House.{House}
-use Rattle.tb_core.specs.ParRows.{kept_release_rows}
+use Rattle.tb_refusals.specs.ParRows.{kept_release_rows}
 use Rattle.tb_core.proofs.ReadyLemmas.{AreFew-tied}
 use Rattle.tb_core.proofs.ParRowLemmas.{tied_release}
 use Rattle.tb_core.proofs.host.Host.release.Goals as goal

@@ -1,7 +1,7 @@
 -- What fitted still fits, whatever the room is.
 use Rattle.std.proofs.Common.{◌≡◌, subst, sym}
 use Rattle.tb_core.specs.House.{room_of}
-use Rattle.tb_core.specs.Rooms.{Fits, Room}
+use Rattle.tb_shelving.specs.Rooms.{Fits, Room}
 use Rattle.tb_core.proofs.host.Host.take_back.Goals as goal
 
 pub returns-clause-room : goal.returns-clause-room

@@ -2,9 +2,9 @@
 use Rattle.std.proofs.Common.{◌<◌, ◌^◌, length, sym, subst}
 use Rattle.tb_holdings.specs.Book.{Book}
 use Rattle.tb_core.specs.declared.tables.Tables.{Tables}
-use Rattle.tb_core.specs.Accounting.{TellsNext}
+use Rattle.tb_ledger.specs.Accounting.{TellsNext}
 use Rattle.tb_core.specs.Crediting.{movement_in}
-use Rattle.tb_core.specs.Shelving.{TakesMessage}
+use Rattle.tb_shelving.specs.Shelving.{TakesMessage}
 use Rattle.tb_core.proofs.EnterLemmas.{HasEntered-kept, HasRoom-left, HasRows-kept}
 use Rattle.tb_core.proofs.tables.Tables.enter.Goals as goal
 

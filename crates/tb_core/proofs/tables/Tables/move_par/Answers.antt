@@ -2,9 +2,9 @@
 use Rattle.std.proofs.Common.{◌≡◌, false, Option, refl, rules, sym, subst, arith}
 use Rattle.tb_message.specs.declared.message.Message.{Message}
 use Rattle.tb_movements.specs.Movements.{Movement}
-use Rattle.tb_core.specs.Accounting.{TellsNext}
+use Rattle.tb_ledger.specs.Accounting.{TellsNext}
 use Rattle.tb_core.specs.Crediting.{movement_in}
-use Rattle.tb_core.specs.Rooms.{settles}
+use Rattle.tb_tables.specs.Kinds.{settles}
 use Rattle.tb_core.proofs.EnterLemmas.{moves-plain}
 use Rattle.tb_core.proofs.tables.Tables.move_par.Goals as goal
 

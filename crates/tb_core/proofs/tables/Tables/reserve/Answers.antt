@@ -1,7 +1,7 @@
 -- What was taken for rows stays.
 use Rattle.std.proofs.Common.{◌+◌, length}
 use Rattle.tb_core.proofs.HouseLemmas.{AreSame-both}
-use Rattle.tb_core.proofs.RoomLemmas.{whatever}
+use Rattle.tb_shelving.proofs.RoomLemmas.{whatever}
 use Rattle.tb_core.proofs.tables.Tables.reserve.Goals as goal
 
 pub returns-clause-rows : goal.returns-clause-rows

@@ -2,7 +2,7 @@
 use Rattle.std.proofs.Common.{◌≡◌, Some, Option, List, sym, subst}
 use Rattle.tb_terms.specs.declared.announcement.Announcement.{Announcement}
 use Rattle.tb_history.specs.Roster.{announcement_of}
-use Rattle.tb_core.specs.Accounting.{TellsNext}
+use Rattle.tb_ledger.specs.Accounting.{TellsNext}
 use Rattle.tb_core.specs.Crediting.{settled_in}
 use Rattle.tb_core.proofs.SettleLemmas.{found-named}
 use Rattle.tb_core.proofs.tables.Tables.settle.Goals as goal

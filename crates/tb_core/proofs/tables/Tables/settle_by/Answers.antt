@@ -2,8 +2,9 @@
 use Rattle.std.proofs.Common.{◌≡◌, Some, Option, List, refl, sym, ap, subst, length, arith}
 use Rattle.tb_movements.specs.Movements.{Movement, Settled}
 use Rattle.tb_history.specs.declared.roster.Enrolment.{Enrolment}
-use Rattle.tb_core.specs.Accounting.{TellsNext}
-use Rattle.tb_core.specs.Crediting.{bidding_on, credits_for, settled_in}
+use Rattle.tb_ledger.specs.Accounting.{TellsNext}
+use Rattle.tb_core.specs.Crediting.{bidding_on, settled_in}
+use Rattle.tb_ledger.specs.Credits.{credits_for}
 use Rattle.tb_core.proofs.HouseLemmas.{few-bidders}
 use Rattle.tb_core.proofs.SettleLemmas.{book-on, book-there, lines-few}
 use Rattle.tb_core.proofs.tables.Tables.settle_by.Goals as goal

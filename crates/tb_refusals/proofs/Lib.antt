@@ -1,0 +1,3 @@
+pub mod AnnounceLemmas
+pub mod EqualLemmas
+pub mod RedeemLemmas

@@ -1,0 +1,15 @@
+//! The first refusal of a message or a query whose cause holds, by what it looks at.
+#![tactic(auto)]
+
+mod par_refusals;
+mod permits;
+mod query_refusals;
+mod refusals;
+
+pub use par_refusals::{pledge_refusal, redeem_refusal, release_refusal, transfer_refusal};
+pub use permits::{is_permitted, repeated};
+pub use query_refusals::{auction_refusal, may_ask, redemption_refusal};
+pub use refusals::{
+    announce_refusal, bid_refusal, cancel_refusal, enrol_refusal, holiday_refusal,
+    position_refusal, publish_refusal, register_refusal, settle_refusal,
+};

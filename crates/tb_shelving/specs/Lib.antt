@@ -1,0 +1,3 @@
+pub mod Shelving
+pub mod Rooms
+pub mod Standings

@@ -1,0 +1,6 @@
+-- What is added to a table.
+use Rattle.std.proofs.Common.{◌≡◌, ◌++◌, List, [], sym, append-nil}
+
+-- nothing is added
+pub nothing_more : {X : Type 0} (xs : List X) → xs ≡ xs ++ []
+nothing_more xs = sym (append-nil xs)

@@ -1,0 +1,3 @@
+pub mod Auctions
+pub mod Calendar
+pub mod Kinds

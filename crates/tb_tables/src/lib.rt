@@ -1,0 +1,29 @@
+//! The tables of a history: what it says of each kind, in its order, found and counted by keys, with adds that can't fail.
+#![tactic(auto)]
+
+mod auctions;
+mod bidding;
+mod calendar;
+mod entering;
+mod kept;
+mod keys;
+mod names;
+mod roster;
+
+pub use auctions::{Auctions, bill_terms, has_auction, place_of_bill, terms_of, unsettled_terms};
+pub use bidding::{
+    Bids, Cancels, Reports, bids_from, few_bids, find_bid, has_cancel, has_report, is_live,
+    position_of,
+};
+pub use calendar::Calendar;
+pub use entering::{
+    enter_auction, enter_bid, enter_bidder, enter_calendar, enter_cancel, enter_holiday,
+    enter_published, enter_redeemed, enter_report, enter_settled, enter_submitter,
+};
+pub use kept::{Entries, count_sent, find_kept};
+pub use keys::{ByBidder, ByBill, ByDay, ByKey, ByName, ByNumber, BySender, BySubmitter};
+pub use names::{Names, has_name, is_operator, is_same};
+pub use roster::{
+    Bidders, Bills, Holidays, Submitters, find_enrolment, find_submitter, has_bill, has_holiday,
+    has_name_or_key, has_submitter, is_enrolled, number_of, place_of_bidder,
+};
