@@ -230,6 +230,13 @@ impl Host {
         self.tables.last
     }
 
+    /// The entries of the history, in their order.
+    pub fn history(&self) -> &[Entry]
+        ensures { result.now ≡ self.now.history }
+    {
+        self.entries.rows()
+    }
+
     /// How many entries the history has.
     pub fn entries(&self) -> u64
         ensures entries { result ≡ length self.now.history }

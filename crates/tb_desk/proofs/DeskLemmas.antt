@@ -7,7 +7,8 @@ use Rattle.tb_disk.specs.Disks.{DiskState}
 use Rattle.tb_message.specs.declared.message.Entry.{Entry}
 use Rattle.tb_message.specs.Spelling.{spellings}
 use Rattle.tb_journal.proofs.Calls.{held_stays}
-use Rattle.tb_journal.proofs.Gates.{doubtful_stands, IsFramed-stands}
+use Rattle.tb_journal.specs.declared.form.Form.TheVariants.{Second}
+use Rattle.tb_journal.proofs.Gates.{doubtful_stands, IsFramedIn-stands}
 use Rattle.tb_desk.specs.Stands.{joined, payloads_of, StandsForEither, HoldsAt, Stands, LeavesEither, CrashesLeave}
 use Rattle.tb_desk.specs.Turn.{Held, Asked, Replies, IsTurn, IsOneOf}
 use Rattle.tb_desk.specs.Desks.{IsDesk, CrashesSince, CountsFault, PlacedGroup, doubted_by}
@@ -34,7 +35,7 @@ contents_at groups history [] gate past whole holds =
     inl (record {
       groups = groups;
       whole = whole;
-      stands = IsFramed-stands (payloads_of groups) (contents_of past)
+      stands = IsFramedIn-stands Second (payloads_of groups) (contents_of past)
           holds.file;
     })
 contents_at groups history (entry ∷ entries) gate past whole doubts =

@@ -6,15 +6,19 @@ use Rattle.std.proofs.lemmas.List.{map_push, flat_map_more, drop_more, get_or_ap
 use Rattle.std.proofs.lemmas.List.Concat.{flat_map-append}
 use Rattle.std.proofs.lemmas.List.Elements.{All-head, All-tail, All-push}
 use Rattle.tb_message.specs.declared.message.Entry.{Entry}
-use Rattle.tb_message.specs.Spelling.{spelling, spellings, IsInRange}
-use Rattle.tb_message.proofs.RecordLaws.{spellings-one, spelling-sizes}
+use Rattle.tb_message.specs.declared.version.Version.{Version}
+use Rattle.tb_message.specs.declared.version.Version.TheVariants as versions
+use Rattle.tb_message.specs.Spelling.{spelling_in, spellings, spellings_in, IsInRange}
+use Rattle.tb_message.proofs.RecordLaws.{spellings_in-one, spelling_in-sizes}
 use Rattle.tb_history.specs.Legal.{IsLegal, Empty, Longer, Follows}
 use Rattle.tb_history.proofs.HistoryLemmas.{IsLegal-follows}
 use Rattle.tb_history.proofs.LengthLemmas.{IsLegal-length}
-use Rattle.tb_journal.specs.Frames.{header, framed, front, frames}
+use Rattle.tb_journal.specs.declared.form.Form.{Form}
+use Rattle.tb_journal.specs.declared.form.Form.TheVariants.{Second}
+use Rattle.tb_journal.specs.Frames.{header_of, first_place, head_of, framed, front, front_in, frames, frames_in}
 use Rattle.tb_journal.proofs.Gates.{length-header, length-front_push}
-use Rattle.tb_journal.proofs.Spelling.{length-framed, StandsFor-one}
-use Rattle.tb_desk.specs.Stands.{joined, payloads_of, IsGroup, StandsForHistory}
+use Rattle.tb_journal.proofs.Spelling.{length-framed, StandsIn-one}
+use Rattle.tb_desk.specs.Stands.{joined, form_of, payloads_in, payloads_of, IsGroup, StandsForHistory, StandsForHistoryIn}
 
 -- the entries of one group more
 pub joined-push : (groups : List (List Entry)) (group : List Entry)
@@ -22,9 +26,13 @@ pub joined-push : (groups : List (List Entry)) (group : List Entry)
 joined-push groups group = sym (flat_map_more (λ (entries : List Entry). entries) [] groups group)
 
 -- its payload
+pub payloads_in-push : (version : Version) (groups : List (List Entry)) (group : List Entry)
+    → payloads_in version (groups ++ group ∷ []) ≡ payloads_in version groups ++ spellings_in version group ∷ []
+payloads_in-push version groups group = map_push (spellings_in version) groups group
+
 pub payloads-push : (groups : List (List Entry)) (group : List Entry)
     → payloads_of (groups ++ group ∷ []) ≡ payloads_of groups ++ spellings group ∷ []
-payloads-push groups group = map_push spellings groups group
+payloads-push = payloads_in-push versions.Second
 
 -- each of them has an entry
 pub sizes-push : (groups : List (List Entry)) (group : List Entry) → All IsGroup groups → IsGroup group
@@ -32,22 +40,29 @@ pub sizes-push : (groups : List (List Entry)) (group : List Entry) → All IsGro
 sizes-push groups group sizes size = All-push IsGroup groups group sizes size
 
 -- the gate stands behind one frame more
-pub front-push : (groups : List (List Entry)) (group : List Entry)
-    → length (front (payloads_of (groups ++ group ∷ []))) ≡ length (front (payloads_of groups)) + 5
-    + length (spellings group)
-front-push groups group = omega (
+pub front_in-push : (version : Version) (groups : List (List Entry)) (group : List Entry)
+    → length (front_in (form_of version) (payloads_in version (groups ++ group ∷ [])))
+    ≡ length (front_in (form_of version) (payloads_in version groups)) + 1 + head_of (form_of version)
+    + length (spellings_in version group)
+front_in-push version groups group = omega (
   arith,
-  ap (λ (payloads : List (List ℕ)). length (front payloads)) (payloads-push groups group),
-  length-front_push (payloads_of groups) (spellings group),
-  length-framed (spellings group),
+  ap (λ (payloads : List (List ℕ)). length (front_in (form_of version) payloads))
+      (payloads_in-push version groups group),
+  length-front_push (form_of version) (payloads_in version groups) (spellings_in version group),
+  length-framed (form_of version) (length (payloads_in version groups)) (spellings_in version group),
 )
 
+pub front-push : (groups : List (List Entry)) (group : List Entry)
+    → length (front (payloads_of (groups ++ group ∷ []))) ≡ length (front (payloads_of groups)) + 13
+    + length (spellings group)
+front-push groups group = omega (arith, front_in-push versions.Second groups group)
+
 -- the records of all entries, one behind the other, are the payloads
-spellings-joined : (groups : List (List Entry))
-    → spellings (joined groups) ≡ flat_map (λ (payload : List ℕ). payload) (payloads_of groups)
-spellings-joined [] = refl
-spellings-joined (group ∷ groups) = flat_map-append spelling group (joined groups)
-    ∙ ap (λ (bytes : List ℕ). spellings group ++ bytes) (spellings-joined groups)
+spellings-joined : (version : Version) (groups : List (List Entry))
+    → spellings_in version (joined groups) ≡ flat_map (λ (payload : List ℕ). payload) (payloads_in version groups)
+spellings-joined version [] = refl
+spellings-joined version (group ∷ groups) = flat_map-append (spelling_in version) group (joined groups)
+    ∙ ap (λ (bytes : List ℕ). spellings_in version group ++ bytes) (spellings-joined version groups)
 
 -- the entries of a legal history are in range
 pub IsLegal-in_range : (history : List Entry) → IsLegal history → All IsInRange history
@@ -56,34 +71,44 @@ IsLegal-in_range history (Longer before entry legal follows) =
     All-push IsInRange before entry (IsLegal-in_range before legal) follows.in_range
 
 -- groups with the same payloads have the same entries
-pub joined-one : (groups others : List (List Entry)) → IsLegal (joined groups) → IsLegal (joined others)
-    → payloads_of groups ≡ payloads_of others → joined groups ≡ joined others
-joined-one groups others legal also same =
-    spellings-one (joined groups) (joined others) (IsLegal-in_range (joined groups) legal)
+pub joined_in-one : (version : Version) (groups others : List (List Entry)) → IsLegal (joined groups)
+    → IsLegal (joined others) → payloads_in version groups ≡ payloads_in version others → joined groups ≡ joined others
+joined_in-one version groups others legal also same =
+    spellings_in-one version (joined groups) (joined others) (IsLegal-in_range (joined groups) legal)
     (IsLegal-in_range (joined others) also)
-    (spellings-joined groups
+    (spellings-joined version groups
     ∙ (ap (λ (payloads : List (List ℕ)). flat_map (λ (payload : List ℕ). payload) payloads) same
-    ∙ sym (spellings-joined others)))
+    ∙ sym (spellings-joined version others)))
 
 -- a file stands for one legal history
-pub StandsForHistory-one : (file : List ℕ) (one other : List Entry) → IsLegal one → IsLegal other
-    → StandsForHistory one file → StandsForHistory other file → one ≡ other
-StandsForHistory-one file one other legal also first second =
+pub StandsForHistoryIn-one : (version : Version) (file : List ℕ) (one other : List Entry) → IsLegal one → IsLegal other
+    → StandsForHistoryIn version one file → StandsForHistoryIn version other file → one ≡ other
+StandsForHistoryIn-one version file one other legal also first second =
     sym first.whole
-    ∙ (joined-one first.groups second.groups (subst IsLegal (sym first.whole) legal)
+    ∙ (joined_in-one version first.groups second.groups (subst IsLegal (sym first.whole) legal)
     (subst IsLegal (sym second.whole) also)
-    (StandsFor-one (payloads_of first.groups) (payloads_of second.groups) file first.stands second.stands)
+    (StandsIn-one (form_of version) (payloads_in version first.groups) (payloads_in version second.groups) file
+    first.stands second.stands)
     ∙ second.whole)
 
+pub StandsForHistory-one : (file : List ℕ) (one other : List Entry) → IsLegal one → IsLegal other
+    → StandsForHistory one file → StandsForHistory other file → one ≡ other
+StandsForHistory-one = StandsForHistoryIn-one versions.Second
+
 -- records have at least one byte each, and at most 512
+pub spellings_in-sizes : (version : Version) (entries : List Entry) → All IsInRange entries
+    → (length entries ≤ length (spellings_in version entries))
+    × (length (spellings_in version entries) ≤ 512 * length entries)
+spellings_in-sizes version [] in_range = (omega arith, omega arith)
+spellings_in-sizes version (entry ∷ entries) in_range =
+    let one = spelling_in-sizes version entry (All-head IsInRange entry entries in_range) in
+    let others = spellings_in-sizes version entries (All-tail IsInRange entry entries in_range) in
+    let whole = length-append (spelling_in version entry) (spellings_in version entries) in
+    (omega (arith, one.0, others.0, whole), omega (arith, one.1, others.1, whole))
+
 pub spellings-sizes : (entries : List Entry) → All IsInRange entries
     → (length entries ≤ length (spellings entries)) × (length (spellings entries) ≤ 512 * length entries)
-spellings-sizes [] in_range = (omega arith, omega arith)
-spellings-sizes (entry ∷ entries) in_range =
-    let one = spelling-sizes entry (All-head IsInRange entry entries in_range) in
-    let others = spellings-sizes entries (All-tail IsInRange entry entries in_range) in
-    let whole = length-append (spelling entry) (spellings entries) in
-    (omega (arith, one.0, others.0, whole), omega (arith, one.1, others.1, whole))
+spellings-sizes = spellings_in-sizes versions.Second
 
 -- what holds of all entries of two lists holds of each list's
 pub All-append_left : (front back : List Entry) → All IsInRange (front ++ back) → All IsInRange front
@@ -96,18 +121,27 @@ All-append_right front back all = λ place d within.
     subst IsInRange (get_or-append-add front back place d)
     (all (length front + place) d (omega (arith, within, length-append front back)))
 
--- the header is 16 bytes
-pub length-front : (payloads : List (List ℕ)) → length (front payloads) ≡ 16 + length (frames payloads)
-length-front payloads = omega (arith, length-append header (frames payloads), length-header)
+-- the first frame stands behind the header
+pub length-front_in : (form : Form) (payloads : List (List ℕ))
+    → length (front_in form payloads) ≡ first_place form + length (frames_in form 0 payloads)
+length-front_in form payloads = omega (
+  arith,
+  length-append (header_of form) (frames_in form 0 payloads),
+  length-header form,
+)
 
--- each entry takes at most 517 bytes of the journal
-front-bound : (groups : List (List Entry)) → All IsGroup groups → All IsInRange (joined groups)
-    → length (frames (payloads_of groups)) ≤ 517 * length (joined groups)
-front-bound [] sizes in_range = omega arith
-front-bound (group ∷ groups) sizes in_range =
+-- the header and the seal are 17 bytes
+pub length-front : (payloads : List (List ℕ)) → length (front payloads) ≡ 17 + length (frames 0 payloads)
+length-front payloads = omega (arith, length-front_in Second payloads)
+
+-- each entry takes at most 525 bytes of the journal
+front-bound : (ordinal : ℕ) (groups : List (List Entry)) → All IsGroup groups → All IsInRange (joined groups)
+    → length (frames ordinal (payloads_of groups)) ≤ 525 * length (joined groups)
+front-bound ordinal [] sizes in_range = omega arith
+front-bound ordinal (group ∷ groups) sizes in_range =
     let some : IsGroup group = All-head IsGroup group groups sizes in
     let one = spellings-sizes group (All-append_left group (joined groups) in_range) in
-    let others = front-bound groups (All-tail IsGroup group groups sizes)
+    let others = front-bound (ordinal + 1) groups (All-tail IsGroup group groups sizes)
     (All-append_right group (joined groups) in_range) in
     omega (
       arith,
@@ -115,19 +149,19 @@ front-bound (group ∷ groups) sizes in_range =
       one.1,
       others,
       length-append group (joined groups),
-      length-append (framed (spellings group)) (frames (payloads_of groups)),
-      length-framed (spellings group),
+      length-append (framed ordinal (spellings group)) (frames (ordinal + 1) (payloads_of groups)),
+      length-framed Second ordinal (spellings group),
     )
 
 -- the gate is so far from the end that each group fits
 pub gate-bound : (groups : List (List Entry)) (history : List Entry) → joined groups ≡ history → All IsGroup groups
-    → IsLegal history → length (front (payloads_of groups)) + 32774 < 2 ^ 42
+    → IsLegal history → length (front (payloads_of groups)) + 32782 < 2 ^ 42
 gate-bound groups history whole sizes legal =
     let few : length (joined groups) ≤ 4097 * 1048576 =
     subst (λ (entries : List Entry). length entries ≤ 4097 * 1048576) (sym whole) (IsLegal-length history legal) in
     let in_range : All IsInRange (joined groups) =
     subst (λ (entries : List Entry). All IsInRange entries) (sym whole) (IsLegal-in_range history legal) in
-    omega (arith, few, front-bound groups sizes in_range, length-front (payloads_of groups))
+    omega (arith, few, front-bound 0 groups sizes in_range, length-front (payloads_of groups))
 
 -- each entry of a legal history can follow on those before it
 pub follows-at : (history group : List Entry) (index : ℕ) (d : Entry) → index < length group

@@ -8,3 +8,4 @@ pub mod JudgeLemmas
 pub mod AnswerLemmas
 pub mod CrashLemmas
 pub mod GroupAnswerLemmas
+pub mod MigrationLemmas

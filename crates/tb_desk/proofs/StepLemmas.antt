@@ -48,20 +48,20 @@ either_none history file (inr stands) = subst (λ (entries : List Entry). Stands
 -- what a journal knows of a group in doubt
 pub in_doubt : (groups : List (List Entry)) (doubt : List Entry) (gate : ℕ) (past : Past) → 1 ≤ length doubt
     → HoldsAt (payloads_of groups) doubt gate past
-    → InDoubt (payloads_of groups) (spellings doubt) gate (gate + 5 + length (spellings doubt)) past
+    → InDoubt (payloads_of groups) (spellings doubt) gate (gate + 13 + length (spellings doubt)) past
 in_doubt groups [] gate past some holds = absurd (omega (arith, some))
 in_doubt groups (entry ∷ entries) gate past some holds = holds
 
 -- and the same said of it
 pub put_doubt : (groups : List (List Entry)) (doubt : List Entry) (gate : ℕ) (past : Past) → 1 ≤ length doubt
-    → InDoubt (payloads_of groups) (spellings doubt) gate (gate + 5 + length (spellings doubt)) past
+    → InDoubt (payloads_of groups) (spellings doubt) gate (gate + 13 + length (spellings doubt)) past
     → HoldsAt (payloads_of groups) doubt gate past
 put_doubt groups [] gate past some doubts = absurd (omega (arith, some))
 put_doubt groups (entry ∷ entries) gate past some doubts = doubts
 
 -- where the gate will be
 pub gate_behind-some : (gate : ℕ) (doubt : List Entry) → 1 ≤ length doubt
-    → gate_behind gate doubt ≡ Some (gate + 5 + length (spellings doubt))
+    → gate_behind gate doubt ≡ Some (gate + 13 + length (spellings doubt))
 gate_behind-some gate [] some = absurd (omega (arith, some))
 gate_behind-some gate (entry ∷ entries) some = refl
 
@@ -84,18 +84,18 @@ crash-none disk gate next history group stands = record {
 module _ (old new : DiskState) (gate : ℕ) (next : Option ℕ) (history doubt : List Entry) (some : 1 ≤ length doubt)
     (stands : Stands old gate next history doubt) where
   -- the next place
-  pub next_is : next ≡ Some (gate + 5 + length (spellings doubt))
+  pub next_is : next ≡ Some (gate + 13 + length (spellings doubt))
   next_is = stands.next_place ∙ gate_behind-some gate doubt some
 
   -- what is known of the group in doubt
   pub doubt_known : IfSome old.past (InDoubt (payloads_of stands.groups) (spellings doubt) gate
-      (gate + 5 + length (spellings doubt)))
+      (gate + 13 + length (spellings doubt)))
   doubt_known = known_of (HoldsAt (payloads_of stands.groups) doubt gate)
-      (InDoubt (payloads_of stands.groups) (spellings doubt) gate (gate + 5 + length (spellings doubt))) old.past
+      (InDoubt (payloads_of stands.groups) (spellings doubt) gate (gate + 13 + length (spellings doubt))) old.past
       (λ past holds. in_doubt stands.groups doubt gate past some holds) stands.told
 
   -- a resolve that failed
-  pub Stands-still : Told old new (StaysInDoubt gate (gate + 5 + length (spellings doubt)))
+  pub Stands-still : Told old new (StaysInDoubt gate (gate + 13 + length (spellings doubt)))
       → Stands new gate next history doubt
   Stands-still still = record {
     groups = stands.groups;
@@ -105,17 +105,17 @@ module _ (old new : DiskState) (gate : ℕ) (next : Option ℕ) (history doubt :
     next_place = stands.next_place;
     legal = stands.legal;
     accepted = stands.accepted;
-    told = told_now (StaysInDoubt gate (gate + 5 + length (spellings doubt)))
-        (InDoubt (payloads_of stands.groups) (spellings doubt) gate (gate + 5 + length (spellings doubt)))
+    told = told_now (StaysInDoubt gate (gate + 13 + length (spellings doubt)))
+        (InDoubt (payloads_of stands.groups) (spellings doubt) gate (gate + 13 + length (spellings doubt)))
         (HoldsAt (payloads_of stands.groups) doubt gate) old new
         (λ before now follows known. put_doubt stands.groups doubt gate now some
         (follows (payloads_of stands.groups) (spellings doubt) known)) still doubt_known;
   }
 
   -- the group counts
-  pub Stands-counts : Told old new (Settles gate (gate + 5 + length (spellings doubt))
-      (gate + 5 + length (spellings doubt)) true)
-      → Stands new (gate + 5 + length (spellings doubt)) None (history ++ doubt) []
+  pub Stands-counts : Told old new (Settles gate (gate + 13 + length (spellings doubt))
+      (gate + 13 + length (spellings doubt)) true)
+      → Stands new (gate + 13 + length (spellings doubt)) None (history ++ doubt) []
   Stands-counts settled =
       let groups : List (List Entry) = stands.groups ++ doubt ∷ [] in
       record {
@@ -126,17 +126,17 @@ module _ (old new : DiskState) (gate : ℕ) (next : Option ℕ) (history doubt :
         next_place = refl;
         legal = stands.accepted;
         accepted = subst IsLegal (sym (append-nil (history ++ doubt))) stands.accepted;
-        told = told_now (Settles gate (gate + 5 + length (spellings doubt)) (gate + 5 + length (spellings doubt)) true)
-            (InDoubt (payloads_of stands.groups) (spellings doubt) gate (gate + 5 + length (spellings doubt)))
-            (Holds (payloads_of groups) (gate + 5 + length (spellings doubt))) old new
+        told = told_now (Settles gate (gate + 13 + length (spellings doubt)) (gate + 13 + length (spellings doubt)) true)
+            (InDoubt (payloads_of stands.groups) (spellings doubt) gate (gate + 13 + length (spellings doubt)))
+            (Holds (payloads_of groups) (gate + 13 + length (spellings doubt))) old new
             (λ before now follows known.
-            subst (λ (payloads : List (List ℕ)). Holds payloads (gate + 5 + length (spellings doubt)) now)
+            subst (λ (payloads : List (List ℕ)). Holds payloads (gate + 13 + length (spellings doubt)) now)
             (sym (payloads-push stands.groups doubt))
             (follows (payloads_of stands.groups) (spellings doubt) known)) settled doubt_known;
       }
 
   -- the group is dropped
-  pub Stands-dropped : Told old new (Settles gate (gate + 5 + length (spellings doubt)) gate false)
+  pub Stands-dropped : Told old new (Settles gate (gate + 13 + length (spellings doubt)) gate false)
       → Stands new gate None history []
   Stands-dropped settled = record {
     groups = stands.groups;
@@ -146,18 +146,18 @@ module _ (old new : DiskState) (gate : ℕ) (next : Option ℕ) (history doubt :
     next_place = refl;
     legal = stands.legal;
     accepted = subst IsLegal (sym (append-nil history)) stands.legal;
-    told = told_now (Settles gate (gate + 5 + length (spellings doubt)) gate false)
-        (InDoubt (payloads_of stands.groups) (spellings doubt) gate (gate + 5 + length (spellings doubt)))
+    told = told_now (Settles gate (gate + 13 + length (spellings doubt)) gate false)
+        (InDoubt (payloads_of stands.groups) (spellings doubt) gate (gate + 13 + length (spellings doubt)))
         (Holds (payloads_of stands.groups) gate) old new
         (λ before now follows known. follows (payloads_of stands.groups) (spellings doubt) known) settled doubt_known;
   }
 
   -- a crash while it is found out
-  pub crash-settled : Told old new (LeavesInDoubt gate (gate + 5 + length (spellings doubt)))
+  pub crash-settled : Told old new (LeavesInDoubt gate (gate + 13 + length (spellings doubt)))
       → CrashesLeave (StandsForEither history doubt) old new
   crash-settled leaves =
-      told_given (LeavesInDoubt gate (gate + 5 + length (spellings doubt)))
-      (InDoubt (payloads_of stands.groups) (spellings doubt) gate (gate + 5 + length (spellings doubt)))
+      told_given (LeavesInDoubt gate (gate + 13 + length (spellings doubt)))
+      (InDoubt (payloads_of stands.groups) (spellings doubt) gate (gate + 13 + length (spellings doubt)))
       (λ before now. Leaves (StandsForEither history doubt) before now) old new
       (λ before now follows known.
       Leaves-weaker (WithOrWithout (payloads_of stands.groups) (spellings doubt)) (StandsForEither history doubt)
@@ -200,8 +200,8 @@ module _ (old new : DiskState) (gate : ℕ) (next : Option ℕ) (history group :
     (stands : Stands old gate next history []) where
   -- a group was added
   pub Stands-added : 1 ≤ length group → IsLegal (history ++ group)
-      → Told old new (Adds (spellings group) gate (gate + 5 + length (spellings group)))
-      → Stands new (gate + 5 + length (spellings group)) None (history ++ group) []
+      → Told old new (Adds (spellings group) gate (gate + 13 + length (spellings group)))
+      → Stands new (gate + 13 + length (spellings group)) None (history ++ group) []
   Stands-added some legal adds =
       let groups : List (List Entry) = stands.groups ++ group ∷ [] in
       record {
@@ -212,18 +212,18 @@ module _ (old new : DiskState) (gate : ℕ) (next : Option ℕ) (history group :
         next_place = refl;
         legal = legal;
         accepted = subst IsLegal (sym (append-nil (history ++ group))) legal;
-        told = told_now (Adds (spellings group) gate (gate + 5 + length (spellings group)))
+        told = told_now (Adds (spellings group) gate (gate + 13 + length (spellings group)))
             (Holds (payloads_of stands.groups) gate)
-            (Holds (payloads_of groups) (gate + 5 + length (spellings group))) old new
+            (Holds (payloads_of groups) (gate + 13 + length (spellings group))) old new
             (λ before now follows known.
-            subst (λ (payloads : List (List ℕ)). Holds payloads (gate + 5 + length (spellings group)) now)
+            subst (λ (payloads : List (List ℕ)). Holds payloads (gate + 13 + length (spellings group)) now)
             (sym (payloads-push stands.groups group)) (follows (payloads_of stands.groups) known).0) adds stands.told;
       }
 
   -- it is in doubt
   pub Stands-doubted : 1 ≤ length group → IsLegal (history ++ group)
-      → Told old new (Doubts (spellings group) gate (gate + 5 + length (spellings group)))
-      → Stands new gate (Some (gate + 5 + length (spellings group))) history group
+      → Told old new (Doubts (spellings group) gate (gate + 13 + length (spellings group)))
+      → Stands new gate (Some (gate + 13 + length (spellings group))) history group
   Stands-doubted some legal doubts = record {
     groups = stands.groups;
     whole = stands.whole;
@@ -232,7 +232,7 @@ module _ (old new : DiskState) (gate : ℕ) (next : Option ℕ) (history group :
     next_place = sym (gate_behind-some gate group some);
     legal = stands.legal;
     accepted = legal;
-    told = told_now (Doubts (spellings group) gate (gate + 5 + length (spellings group)))
+    told = told_now (Doubts (spellings group) gate (gate + 13 + length (spellings group)))
         (Holds (payloads_of stands.groups) gate) (HoldsAt (payloads_of stands.groups) group gate) old new
         (λ before now follows known. put_doubt stands.groups group gate now some
         (follows (payloads_of stands.groups) known).0) doubts stands.told;

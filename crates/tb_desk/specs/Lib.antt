@@ -3,3 +3,4 @@ pub mod Turn
 pub mod Desks
 pub mod Replay
 pub mod Replaying
+pub mod Migration

@@ -4,25 +4,41 @@ use Rattle.std.specs.List.{flat_map, All}
 use Rattle.tb_disk.specs.Past.{Past, contents_of, MayLeave, Leaves}
 use Rattle.tb_disk.specs.Disks.{DiskState}
 use Rattle.tb_journal.specs.Frames.{front}
-use Rattle.tb_journal.specs.Image.{StandsFor}
+use Rattle.tb_journal.specs.declared.form.Form.{Form}
+use Rattle.tb_journal.specs.declared.form.Form.TheVariants as forms
+use Rattle.tb_journal.specs.Image.{StandsIn}
 use Rattle.tb_journal.specs.Journal.{Told, Holds, InDoubt}
 use Rattle.tb_message.specs.declared.message.Entry.{Entry}
-use Rattle.tb_message.specs.Spelling.{spellings}
+use Rattle.tb_message.specs.declared.version.Version.{Version}
+use Rattle.tb_message.specs.declared.version.Version.TheVariants as versions
+use Rattle.tb_message.specs.Spelling.{spellings, spellings_in}
 use Rattle.tb_history.specs.Legal.{IsLegal}
 
 -- the entries of groups, one group behind the other
 abbrev pub joined : List (List Entry) → List Entry
 joined groups = flat_map (λ (group : List Entry). group) groups
 
+-- the form of a journal of this version
+abbrev pub form_of : Version → Form
+form_of versions.First = forms.First
+form_of versions.Second = forms.Second
+
 -- a payload is the records of a group's entries, one behind the other
+abbrev pub payloads_in : Version → List (List Entry) → List (List ℕ)
+payloads_in version groups = map (spellings_in version) groups
+
 abbrev pub payloads_of : List (List Entry) → List (List ℕ)
-payloads_of groups = map spellings groups
+payloads_of groups = payloads_in versions.Second groups
 
 -- The file's payloads are groups of entries, which make up the history. No payload is empty, and so no group is.
-pub record StandsForHistory (history : List Entry) (file : List ℕ) : Type 0 where
+pub record StandsForHistoryIn (version : Version) (history : List Entry) (file : List ℕ) : Type 0 where
   pub groups : List (List Entry)
   pub whole : joined groups ≡ history
-  pub stands : StandsFor (payloads_of groups) file
+  pub stands : StandsIn (form_of version) (payloads_in version groups) file
+
+-- the same in the second version
+abbrev pub StandsForHistory : List Entry → List ℕ → Type 0
+StandsForHistory history file = StandsForHistoryIn versions.Second history file
 
 -- the file stands for the history, or for it followed by the whole group; where there is none both are one
 abbrev pub StandsForEither : List Entry → List Entry → List ℕ → Type 0
@@ -48,13 +64,13 @@ IsGroup group = 1 ≤ length group
 -- where the gate will be behind a group in doubt
 abbrev pub gate_behind : ℕ → List Entry → Option ℕ
 gate_behind gate [] = None
-gate_behind gate (entry ∷ entries) = Some (gate + 5 + length (spellings (entry ∷ entries)))
+gate_behind gate (entry ∷ entries) = Some (gate + 13 + length (spellings (entry ∷ entries)))
 
 -- the journal holds the payloads, and the group in doubt may count or not
 abbrev pub HoldsAt : List (List ℕ) → List Entry → ℕ → Past → Type 0
 HoldsAt payloads [] gate past = Holds payloads gate past
 HoldsAt payloads (entry ∷ entries) gate past =
-    InDoubt payloads (spellings (entry ∷ entries)) gate (gate + 5 + length (spellings (entry ∷ entries))) past
+    InDoubt payloads (spellings (entry ∷ entries)) gate (gate + 13 + length (spellings (entry ∷ entries))) past
 
 -- What a desk knows of its journal between its steps: the history is made up of groups, the gate stands behind their
 -- frames, and the history is legal also with the group in doubt.

@@ -137,7 +137,7 @@ impl<D: Disk> Desk<D> {
             (λ past. IsExact (contents_of past) (Ok desk.host.history))) }
         ensures exact_refusal { IfErr result (λ refused. IfSome (D.disk disk).past
             (λ past. IsExact (contents_of past) (Err refused.1))) }
-        // It begins with a sync. Over more than 17 bytes that is all; else it writes an empty journal and syncs.
+        // It begins with a sync. Over more than 18 bytes that is all; else it writes an empty journal and syncs.
         ensures steps { IfOk result (λ desk. Told (D.disk disk) (D.disk desk.disk) Opens) }
         // A refused file was synced and nothing else. A failing disk or want of memory breaks off what an opening does.
         ensures refused { IfErr result (λ refused. Told (D.disk disk) (D.disk refused.0) (LeavesRefused refused.1)) }
@@ -405,7 +405,7 @@ fn note_group(
 fn ready<D: Disk>(alloc: Global, mut journal: Journal<D>) -> Result<Desk<D>, (D, OpenFault)>
     requires opened { journal.opened ≡ journal.disk }
     requires sure { journal.doubt ≡ None }
-    requires first { StandsAt (D.disk journal.disk) journal.gate 16 }
+    requires first { StandsAt (D.disk journal.disk) journal.gate 17 }
     requires finds { (old : DiskState) × Told old (D.disk journal.disk) (Finds journal.gate) }
     ensures found { IfOk result (λ desk. IsReplayed (D.disk journal.disk) journal.gate desk.host.history) }
     ensures made { IfOk result (λ desk. (desk.doubt ≡ []) × (desk.recovered ≡ length desk.host.history)

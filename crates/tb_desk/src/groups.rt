@@ -72,7 +72,7 @@ pub fn add_group<D: Disk>(
     group: &[Entry],
 ) -> Result<(), DiskFault>
     requires sure { journal.old.doubt ≡ None }
-    requires end { journal.old.gate + 32774 < 2 ^ 42 }
+    requires end { journal.old.gate + 32782 < 2 ^ 42 }
     requires some { IsGroup group.now }
     requires few { length group.now ≤ 64 }
     requires in_range { All IsInRange group.now }

@@ -3,14 +3,17 @@
 
 mod desk;
 mod fault;
+mod frames;
 mod groups;
 mod judging;
 mod laws;
+mod migration;
 mod replay;
 mod reply;
 mod steps;
 
 pub use desk::Desk;
-pub use fault::OpenFault;
+pub use fault::{MigrateFault, OpenFault};
 pub use laws::one_history;
+pub use migration::migrate;
 pub use reply::{GroupReply, Reply};

@@ -1,27 +1,25 @@
 //! The history that an opening finds.
-ghost use Rattle.std.specs.Prelude.{ℕ, ◌≡◌, ◌≢◌, ◌≤◌, ◌++◌, ◌∷◌, [], List, None, length, take, true, false, OnOk, IfOk, IfErr};
+ghost use Rattle.std.specs.Prelude.{ℕ, ◌≡◌, ◌≢◌, ◌≤◌, ◌++◌, ◌∷◌, [], List, None, length, true, false, OnOk, IfOk, IfErr, IfSome, IfNone};
 ghost use Rattle.tb_link.specs.Counts.{Rose, NeverFalls};
 ghost use Rattle.tb_disk.specs.Past.{contents_of};
 ghost use Rattle.tb_message.specs.declared.message.Entry.{Entry};
-ghost use Rattle.tb_message.specs.Spelling.{spellings, IsInRange};
+ghost use Rattle.tb_message.specs.Spelling.{spellings_in, IsInRange, IsTakenIn, IsNoRecordIn};
 ghost use Rattle.tb_history.specs.Legal.{IsLegal, Follows};
-ghost use Rattle.tb_journal.specs.Places.{StandsAt};
+ghost use Rattle.tb_journal.specs.Frames.{first_place};
+ghost use Rattle.tb_journal.specs.Places.{StandsAtIn};
 ghost use Rattle.tb_desk.specs.declared.replay.Unfit.TheVariants as unfit;
 ghost use Rattle.tb_desk.specs.declared.fault.OpenFault.TheVariants as fault;
-ghost use Rattle.tb_desk.specs.Stands.{IsGroup};
-ghost use Rattle.tb_desk.specs.Replay.{IsNoGroup};
-ghost use Rattle.tb_desk.specs.Replaying.{IsReplayed, IsReplayFault};
+ghost use Rattle.tb_desk.specs.Stands.{form_of, IsGroup};
+ghost use Rattle.tb_desk.specs.Replay.{IsNoGroupIn};
+ghost use Rattle.tb_desk.specs.Replaying.{IsReplayedIn, IsReplayFaultIn};
 
 use crate::fault::OpenFault;
+use crate::frames::Frames;
 use std::alloc::Global;
 use tb_core::Host;
-use tb_disk::Disk;
-use tb_journal::{DiskFault, Journal, Window};
-use tb_message::{Entry, Message, Verdict};
+use tb_journal::{DiskFault, Window};
+use tb_message::{Entry, Message, Verdict, Version};
 use tb_units::{Moment, OutOfMemory};
-
-// The place behind the header, where the first frame stands.
-const FIRST_PLACE: u64 = 16;
 
 /// Why entries aren't replayed.
 #[derive(Clone, Copy, Debug, PartialEq, Eq)]
@@ -70,17 +68,28 @@ fn is_done(rest: &[u8]) -> bool
     rest.is_empty()
 }
 
+// The entry whose record begins the bytes, and how long that is.
+fn take(version: Version, bytes: &[u8]) -> Option<(Entry, usize)>
+    ensures found { IfSome result (λ x. IsTakenIn version bytes.now x.0 x.1) }
+    ensures none { IfNone result (IsNoRecordIn version bytes.now) }
+{
+    match version {
+        Version::First => Entry::take_first(bytes),
+        Version::Second => Entry::take(bytes),
+    }
+}
+
 // Enters the group of a payload, where it can follow on the history.
-fn enter_group(host: &mut Host, payload: &[u8]) -> Result<(), Unfit>
+fn enter_group(host: &mut Host, version: Version, payload: &[u8]) -> Result<(), Unfit>
     requires legal { IsLegal host.old.history }
     ensures legal { OnOk result (IsLegal host.new.history) }
-    ensures entered { OnOk result ((group : List Entry) × IsGroup group × (payload.now ≡ spellings group)
+    ensures entered { OnOk result ((group : List Entry) × IsGroup group × (payload.now ≡ spellings_in version group)
         × (host.new.history ≡ host.old.history ++ group)) }
-    ensures refused { IfErr result (λ why. why ≡ unfit.Bad → IsNoGroup host.old.history payload.now) }
+    ensures refused { IfErr result (λ why. why ≡ unfit.Bad → IsNoGroupIn version host.old.history payload.now) }
 {
     let mut rest = payload;
     'entries: loop {
-        let Some((entry, size)) = Entry::take(rest) else {
+        let Some((entry, size)) = take(version, rest) else {
             return Err(Unfit::Bad);
         };
         enter(host, &entry)?;
@@ -91,36 +100,30 @@ fn enter_group(host: &mut Host, payload: &[u8]) -> Result<(), Unfit>
     }
 }
 
-// The payload of this size that was read into a window.
-fn payload_in(window: &Window, size: usize) -> &[u8]
-    requires fits { size ≤ 32768 }
-    ensures bytes { result.now ≡ take size window.now.bytes }
-    ensures size { length result.now ≡ size }
-{
-    &window.bytes[..size]
-}
-
 // Enters the groups of the payloads into an empty host.
-fn enter_all<D: Disk>(journal: &mut Journal<D>, host: &mut Host) -> Result<(), OpenFault>
-    requires sure { journal.old.doubt ≡ None }
-    requires first { StandsAt (D.disk journal.old.disk) journal.old.gate 16 }
+fn enter_all<J: Frames>(journal: &mut J, host: &mut Host) -> Result<(), OpenFault>
+    requires sure { J.doubt journal.old ≡ None }
+    requires first { StandsAtIn (form_of J.version) (J.disk journal.old) (J.gate journal.old)
+        (first_place (form_of J.version)) }
     requires empty { host.old.history ≡ [] }
-    ensures found { OnOk result (IsReplayed (D.disk journal.old.disk) journal.old.gate host.new.history) }
-    ensures refused { IfErr result (IsReplayFault (D.disk journal.old.disk) journal.old.gate) }
-    ensures kept { (D.disk journal.new.disk).past ≡ (D.disk journal.old.disk).past }
-    ensures same { (journal.new.gate ≡ journal.old.gate) × (journal.new.doubt ≡ journal.old.doubt) }
+    ensures found { OnOk result (IsReplayedIn J.version (J.disk journal.old) (J.gate journal.old) host.new.history) }
+    ensures refused { IfErr result (IsReplayFaultIn J.version (J.disk journal.old) (J.gate journal.old)) }
+    ensures kept { (J.disk journal.new).past ≡ (J.disk journal.old).past }
+    ensures same { (J.gate journal.new ≡ J.gate journal.old) × (J.doubt journal.new ≡ J.doubt journal.old)
+        × (J.name journal.new ≡ J.name journal.old) }
     ensures fault { IfErr result (λ why. why ≡ fault.DiskFault
-        → Rose (D.disk journal.old.disk).faults (D.disk journal.new.disk).faults) }
-    ensures no_fault { OnOk result ((D.disk journal.new.disk).faults ≡ (D.disk journal.old.disk).faults) }
+        → Rose (J.disk journal.old).faults (J.disk journal.new).faults) }
+    ensures no_fault { OnOk result ((J.disk journal.new).faults ≡ (J.disk journal.old).faults) }
     ensures no_fault_refused { IfErr result (λ why. why ≢ fault.DiskFault
-        → (D.disk journal.new.disk).faults ≡ (D.disk journal.old.disk).faults) }
-    ensures count { NeverFalls (D.disk journal.old.disk).faults (D.disk journal.new.disk).faults }
+        → (J.disk journal.new).faults ≡ (J.disk journal.old).faults) }
+    ensures count { NeverFalls (J.disk journal.old).faults (J.disk journal.new).faults }
 {
-    let mut window = Window { bytes: [0; 32768] };
-    let mut place = FIRST_PLACE;
+    let version = J::version();
+    let mut window = Window::new();
+    let mut place = J::first_place();
     'frames: loop {
         match journal.next_frame(place, &mut window) {
-            Ok(Some((size, next))) => match enter_group(host, payload_in(&window, size)) {
+            Ok(Some((_size, next))) => match enter_group(host, version, window.payload()) {
                 Ok(()) => place = next,
                 Err(Unfit::Bad) => return Err(OpenFault::Damaged(place)),
                 Err(Unfit::OutOfMemory) => return Err(OpenFault::OutOfMemory),
@@ -132,19 +135,21 @@ fn enter_all<D: Disk>(journal: &mut Journal<D>, host: &mut Host) -> Result<(), O
 }
 
 /// The history that the payloads make up.
-pub fn replay<D: Disk>(alloc: Global, journal: &mut Journal<D>) -> Result<Host, OpenFault>
-    requires sure { journal.old.doubt ≡ None }
-    requires first { StandsAt (D.disk journal.old.disk) journal.old.gate 16 }
-    ensures found { IfOk result (λ host. IsReplayed (D.disk journal.old.disk) journal.old.gate host.history) }
-    ensures refused { IfErr result (IsReplayFault (D.disk journal.old.disk) journal.old.gate) }
-    ensures kept { (D.disk journal.new.disk).past ≡ (D.disk journal.old.disk).past }
-    ensures same { (journal.new.gate ≡ journal.old.gate) × (journal.new.doubt ≡ journal.old.doubt) }
+pub fn replay<J: Frames>(alloc: Global, journal: &mut J) -> Result<Host, OpenFault>
+    requires sure { J.doubt journal.old ≡ None }
+    requires first { StandsAtIn (form_of J.version) (J.disk journal.old) (J.gate journal.old)
+        (first_place (form_of J.version)) }
+    ensures found { IfOk result (λ host. IsReplayedIn J.version (J.disk journal.old) (J.gate journal.old) host.history) }
+    ensures refused { IfErr result (IsReplayFaultIn J.version (J.disk journal.old) (J.gate journal.old)) }
+    ensures kept { (J.disk journal.new).past ≡ (J.disk journal.old).past }
+    ensures same { (J.gate journal.new ≡ J.gate journal.old) × (J.doubt journal.new ≡ J.doubt journal.old)
+        × (J.name journal.new ≡ J.name journal.old) }
     ensures fault { IfErr result (λ why. why ≡ fault.DiskFault
-        → Rose (D.disk journal.old.disk).faults (D.disk journal.new.disk).faults) }
-    ensures no_fault { OnOk result ((D.disk journal.new.disk).faults ≡ (D.disk journal.old.disk).faults) }
+        → Rose (J.disk journal.old).faults (J.disk journal.new).faults) }
+    ensures no_fault { OnOk result ((J.disk journal.new).faults ≡ (J.disk journal.old).faults) }
     ensures no_fault_refused { IfErr result (λ why. why ≢ fault.DiskFault
-        → (D.disk journal.new.disk).faults ≡ (D.disk journal.old.disk).faults) }
-    ensures count { NeverFalls (D.disk journal.old.disk).faults (D.disk journal.new.disk).faults }
+        → (J.disk journal.new).faults ≡ (J.disk journal.old).faults) }
+    ensures count { NeverFalls (J.disk journal.old).faults (J.disk journal.new).faults }
 {
     match Host::new(alloc) {
         Err(_) => Err(OpenFault::OutOfMemory),

@@ -28,6 +28,15 @@ enum Told {
     Other,
 }
 
+type Answer = (GroupReply, Told, Told);
+
+// Both bids are accepted, or were before.
+const ACCEPTED: Answer = (GroupReply::Verdicts, Told::Accepted(7), Told::Accepted(8));
+
+const REPEATED: Answer = (GroupReply::Verdicts, Told::Repeated(7), Told::Repeated(8));
+
+const FAULT: Answer = (GroupReply::DiskFault, Told::Nothing, Told::Nothing);
+
 fn told_by(verdict: Option<Verdict>) -> Told {
     match verdict {
         None => Told::Nothing,
@@ -48,10 +57,7 @@ fn bid(rt: &impl Abort, alloc: Global, text: &str) -> Result<(u64, Message), Fai
     let (number, message) = asked(rt, alloc, text)?;
     match message {
         Message::Bid { .. } => Ok((number, message)),
-        _ => {
-            assert!(rt; false, "no bid");
-            Err("no bid")?
-        }
+        _ => panic!(rt; "no bid"),
     }
 }
 
@@ -63,10 +69,10 @@ fn announced(
     fails: Vec<u64>,
     torn: u8,
 ) -> Result<Desk<MemoryDisk>, Fail> {
-    let mut desk = desk_of(rt, alloc, disk_of(rt, alloc, b"", fails, torn)?)?;
-    for line in [SCRIPT[0], SCRIPT[1], SCRIPT[2]] {
-        assert!(rt; submit(rt, alloc, &mut desk, line)? != Reply::DiskFault);
-    }
+    let mut desk = desk_of(rt, alloc, disk_of(rt, alloc, b"", fails, torn)?);
+    assert!(rt; submit(rt, alloc, &mut desk, SCRIPT[0])? != Reply::DiskFault);
+    assert!(rt; submit(rt, alloc, &mut desk, SCRIPT[1])? != Reply::DiskFault);
+    assert!(rt; submit(rt, alloc, &mut desk, SCRIPT[2])? != Reply::DiskFault);
     Ok(desk)
 }
 
@@ -77,7 +83,7 @@ fn submit_pair(
     desk: &mut Desk<MemoryDisk>,
     first: &str,
     second: &str,
-) -> Result<(GroupReply, Told, Told), Fail> {
+) -> Result<Answer, Fail> {
     let bids = [bid(rt, alloc, first)?, bid(rt, alloc, second)?];
     desk.make_room_group(&bids)?;
     assert!(rt; desk.has_room_group(&bids));
@@ -97,7 +103,7 @@ fn journal(rt: &impl Abort, alloc: Global, with_bids: bool) -> Result<Vec<u8>, F
     let mut desk = announced(rt, alloc, Vec::new(alloc), 0)?;
     if with_bids {
         let answer = submit_pair(rt, alloc, &mut desk, FIRST_BID, SECOND_BID)?;
-        assert!(rt; answer == (GroupReply::Verdicts, Told::Accepted(7), Told::Accepted(8)));
+        assert!(rt; answer == ACCEPTED);
     }
     Ok(desk.into_disk().contents().to_vec(alloc)?)
 }
@@ -108,11 +114,25 @@ fn two_bids_stand_under_one_gate(rt: HostRuntime) -> Result<(), Fail> {
     let before = journal(&rt, alloc, false)?;
     let after = journal(&rt, alloc, true)?;
     let size = before.len();
-    // The gate byte of the frame stands where the last byte of the file was, and its length behind it.
-    assert!(rt; size > 0 && after.len() == size + 97);
-    assert_eq!(rt; &after[..size - 1], &before[..size - 1]);
-    assert_eq!(rt; &after[size - 1..size + 4], b"\x01\0\0\0\x5c".as_slice());
+    // The gate byte of the frame stands where the last byte of the file was, and its length and ordinal behind it.
+    assert!(rt; size > 0 && after.len() == size + 113);
+    assert!(rt; &after[..size - 1] == &before[..size - 1]);
+    assert!(rt; &after[size - 1..size + 12] == b"\x01\0\0\0\x64\0\0\0\0\0\0\0\x03".as_slice());
     Ok(())
+}
+
+// How many entries the journal with the two bids stands for, less so many of its bytes, where this gate is before them.
+fn entries_behind(
+    rt: &impl Abort,
+    alloc: Global,
+    file: &mut [u8],
+    gate: u8,
+    less: usize,
+) -> Result<u64, Fail> {
+    let size = file.len();
+    assert!(rt; size > 114 && less <= 114);
+    file[size - 114] = gate;
+    entries_in(rt, alloc, &file[..size - less])
 }
 
 // The first call writes the frame behind the closed gate, and the third call the gate. Before the fourth any byte may
@@ -121,62 +141,61 @@ fn two_bids_stand_under_one_gate(rt: HostRuntime) -> Result<(), Fail> {
 fn a_crash_leaves_both_bids_or_neither(rt: HostRuntime) -> Result<(), Fail> {
     let alloc = rt.alloc();
     let mut file = journal(&rt, alloc, true)?;
-    let size = file.len();
-    assert!(rt; size > 98);
-    for gate in [0, 2, 7, 255, 1] {
-        file[size - 98] = gate;
-        let want = if gate == 1 { 5 } else { 3 };
-        assert_eq!(rt; entries_in(&rt, alloc, &file)?, want, "gate {gate}");
-    }
-    file[size - 98] = 0;
-    for short in [1, 37, 47, 93, 97] {
-        assert_eq!(rt;
-            entries_in(&rt, alloc, &file[..size - short])?,
-            3,
-            "{short} bytes less"
-        );
-    }
+    assert!(rt; entries_behind(&rt, alloc, &mut file, 0, 0)? == 3);
+    assert!(rt; entries_behind(&rt, alloc, &mut file, 2, 0)? == 3);
+    assert!(rt; entries_behind(&rt, alloc, &mut file, 7, 0)? == 3);
+    assert!(rt; entries_behind(&rt, alloc, &mut file, 255, 0)? == 3);
+    assert!(rt; entries_behind(&rt, alloc, &mut file, 1, 0)? == 5);
     Ok(())
 }
 
-// Two bids whose device call fails, and the same bids again.
+#[test]
+fn a_crash_at_the_frame_leaves_neither_bid(rt: HostRuntime) -> Result<(), Fail> {
+    let alloc = rt.alloc();
+    let mut file = journal(&rt, alloc, true)?;
+    assert!(rt; entries_behind(&rt, alloc, &mut file, 0, 1)? == 3);
+    assert!(rt; entries_behind(&rt, alloc, &mut file, 0, 41)? == 3);
+    assert!(rt; entries_behind(&rt, alloc, &mut file, 0, 51)? == 3);
+    assert!(rt; entries_behind(&rt, alloc, &mut file, 0, 101)? == 3);
+    assert!(rt; entries_behind(&rt, alloc, &mut file, 0, 113)? == 3);
+    Ok(())
+}
+
+// Whether the two bids are answered so, and leave the desk in doubt or not, with so many entries.
+fn pair_told(
+    rt: &impl Abort,
+    alloc: Global,
+    desk: &mut Desk<MemoryDisk>,
+    wanted: Answer,
+    unsure: bool,
+    entries: u64,
+) -> Result<bool, Fail> {
+    let told = submit_pair(rt, alloc, desk, FIRST_BID, SECOND_BID)? == wanted;
+    Ok(told && desk.unsure() == unsure && desk.entries() == entries)
+}
+
+// Whether two bids are in doubt where this device call fails, and are answered so when they come again.
 fn is_in_doubt(
     rt: &impl Abort,
     alloc: Global,
     call: u64,
     torn: u8,
-    first: Told,
-    second: Told,
-) -> Result<(), Fail> {
+    again: Answer,
+) -> Result<bool, Fail> {
     let mut desk = announced(rt, alloc, vec![in alloc; call]?, torn)?;
-    let answer = submit_pair(rt, alloc, &mut desk, FIRST_BID, SECOND_BID)?;
-    assert!(rt;
-        answer == (GroupReply::DiskFault, Told::Nothing, Told::Nothing),
-        "call {call}"
-    );
-    assert!(rt;
-        desk.unsure() && desk.faults() == 1 && desk.entries() == 3,
-        "call {call}"
-    );
-    let answer = submit_pair(rt, alloc, &mut desk, FIRST_BID, SECOND_BID)?;
-    assert!(rt;
-        answer == (GroupReply::Verdicts, first, second),
-        "call {call}, torn {torn}"
-    );
-    assert!(rt; !desk.unsure() && desk.entries() == 5, "call {call}");
-    Ok(())
+    let first = pair_told(rt, alloc, &mut desk, FAULT, true, 3)? && desk.faults() == 1;
+    Ok(first && pair_told(rt, alloc, &mut desk, again, false, 5)?)
 }
 
 // The calls 16 to 19 add the two bids.
 #[test]
 fn two_bids_are_in_doubt_together(rt: HostRuntime) -> Result<(), Fail> {
     let alloc = rt.alloc();
-    for (call, torn) in [(19, 0), (18, 1)] {
-        is_in_doubt(&rt, alloc, call, torn, Told::Repeated(7), Told::Repeated(8))?;
-    }
-    for (call, torn) in [(18, 7), (17, 0), (16, 0)] {
-        is_in_doubt(&rt, alloc, call, torn, Told::Accepted(7), Told::Accepted(8))?;
-    }
+    assert!(rt; is_in_doubt(&rt, alloc, 19, 0, REPEATED)?);
+    assert!(rt; is_in_doubt(&rt, alloc, 18, 1, REPEATED)?);
+    assert!(rt; is_in_doubt(&rt, alloc, 18, 7, ACCEPTED)?);
+    assert!(rt; is_in_doubt(&rt, alloc, 17, 0, ACCEPTED)?);
+    assert!(rt; is_in_doubt(&rt, alloc, 16, 0, ACCEPTED)?);
     Ok(())
 }
 
@@ -186,6 +205,6 @@ fn a_bid_is_judged_on_those_before_it(rt: HostRuntime) -> Result<(), Fail> {
     let mut desk = announced(&rt, alloc, Vec::new(alloc), 0)?;
     let answer = submit_pair(&rt, alloc, &mut desk, FIRST_BID, FIRST_BID)?;
     assert!(rt; answer == (GroupReply::Verdicts, Told::Accepted(7), Told::Repeated(7)));
-    assert_eq!(rt; desk.entries(), 4);
+    assert!(rt; desk.entries() == 4);
     Ok(())
 }

@@ -5,4 +5,6 @@
 #[cfg(test)]
 mod group_tests;
 #[cfg(test)]
+mod migrate_tests;
+#[cfg(test)]
 mod tests;

@@ -43,8 +43,9 @@ pub const SCRIPT: [(u64, &str, &str); 5] = [
 ];
 
 // The journal after the first of them.
-const FIRST: &[u8] = b"TBHOSTJOURNAL001\
-    \x01\0\0\0\x21\x08operator\0\0\0\0\0\0\0\x01\x67\x28\x62\xe0\x01\x07dealer1\x02k1\
+const FIRST: &[u8] = b"TBHOSTJOURNAL002\x01\
+    \x01\0\0\0\x25\0\0\0\0\0\0\0\0\
+    \x08operator\0\0\0\0\0\0\0\x01\0\0\0\0\x67\x28\x62\xe0\x01\x07dealer1\x02k1\
     \0";
 
 pub fn name(rt: &impl Abort, text: &str) -> Ident {
@@ -61,10 +62,7 @@ pub fn asked(rt: &impl Abort, alloc: Global, text: &str) -> Result<(u64, Message
 {
     match read_request(alloc, text.as_bytes()) {
         Ok(Request::Message { number, message }) => Ok((number, message)),
-        _ => {
-            assert!(rt; false, "no message");
-            Err("no message")?
-        }
+        _ => panic!(rt; "no message"),
     }
 }
 
@@ -79,14 +77,16 @@ pub fn disk_of(
     Ok(MemoryDisk::new(alloc, contents, ROOM, LOG_ROOM, fails, torn)?)
 }
 
-pub fn desk_of(rt: &impl Abort, alloc: Global, disk: MemoryDisk) -> Result<Desk<MemoryDisk>, Fail> {
+pub fn desk_of(rt: &impl Abort, alloc: Global, disk: MemoryDisk) -> Desk<MemoryDisk> {
     match Desk::open(alloc, disk) {
-        Ok(desk) => Ok(desk),
-        Err((_disk, fault)) => {
-            assert!(rt; false, "{fault:?}");
-            Err("not opened")?
-        }
+        Ok(desk) => desk,
+        Err(_) => panic!(rt; "not opened"),
     }
+}
+
+// The desk of a file, of which no call fails.
+pub fn desk_on(rt: &impl Abort, alloc: Global, file: &[u8]) -> Result<Desk<MemoryDisk>, Fail> {
+    Ok(desk_of(rt, alloc, disk_of(rt, alloc, file, Vec::new(alloc), 0)?))
 }
 
 pub fn submit(
@@ -118,7 +118,7 @@ fn repeated(rt: &impl Abort, number: u64, seconds: u64) -> Reply {
 
 // How many entries a file stands for.
 pub fn entries_in(rt: &impl Abort, alloc: Global, file: &[u8]) -> Result<u64, Fail> {
-    Ok(desk_of(rt, alloc, disk_of(rt, alloc, file, Vec::new(alloc), 0)?)?.entries())
+    Ok(desk_on(rt, alloc, file)?.entries())
 }
 
 // Whether the first message of a sender is accepted at its own moment.
@@ -134,50 +134,96 @@ fn is_accepted(
 #[test]
 fn an_entry_has_the_bytes_of_its_format(rt: HostRuntime) -> Result<(), Fail> {
     let alloc = rt.alloc();
-    let mut desk = desk_of(&rt, alloc, disk_of(&rt, alloc, b"", Vec::new(alloc), 0)?)?;
+    let mut desk = desk_on(&rt, alloc, b"")?;
     assert!(rt; is_accepted(&rt, alloc, &mut desk, SCRIPT[0])?);
-    assert_eq!(rt; desk.into_disk().contents(), FIRST);
+    assert!(rt; desk.into_disk().contents() == FIRST);
     Ok(())
 }
 
+// Whether the file is opened as an empty journal, which then stands on the disk.
+fn is_begun(rt: &impl Abort, alloc: Global, file: &[u8]) -> Result<bool, Fail> {
+    let desk = desk_on(rt, alloc, file)?;
+    Ok(desk.entries() == 0 && desk.into_disk().contents() == b"TBHOSTJOURNAL002\x01\0".as_slice())
+}
+
 #[test]
-fn files_are_opened_or_refused(rt: HostRuntime) -> Result<(), Fail> {
-    let alloc = rt.alloc();
-    let empty = b"TBHOSTJOURNAL001\0".as_slice();
-    for file in [b"".as_slice(), b"seventeen bytes.."] {
-        let disk = disk_of(&rt, alloc, file, Vec::new(alloc), 0)?;
-        let desk = desk_of(&rt, alloc, disk)?;
-        assert_eq!(rt; desk.entries(), 0);
-        assert_eq!(rt; desk.into_disk().contents(), empty);
-    }
-    assert_eq!(rt; entries_in(&rt, alloc, FIRST)?, 1);
-    let mut twice = FIRST[..54].to_vec(alloc)?;
-    twice.extend_from_slice(&FIRST[16..])?;
-    // One byte more in the payload, whose length is then 34.
-    let mut longer = FIRST[..20].to_vec(alloc)?;
-    longer.push(34)?;
-    longer.extend_from_slice(&FIRST[21..54])?;
-    longer.extend_from_slice(b"x\0")?;
-    for (file, want) in [
-        (
-            b"aaaaaaaaaaaaaaaaaa".as_slice(),
-            OpenFault::NotAJournal([b'a'; 16]),
-        ),
-        (&FIRST[..40], OpenFault::Damaged(16)),
-        // A payload that is no record, one with a byte behind its record, and an entry that stands twice.
-        (b"TBHOSTJOURNAL001\x01\0\0\0\x01x\0", OpenFault::Damaged(16)),
-        (longer.as_slice(), OpenFault::Damaged(16)),
-        (twice.as_slice(), OpenFault::Damaged(54)),
-    ] {
-        match Desk::open(alloc, disk_of(&rt, alloc, file, Vec::new(alloc), 0)?) {
-            Ok(_desk) => assert!(rt; false, "it was opened"),
-            Err((disk, fault)) => {
-                assert_eq!(rt; fault, want);
-                assert_eq!(rt; disk.contents(), file);
-            }
-        }
-    }
+fn files_without_entries_are_begun(rt: HostRuntime) -> Result<(), Fail> {
+    assert!(rt; is_begun(&rt, rt.alloc(), b"")?);
+    assert!(rt; is_begun(&rt, rt.alloc(), b"eighteen bytes....")?);
+    assert!(rt; entries_in(&rt, rt.alloc(), FIRST)? == 1);
     Ok(())
+}
+
+// Whether the file is refused with this fault, and stays as it is.
+fn is_refused(rt: &impl Abort, alloc: Global, file: &[u8], fault: OpenFault) -> Result<bool, Fail> {
+    let disk = disk_of(rt, alloc, file, Vec::new(alloc), 0)?;
+    match Desk::open(alloc, disk) {
+        Ok(_desk) => Ok(false),
+        Err((disk, found)) => Ok(found == fault && disk.contents() == file),
+    }
+}
+
+// The pieces of a file, one behind the other.
+fn joined(alloc: Global, pieces: &[&[u8]]) -> Result<Vec<u8>, Fail> {
+    let mut file = Vec::new(alloc);
+    for piece in pieces {
+        file.extend_from_slice(piece)?;
+    }
+    Ok(file)
+}
+
+#[test]
+fn files_that_are_no_journals_are_refused(rt: HostRuntime) -> Result<(), Fail> {
+    let alloc = rt.alloc();
+    let unsealed = joined(alloc, &[&FIRST[..16], b"\0", &FIRST[17..]])?;
+    // The frame once more, of which none or one stands before it.
+    let copied = joined(alloc, &[&FIRST[..67], &FIRST[17..]])?;
+    let second = b"\x01\0\0\0\x25\0\0\0\0\0\0\0\x01";
+    let twice = joined(alloc, &[&FIRST[..67], second, &FIRST[30..]])?;
+    // One byte more in the payload, whose length is then 38.
+    let longer = joined(alloc, &[&FIRST[..21], b"\x26", &FIRST[22..67], b"x\0"])?;
+    assert!(rt; is_refused(&rt, alloc, &[b'a'; 19], OpenFault::NotAJournal([b'a'; 16]))?);
+    assert!(rt; is_refused(&rt, alloc, &unsealed, OpenFault::Unsealed(0))?);
+    assert!(rt; is_refused(&rt, alloc, &FIRST[..40], OpenFault::Damaged(17))?);
+    // A frame that was copied, a payload that is no record, one with a byte behind its record, and an entry that stands
+    // twice.
+    let no_record = b"TBHOSTJOURNAL002\x01\x01\0\0\0\x01\0\0\0\0\0\0\0\0x\0";
+    assert!(rt; is_refused(&rt, alloc, &copied, OpenFault::Damaged(67))?);
+    assert!(rt; is_refused(&rt, alloc, no_record, OpenFault::Damaged(17))?);
+    assert!(rt; is_refused(&rt, alloc, &longer, OpenFault::Damaged(17))?);
+    assert!(rt; is_refused(&rt, alloc, &twice, OpenFault::Damaged(67))?);
+    Ok(())
+}
+
+// Whether the first message meets a fault, which leaves it in doubt.
+fn meets_a_fault(
+    rt: &impl Abort,
+    alloc: Global,
+    desk: &mut Desk<MemoryDisk>,
+) -> Result<bool, Fail> {
+    Ok(submit(rt, alloc, desk, SCRIPT[0])? == Reply::DiskFault && desk.unsure())
+}
+
+// Whether the first message is answered as one that was accepted before.
+fn is_repeated(rt: &impl Abort, alloc: Global, desk: &mut Desk<MemoryDisk>) -> Result<bool, Fail> {
+    Ok(submit(rt, alloc, desk, SCRIPT[0])? == repeated(rt, 1, 1_730_700_000))
+}
+
+// Whether the first message meets a fault at this call, and is answered so when it comes again.
+fn is_resolved(
+    rt: &impl Abort,
+    alloc: Global,
+    call: u64,
+    torn: u8,
+    reply: &Reply,
+) -> Result<bool, Fail> {
+    let disk = disk_of(rt, alloc, b"", vec![in alloc; call]?, torn)?;
+    let mut desk = desk_of(rt, alloc, disk);
+    if !meets_a_fault(rt, alloc, &mut desk)? || desk.faults() != 1 {
+        return Ok(false);
+    }
+    let again = submit(rt, alloc, &mut desk, SCRIPT[0])?;
+    Ok(again == *reply && !desk.unsure() && desk.entries() == 1)
 }
 
 // An opening of an empty disk makes the device calls 0 to 3, so those of the first submit are 4 to 7.
@@ -186,36 +232,22 @@ fn a_message_in_doubt_is_resolved(rt: HostRuntime) -> Result<(), Fail> {
     let alloc = rt.alloc();
     let accepted = accepted(&rt, 1, 1_730_700_000);
     let repeated = repeated(&rt, 1, 1_730_700_000);
-    for (call, torn, reply) in [
-        (7, 0, repeated),
-        (6, 1, repeated),
-        (6, 7, accepted),
-        (5, 0, accepted),
-        (4, 0, accepted),
-    ] {
-        let disk = disk_of(&rt, alloc, b"", vec![in alloc; call]?, torn)?;
-        let mut desk = desk_of(&rt, alloc, disk)?;
-        assert_eq!(rt;
-            submit(&rt, alloc, &mut desk, SCRIPT[0])?,
-            Reply::DiskFault,
-            "call {call}"
-        );
-        assert!(rt; desk.unsure() && desk.faults() == 1, "call {call}");
-        assert_eq!(rt;
-            submit(&rt, alloc, &mut desk, SCRIPT[0])?,
-            reply,
-            "call {call}, torn {torn}"
-        );
-        assert!(rt; !desk.unsure() && desk.entries() == 1, "call {call}");
-    }
-    // A sync that fails again is a fault again.
+    assert!(rt; is_resolved(&rt, alloc, 7, 0, &repeated)?);
+    assert!(rt; is_resolved(&rt, alloc, 6, 1, &repeated)?);
+    assert!(rt; is_resolved(&rt, alloc, 6, 7, &accepted)?);
+    assert!(rt; is_resolved(&rt, alloc, 5, 0, &accepted)?);
+    assert!(rt; is_resolved(&rt, alloc, 4, 0, &accepted)?);
+    Ok(())
+}
+
+#[test]
+fn a_sync_that_fails_again_is_a_fault_again(rt: HostRuntime) -> Result<(), Fail> {
+    let alloc = rt.alloc();
     let disk = disk_of(&rt, alloc, b"", vec![in alloc; 7, 8]?, 0)?;
-    let mut desk = desk_of(&rt, alloc, disk)?;
-    for _ in 0..2 {
-        assert_eq!(rt; submit(&rt, alloc, &mut desk, SCRIPT[0])?, Reply::DiskFault);
-    }
-    assert_eq!(rt; submit(&rt, alloc, &mut desk, SCRIPT[0])?, repeated);
-    assert!(rt; desk.faults() == 2);
+    let mut desk = desk_of(&rt, alloc, disk);
+    assert!(rt; meets_a_fault(&rt, alloc, &mut desk)?);
+    assert!(rt; meets_a_fault(&rt, alloc, &mut desk)?);
+    assert!(rt; is_repeated(&rt, alloc, &mut desk)? && desk.faults() == 2);
     Ok(())
 }
 
@@ -234,28 +266,31 @@ fn is_acknowledged(
     Ok(false)
 }
 
-// The script of an auction over a disk that fails. What was acknowledged stands in the file, once.
-fn keeps_the_script(rt: &impl Abort, alloc: Global, fails: Vec<u64>) -> Result<(), Fail> {
+// How many messages of the script are acknowledged.
+fn acknowledged(rt: &impl Abort, alloc: Global, desk: &mut Desk<MemoryDisk>) -> Result<u64, Fail> {
+    let mut kept = 0u64;
+    for line in SCRIPT {
+        if is_acknowledged(rt, alloc, desk, line)? {
+            kept = kept.saturating_add(1);
+        }
+    }
+    Ok(kept)
+}
+
+// The script of an auction over a disk that fails. Whether what was acknowledged stands in the file, once.
+fn keeps_the_script(rt: &impl Abort, alloc: Global, fails: Vec<u64>) -> Result<bool, Fail> {
     match Desk::open(alloc, disk_of(rt, alloc, b"", fails, 7)?) {
         Ok(mut desk) => {
-            let mut kept = 0u64;
-            for line in SCRIPT {
-                if is_acknowledged(rt, alloc, &mut desk, line)? {
-                    kept = kept.saturating_add(1);
-                }
-            }
+            let kept = acknowledged(rt, alloc, &mut desk)?;
             let unsure = desk.unsure();
             let entries = desk.entries();
             let found = entries_in(rt, alloc, desk.into_disk().contents())?;
-            assert!(rt; kept <= entries);
-            assert!(rt; found == entries || (unsure && found == entries + 1));
+            Ok(kept <= entries && (found == entries || (unsure && found == entries + 1)))
         }
         Err((disk, fault)) => {
-            assert_eq!(rt; fault, OpenFault::DiskFault);
-            assert_eq!(rt; entries_in(rt, alloc, disk.contents())?, 0);
+            Ok(fault == OpenFault::DiskFault && entries_in(rt, alloc, disk.contents())? == 0)
         }
     }
-    Ok(())
 }
 
 // Four calls open the desk, and four add each of the five entries.
@@ -263,43 +298,66 @@ fn keeps_the_script(rt: &impl Abort, alloc: Global, fails: Vec<u64>) -> Result<(
 fn one_call_may_fail(rt: HostRuntime) -> Result<(), Fail> {
     let alloc = rt.alloc();
     for call in 0..24 {
-        keeps_the_script(&rt, alloc, vec![in alloc; call]?)?;
+        assert!(rt; keeps_the_script(&rt, alloc, vec![in alloc; call]?)?);
     }
     Ok(())
+}
+
+// The numbers of the calls from one on.
+fn calls_from(alloc: Global, call: u64) -> Result<Vec<u64>, Fail> {
+    let mut rest = Vec::new(alloc);
+    for later in call..60 {
+        rest.push(later)?;
+    }
+    Ok(rest)
 }
 
 #[test]
 fn all_calls_may_fail_from_one_on(rt: HostRuntime) -> Result<(), Fail> {
     let alloc = rt.alloc();
     for call in 0..24 {
-        let mut rest = Vec::new(alloc);
-        for later in call..60 {
-            rest.push(later)?;
-        }
-        keeps_the_script(&rt, alloc, rest)?;
+        assert!(rt; keeps_the_script(&rt, alloc, calls_from(alloc, call)?)?);
     }
     Ok(())
 }
 
+// Whether so many bytes of the first frame behind a closed gate, of which the last is this one, are no entry.
+fn is_cut_off(rt: &impl Abort, alloc: Global, size: usize, byte: u8) -> Result<bool, Fail> {
+    assert!(rt; 19 <= size && size <= 68);
+    let mut file = FIRST[..size].to_vec(alloc)?;
+    file[17] = 0;
+    file[size - 1] = byte;
+    Ok(entries_in(rt, alloc, &file)? == 0)
+}
+
+// How many entries the first frame stands for behind this gate.
+fn behind_gate(rt: &impl Abort, alloc: Global, gate: u8) -> Result<u64, Fail> {
+    let mut file = FIRST.to_vec(alloc)?;
+    file[17] = gate;
+    entries_in(rt, alloc, &file)
+}
+
+// The first call writes the frame behind the closed gate: any bytes may stand there.
 #[test]
-fn a_crash_leaves_the_history_with_the_entry_or_without(rt: HostRuntime) -> Result<(), Fail> {
+fn a_crash_at_the_frame_leaves_no_entry(rt: HostRuntime) -> Result<(), Fail> {
     let alloc = rt.alloc();
-    // The first call writes the frame behind the closed gate: any bytes may stand there.
-    for size in [18, 21, 22, 38, 55] {
-        for byte in [1, 7] {
-            let mut file = FIRST[..size].to_vec(alloc)?;
-            file[16] = 0;
-            file[size - 1] = byte;
-            assert_eq!(rt; entries_in(&rt, alloc, &file)?, 0, "size {size}");
-        }
-    }
-    // The third call writes the gate: any byte may stand there. After the fourth it is 1.
-    for gate in [0, 1, 2, 7, 255] {
-        let mut file = FIRST.to_vec(alloc)?;
-        file[16] = gate;
-        let want = if gate == 1 { 1 } else { 0 };
-        assert_eq!(rt; entries_in(&rt, alloc, &file)?, want, "gate {gate}");
-    }
+    assert!(rt; is_cut_off(&rt, alloc, 19, 1)? && is_cut_off(&rt, alloc, 19, 7)?);
+    assert!(rt; is_cut_off(&rt, alloc, 22, 1)? && is_cut_off(&rt, alloc, 22, 7)?);
+    assert!(rt; is_cut_off(&rt, alloc, 30, 1)? && is_cut_off(&rt, alloc, 30, 7)?);
+    assert!(rt; is_cut_off(&rt, alloc, 50, 1)? && is_cut_off(&rt, alloc, 50, 7)?);
+    assert!(rt; is_cut_off(&rt, alloc, 68, 1)? && is_cut_off(&rt, alloc, 68, 7)?);
+    Ok(())
+}
+
+// The third call writes the gate: any byte may stand there. After the fourth it is 1.
+#[test]
+fn a_crash_at_the_gate_leaves_the_entry_or_none(rt: HostRuntime) -> Result<(), Fail> {
+    let alloc = rt.alloc();
+    assert!(rt; behind_gate(&rt, alloc, 0)? == 0);
+    assert!(rt; behind_gate(&rt, alloc, 1)? == 1);
+    assert!(rt; behind_gate(&rt, alloc, 2)? == 0);
+    assert!(rt; behind_gate(&rt, alloc, 7)? == 0);
+    assert!(rt; behind_gate(&rt, alloc, 255)? == 0);
     Ok(())
 }
 
@@ -312,12 +370,10 @@ fn reads_bids(rt: &impl Abort, alloc: Global, desk: &Desk<MemoryDisk>) -> bool {
 #[test]
 fn queries_are_answered(rt: HostRuntime) -> Result<(), Fail> {
     let alloc = rt.alloc();
-    let mut desk = desk_of(&rt, alloc, disk_of(&rt, alloc, b"", Vec::new(alloc), 0)?)?;
-    for line in SCRIPT {
-        assert!(rt; is_acknowledged(&rt, alloc, &mut desk, line)?);
-    }
-    assert_eq!(rt; desk.caller(&name(&rt, "k1")), Some(name(&rt, "dealer1")));
-    assert_eq!(rt; desk.last(), moment(&rt, 1_730_737_800));
+    let mut desk = desk_on(&rt, alloc, b"")?;
+    assert!(rt; acknowledged(&rt, alloc, &mut desk)? == 5);
+    assert!(rt; desk.caller(&name(&rt, "k1")) == Some(name(&rt, "dealer1")));
+    assert!(rt; desk.last() == moment(&rt, 1_730_737_800));
     assert!(rt; reads_bids(&rt, alloc, &desk));
     Ok(())
 }

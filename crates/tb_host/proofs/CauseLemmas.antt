@@ -1,23 +1,27 @@
 -- Why a command ends as it does: which count of faults has risen.
-use Rattle.std.proofs.Common.{◌≡◌, ℕ, List, Bool, subst, sym, ap, refl}
+use Rattle.std.proofs.Common.{◌≡◌, ◌⊎◌, ℕ, List, Bool, inl, inr, subst, sym, ap, refl}
 use Rattle.tb_link.specs.Counts.{Rose}
 use Rattle.tb_link.specs.Sources.{SourceState}
 use Rattle.tb_link.specs.Sinks.{SinkState}
 use Rattle.tb_gates.specs.Clocks.{ClockState}
 use Rattle.tb_gates.specs.Gates.{GateState}
+use Rattle.tb_desk.specs.declared.fault.MigrateFault.TheVariants as migrate_fault
 use Rattle.tb_desk.specs.declared.fault.OpenFault.{OpenFault}
 use Rattle.tb_desk.specs.declared.fault.OpenFault.TheVariants as fault
 use Rattle.tb_host.specs.AwardRun.{AwardEnds}
 use Rattle.tb_host.specs.DiskRun.{Unopened}
-use Rattle.tb_host.specs.Endings.{ending_of, of_disk, of_print, of_serve, of_text}
-use Rattle.tb_host.specs.HostRun.{HasCause, Objects, devices, handed}
+use Rattle.tb_host.specs.Endings.{ending_of, of_disk, of_migrate, of_print, of_serve, of_text}
+use Rattle.tb_host.specs.HostRun.{HasCause, Objects, devices, handed, moved}
 use Rattle.tb_host.specs.ImportRun.{ImportEnds}
+use Rattle.tb_host.specs.MigrateRun.{MigrateEnds}
 use Rattle.tb_host.specs.ReportRun.{ReportEnds}
 use Rattle.tb_host.specs.RunEnds.{RunEnds}
 use Rattle.tb_host.specs.ServeRun.{ServeEnds, ToldEnds, served_text}
 use Rattle.tb_host.specs.TrialRun.{TrialEnds}
 use Rattle.tb_host.specs.declared.command_endings.DiskEnding.{DiskEnding}
 use Rattle.tb_host.specs.declared.command_endings.DiskEnding.TheVariants as disk_ending
+use Rattle.tb_host.specs.declared.command_endings.MigrateEnding.{MigrateEnding}
+use Rattle.tb_host.specs.declared.command_endings.MigrateEnding.TheVariants as migrate_ending
 use Rattle.tb_host.specs.declared.command_endings.PrintEnding.{PrintEnding}
 use Rattle.tb_host.specs.declared.command_endings.PrintEnding.TheVariants as print_ending
 use Rattle.tb_host.specs.declared.command_endings.ServeEnding.{ServeEnding}
@@ -36,7 +40,7 @@ module _ {G K : Type 0} (gate : G → GateState K) (old new : Objects G) where
   FaultOf ending.Done = (new.input.faults ≡ old.input.faults) × (new.out.faults ≡ old.out.faults)
   FaultOf ending.ReadFault = Rose old.input.faults new.input.faults
   FaultOf ending.WriteFault = Rose old.out.faults new.out.faults
-  FaultOf ending.DiskFault = Rose old.disk.faults new.disk.faults
+  FaultOf ending.DiskFault = Rose old.disk.faults new.disk.faults ⊎ Rose old.spare.faults new.spare.faults
   FaultOf ending.GateFault = Rattle.tb_host.specs.ServeRun.OneRose gate old.gates new.gates
   FaultOf other = Unit {0}
 
@@ -69,8 +73,9 @@ module _ {G K : Type 0} (gate : G → GateState K) (old new : Objects G) where
 
   -- a disk that wasn't opened
   unopened-cause : (why : OpenFault) → Unopened why old.disk new.disk → HasCause gate (ending_of why) old new
-  unopened-cause fault.DiskFault unopened = HasCause-of ending.DiskFault (unopened.rose refl)
+  unopened-cause fault.DiskFault unopened = HasCause-of ending.DiskFault (inl (unopened.rose refl))
   unopened-cause (fault.NotAJournal found) unopened = HasCause-of (ending.NotAJournal found) tt
+  unopened-cause (fault.Unsealed byte) unopened = HasCause-of (ending.Unsealed byte) tt
   unopened-cause (fault.Damaged place) unopened = HasCause-of (ending.Damaged place) tt
   unopened-cause fault.OutOfMemory unopened = HasCause-of ending.OutOfMemory tt
 
@@ -124,6 +129,27 @@ module _ {G K : Type 0} (gate : G → GateState K) (old new : Objects G) where
       → ReportEnds asked own old.input new.input (devices old) (devices new)
       → HasCause gate ended old new
   report-cause asked own ended is report = cause-as ended (of_disk of_print own) is (report-cause-here asked own report)
+
+  -- `migrate`
+  pub migrate-cause : (own : MigrateEnding)
+      → MigrateEnds own (moved old) (moved new)
+      → new.input ≡ old.input
+      → HasCause gate (of_migrate own) old new
+  migrate-cause migrate_ending.Done ends unread =
+      HasCause-of ending.Done (ap (λ (i : SourceState). i.faults) unread, ends.tells.2.no_fault)
+  migrate-cause migrate_ending.WriteFault ends unread = HasCause-of ending.WriteFault ends.tells.2.rose
+  migrate-cause (migrate_ending.Unmigrated (migrate_fault.From fault.DiskFault)) ends unread =
+      HasCause-of ending.DiskFault (inl (ends.tells.2 refl))
+  migrate-cause (migrate_ending.Unmigrated (migrate_fault.From (fault.NotAJournal found))) ends unread =
+      HasCause-of (ending.NotAJournal found) tt
+  migrate-cause (migrate_ending.Unmigrated (migrate_fault.From (fault.Unsealed byte))) ends unread =
+      HasCause-of (ending.Unsealed byte) tt
+  migrate-cause (migrate_ending.Unmigrated (migrate_fault.From (fault.Damaged place))) ends unread =
+      HasCause-of (ending.Damaged place) tt
+  migrate-cause (migrate_ending.Unmigrated (migrate_fault.From fault.OutOfMemory)) ends unread =
+      HasCause-of ending.OutOfMemory tt
+  migrate-cause (migrate_ending.Unmigrated migrate_fault.SpareFault) ends unread =
+      HasCause-of ending.DiskFault (inr ends.tells.2)
 
   trial-cause-here : (seed count : ℕ) (own : PrintEnding)
       → TrialEnds seed count own old.out new.out

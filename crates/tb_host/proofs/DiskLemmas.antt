@@ -197,6 +197,9 @@ breaks_refused fault.OutOfMemory old new left = left
 breaks_refused (fault.NotAJournal found) old new left =
     Told-weaker (LeavesRefused (fault.NotAJournal found)) BreaksOff old new
     (λ before now synced. breaks_reading before now (inr synced)) left
+breaks_refused (fault.Unsealed byte) old new left =
+    Told-weaker (LeavesRefused (fault.Unsealed byte)) BreaksOff old new
+    (λ before now synced. breaks_reading before now (inr synced)) left
 breaks_refused (fault.Damaged place) old new left =
     Told-weaker (LeavesRefused (fault.Damaged place)) BreaksOff old new
     (λ before now synced. breaks_reading before now (inr synced)) left

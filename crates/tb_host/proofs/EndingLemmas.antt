@@ -1,5 +1,5 @@
 -- Statuses and the endings that they are of.
-use Rattle.std.proofs.Common.{◌≡◌, ◌≤◌, ℕ, sym, subst, refl, arith}
+use Rattle.std.proofs.Common.{◌≡◌, ◌==◌, ◌&&◌, ◌||◌, nat_le, ℕ, Bool, true, ap, ◌∙◌, refl, arith}
 use Rattle.tb_host.specs.Endings.{IsUnopened, status_of}
 use Rattle.tb_host.specs.declared.ending.Ending.{Ending}
 use Rattle.tb_host.specs.declared.ending.Ending.TheVariants as ending
@@ -16,36 +16,27 @@ usage-at_2 (ending.NotAJournal found) is = absurd (omega (arith, is))
 usage-at_2 (ending.Damaged place) is = absurd (omega (arith, is))
 usage-at_2 ending.OutOfMemory is = absurd (omega (arith, is))
 usage-at_2 ending.GateFault is = absurd (omega (arith, is))
+usage-at_2 (ending.Unsealed byte) is = absurd (omega (arith, is))
 
 -- that the disk wasn't opened is told by the status
-abbrev is_unopened_at : ℕ → Type 0
-is_unopened_at status = (6 ≤ status) × (status ≤ 8)
+abbrev is_unopened_at : ℕ → Bool
+is_unopened_at status = (nat_le 6 status && nat_le status 8) || (status == 11)
 
-unopened-within : (ended : Ending) → IsUnopened ended → is_unopened_at (status_of ended)
-unopened-within ending.DiskFault unopened = (omega arith, omega arith)
-unopened-within (ending.NotAJournal found) unopened = (omega arith, omega arith)
-unopened-within (ending.Damaged place) unopened = (omega arith, omega arith)
-unopened-within ending.Done unopened = absurd unopened
-unopened-within ending.Usage unopened = absurd unopened
-unopened-within (ending.BadInput number) unopened = absurd unopened
-unopened-within ending.ReadFault unopened = absurd unopened
-unopened-within ending.WriteFault unopened = absurd unopened
-unopened-within ending.OutOfMemory unopened = absurd unopened
-unopened-within ending.GateFault unopened = absurd unopened
+unopened-told : (ended : Ending) → IsUnopened ended → is_unopened_at (status_of ended) ≡ true
+unopened-told ending.DiskFault unopened = refl
+unopened-told (ending.NotAJournal found) unopened = refl
+unopened-told (ending.Damaged place) unopened = refl
+unopened-told (ending.Unsealed byte) unopened = refl
+unopened-told ended unopened = absurd unopened
 
-within-unopened : (ended : Ending) → is_unopened_at (status_of ended) → IsUnopened ended
-within-unopened ending.Done within = absurd (omega (arith, within.0))
-within-unopened ending.Usage within = absurd (omega (arith, within.0))
-within-unopened (ending.BadInput number) within = absurd (omega (arith, within.0))
-within-unopened ending.ReadFault within = absurd (omega (arith, within.0))
-within-unopened ending.WriteFault within = absurd (omega (arith, within.0))
-within-unopened ending.DiskFault within = tt
-within-unopened (ending.NotAJournal found) within = tt
-within-unopened (ending.Damaged place) within = tt
-within-unopened ending.OutOfMemory within = absurd (omega (arith, within.1))
-within-unopened ending.GateFault within = absurd (omega (arith, within.1))
+told-unopened : (ended : Ending) → is_unopened_at (status_of ended) ≡ true → IsUnopened ended
+told-unopened ending.DiskFault told = tt
+told-unopened (ending.NotAJournal found) told = tt
+told-unopened (ending.Damaged place) told = tt
+told-unopened (ending.Unsealed byte) told = tt
+told-unopened ended told = absurd (cc)
 
 -- of two endings of one status both or none are those of a disk that wasn't opened
 pub unopened-by_status : (one other : Ending) → status_of one ≡ status_of other → IsUnopened other → IsUnopened one
 unopened-by_status one other same unopened =
-    within-unopened one (subst is_unopened_at (sym same) (unopened-within other unopened))
+    told-unopened one (ap is_unopened_at same ∙ unopened-told other unopened)

@@ -4,6 +4,7 @@ use Rattle.tb_link.specs.Sources.{SourceState}
 use Rattle.tb_link.specs.Sinks.{SinkState}
 use Rattle.tb_gates.specs.Clocks.{ClockState}
 use Rattle.tb_gates.specs.Gates.{GateState}
+use Rattle.tb_desk.specs.declared.fault.MigrateFault.TheVariants as migrate_fault
 use Rattle.tb_desk.specs.declared.fault.OpenFault.{OpenFault}
 use Rattle.tb_desk.specs.declared.fault.OpenFault.TheVariants as fault
 use Rattle.tb_message.specs.declared.key.Key.{Key}
@@ -13,12 +14,14 @@ use Rattle.tb_words.specs.declared.command.Command.{Command}
 use Rattle.tb_words.specs.declared.command.Command.TheVariants as command
 use Rattle.tb_words.proofs.OneCommandLemmas.{one_command}
 use Rattle.tb_host.specs.Completeness.{Completes}
-use Rattle.tb_host.specs.Endings.{IsUnopened, ending_of, of_disk, of_print, of_serve, of_text}
-use Rattle.tb_host.specs.HostRun.{EndsAs, Objects, Reports, devices, handed}
+use Rattle.tb_host.specs.Endings.{IsUnopened, ending_of, of_disk, of_migrate, of_print, of_serve, of_text}
+use Rattle.tb_host.specs.HostRun.{EndsAs, Objects, Reports, devices, handed, moved}
 use Rattle.tb_host.specs.ReportRun.{ReportEnds, inquiry}
 use Rattle.tb_host.specs.RunEnds.{Devices, NotBegun}
 use Rattle.tb_host.specs.declared.command_endings.DiskEnding.{DiskEnding}
 use Rattle.tb_host.specs.declared.command_endings.DiskEnding.TheVariants as disk_ending
+use Rattle.tb_host.specs.declared.command_endings.MigrateEnding.{MigrateEnding}
+use Rattle.tb_host.specs.declared.command_endings.MigrateEnding.TheVariants as migrate_ending
 use Rattle.tb_host.specs.declared.command_endings.PrintEnding.{PrintEnding}
 use Rattle.tb_host.specs.declared.command_endings.PrintEnding.TheVariants as print_ending
 use Rattle.tb_host.specs.declared.command_endings.ServeEnding.{ServeEnding}
@@ -31,6 +34,7 @@ use Rattle.tb_host.specs.declared.report_command.Inquiry.{Inquiry}
 use Rattle.tb_host.proofs.CompleteLemmas.{award-completes}
 use Rattle.tb_host.proofs.DiskLemmas.{Unopened-untouched}
 use Rattle.tb_host.proofs.ImportEndLemmas.{import-completes}
+use Rattle.tb_host.proofs.MigrateLemmas.{migrate-completes, migrate-untouched}
 use Rattle.tb_host.proofs.ReportLemmas.{report-completes}
 use Rattle.tb_host.proofs.ScriptLawLemmas.{run-completes}
 use Rattle.tb_host.proofs.ServeHostLemmas.{serve-completes}
@@ -91,6 +95,7 @@ print-known print_ending.OutOfMemory is = cc
 unopened-known : (why : OpenFault) → ¬ (ending_of why ≡ ending.Usage)
 unopened-known fault.DiskFault is = cc
 unopened-known (fault.NotAJournal found) is = cc
+unopened-known (fault.Unsealed byte) is = cc
 unopened-known (fault.Damaged place) is = cc
 unopened-known fault.OutOfMemory is = cc
 
@@ -100,6 +105,12 @@ disk-known : {E : Type 0} (of_own : E → Ending)
     → ¬ (of_disk of_own own ≡ ending.Usage)
 disk-known of_own known (disk_ending.Opened own) is = known own is
 disk-known of_own known (disk_ending.Unopened why) is = unopened-known why is
+
+migrate-known : (own : MigrateEnding) → ¬ (of_migrate own ≡ ending.Usage)
+migrate-known migrate_ending.Done is = cc
+migrate-known migrate_ending.WriteFault is = cc
+migrate-known (migrate_ending.Unmigrated (migrate_fault.From why)) is = unopened-known why is
+migrate-known (migrate_ending.Unmigrated migrate_fault.SpareFault) is = cc
 
 serve-known : (own : ServeEnding) → ¬ (of_serve own ≡ ending.Usage)
 serve-known serve_ending.Done is = cc
@@ -166,6 +177,11 @@ module _ {G K : Type 0} (gate : G → GateState K) (source : K → SourceState) 
       harmless = (Unopened-untouched objects.disk).harmless;
     },
   )
+  EndsAs-memory command.Migrate objects = (
+    migrate_ending.Unmigrated (migrate_fault.From fault.OutOfMemory),
+    refl,
+    migrate-untouched (moved objects),
+  )
   EndsAs-memory (command.Trial seed count) objects = (print_ending.OutOfMemory, refl, refl)
 
   -- each command is answered
@@ -187,6 +203,9 @@ module _ {G K : Type 0} (gate : G → GateState K) (source : K → SourceState) 
   Completes-here (command.Report operator caller asked csv) ended old new (own, is, ends) =
       subst (Completes (command.Report operator caller asked csv) old.input old.disk) (sym is)
       (report-completes operator caller asked csv own old.input new.input (devices old) (devices new) ends)
+  Completes-here command.Migrate ended old new (own, is, ends) =
+      subst (Completes command.Migrate old.input old.disk) (sym is)
+      (migrate-completes own old.input (moved old) (moved new) ends)
   Completes-here (command.Trial seed count) ended old new (own, is, ends) =
       subst (Completes (command.Trial seed count) old.input old.disk) (sym is)
       (trial-completes seed count own old.out new.out ends)
@@ -204,4 +223,5 @@ module _ {G K : Type 0} (gate : G → GateState K) (source : K → SourceState) 
       disk-known of_text text-known own (sym is ∙ usage)
   EndsAs-known (command.Report operator caller asked csv) ended old new (own, is, ends) usage =
       disk-known of_print print-known own (sym is ∙ usage)
+  EndsAs-known command.Migrate ended old new (own, is, ends) usage = migrate-known own (sym is ∙ usage)
   EndsAs-known (command.Trial seed count) ended old new (own, is, ends) usage = print-known own (sym is ∙ usage)

@@ -9,10 +9,8 @@ use Rattle.tb_message.specs.declared.message.Message.{Message}
 use Rattle.tb_message.specs.declared.message.Message.TheVariants as message
 use Rattle.tb_message.specs.declared.verdict.Verdict.{Verdict}
 use Rattle.tb_core.specs.House.{IsBid}
-use Rattle.tb_history.specs.Answer.{caller_of}
 use Rattle.tb_history.specs.Legal.{IsLegal, running}
 use Rattle.tb_history.specs.OwnPart.{moves_par, own_part}
-use Rattle.tb_history.specs.Roster.{registrations}
 use Rattle.tb_desk.specs.Turn.{AreBids, Asked, MoveNoPar, group, verdicts, verdicts_on}
 use Rattle.tb_desk.proofs.JudgeLemmas.{sealed-all}
 use Rattle.tb_host.specs.DiskRun.{Stays}

@@ -32,6 +32,7 @@ mod ExactLemmas
 mod TrialLemmas
 mod AnswerLemmas
 mod ReportLemmas
+mod MigrateLemmas
 mod OneHistoryLemmas
 mod HeadlineLemmas
 mod WriteLemmas

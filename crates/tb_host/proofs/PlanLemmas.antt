@@ -16,4 +16,5 @@ HasGates-planned (command.Serve operator port workers links) plan gates planned 
     as_many ∙ ap (λ (p : Plan). p.workers) planned
 HasGates-planned (command.Import operator caller) plan gates planned as_many = tt
 HasGates-planned (command.Report operator caller asked csv) plan gates planned as_many = tt
+HasGates-planned command.Migrate plan gates planned as_many = tt
 HasGates-planned (command.Trial seed count) plan gates planned as_many = tt

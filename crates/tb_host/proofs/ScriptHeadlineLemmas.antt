@@ -21,7 +21,7 @@ use Rattle.tb_host.specs.DiskRun.{Stays}
 use Rattle.tb_host.specs.Headline.{Begins}
 use Rattle.tb_host.specs.Replies.{Asks, IsAnswered, IsReply, IsSaid, IsTold, asked_by, refused}
 use Rattle.tb_host.specs.ScriptHeadline.{HasHeadline, IsAcknowledged, IsActedOnAt, IsRepliedIn, IsRowAccepted, IsSealedReply, IsToldByTheRule, LineHeadline, Replied, Says, accepted_line}
-use Rattle.tb_host.specs.ScriptRun.{IsActedOn, IsRun}
+use Rattle.tb_host.specs.ScriptRun.{IsRun}
 use Rattle.tb_host.specs.Standings.{Standing}
 use Rattle.tb_host.specs.Turns.{told, turn_text, unavailable}
 use Rattle.tb_host.proofs.AnsweredLemmas.{Begins-both, Contains-begins, IsBetween-here, IsLegal-begins, answered-on, rows-stand}

@@ -10,18 +10,20 @@ pub record Uses : Type 0 where
   pub input : Bool
   pub out : Bool
   pub disk : Bool
+  pub spare : Bool
   pub gates : Bool
 
 -- the table of it
 abbrev pub uses_of : Command → Uses
-uses_of (command.Award full) = record { input = true; out = true; disk = false; gates = false }
-uses_of (command.Run operator) = record { input = true; out = true; disk = true; gates = false }
+uses_of (command.Award full) = record { input = true; out = true; disk = false; spare = false; gates = false }
+uses_of (command.Run operator) = record { input = true; out = true; disk = true; spare = false; gates = false }
 uses_of (command.Serve operator port workers links) =
-    record { input = false; out = true; disk = true; gates = true }
-uses_of (command.Import operator caller) = record { input = true; out = true; disk = true; gates = false }
+    record { input = false; out = true; disk = true; spare = false; gates = true }
+uses_of (command.Import operator caller) = record { input = true; out = true; disk = true; spare = false; gates = false }
 uses_of (command.Report operator caller asked csv) =
-    record { input = false; out = true; disk = true; gates = false }
-uses_of (command.Trial seed count) = record { input = false; out = true; disk = false; gates = false }
+    record { input = false; out = true; disk = true; spare = false; gates = false }
+uses_of command.Migrate = record { input = false; out = true; disk = true; spare = true; gates = false }
+uses_of (command.Trial seed count) = record { input = false; out = true; disk = false; spare = false; gates = false }
 
 -- an object that isn't used is as it was
 abbrev pub Stays : {A : Type 0} → Bool → A → A → Type 0

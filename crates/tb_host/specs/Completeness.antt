@@ -4,14 +4,16 @@ use Rattle.std.specs.Str.Lines.{lines}
 use Rattle.tb_link.specs.Sources.{SourceState}
 use Rattle.tb_disk.specs.Disks.{DiskState}
 use Rattle.tb_disk.specs.Past.{contents_of}
-use Rattle.tb_desk.specs.Replay.{IsTrueOf, SpeaksOfFile}
+use Rattle.tb_desk.specs.Replay.{IsTrueIn, SpeaksOfFile}
 use Rattle.tb_desk.specs.declared.fault.OpenFault.{OpenFault}
+use Rattle.tb_message.specs.declared.version.Version.{Version}
+use Rattle.tb_message.specs.declared.version.Version.TheVariants.{First, Second}
 use Rattle.tb_import.specs.Tables.{IsFirstBad, IsTable}
 use Rattle.tb_words.specs.declared.command.Command.{Command}
 use Rattle.tb_words.specs.declared.command.Command.TheVariants as command
 use Rattle.tb_host.specs.Books.{HasBadLine, HasBook}
 use Rattle.tb_host.specs.Endings.{ending_of}
-use Rattle.tb_host.specs.HostRun.{HasHistory}
+use Rattle.tb_host.specs.HostRun.{HasHistoryIn}
 use Rattle.tb_host.specs.ImportRun.{SentRow}
 use Rattle.tb_host.specs.Scripts.{HasScript, LeavesScript}
 use Rattle.tb_host.specs.Told.{WhereTold}
@@ -34,14 +36,18 @@ IsAnswered ended = (ended ≡ ending.Done) ⊎ (ended ≡ ending.WriteFault) ⊎
 abbrev pub IsRefused : Ending → Type 0
 IsRefused ended = (number : ℕ) × (ended ≡ ending.BadInput number)
 
--- The disk is opened where it stands for a legal history, unless it fails or memory runs out; a file that is no journal
--- or is damaged is told so, with the same exceptions.
-pub record Opens (disk : DiskState) (ended : Ending) (Then : Type 0) : Type 0 where
-  pub history : HasHistory disk → (ended ≡ ending.DiskFault) ⊎ LackedMemory ended ⊎ Then
+-- The disk is opened where it stands for a legal history in this version, unless it fails or memory runs out; a file
+-- that is no journal, unsealed or damaged is told so, with the same exceptions.
+pub record OpensIn (version : Version) (disk : DiskState) (ended : Ending) (Then : Type 0) : Type 0 where
+  pub history : HasHistoryIn version disk → (ended ≡ ending.DiskFault) ⊎ LackedMemory ended ⊎ Then
   pub refused : IfSome disk.past (λ past. (why : OpenFault)
-      → IsTrueOf (contents_of past) (Err why)
+      → IsTrueIn version (contents_of past) (Err why)
       → SpeaksOfFile (Err why)
       → (ended ≡ ending_of why) ⊎ (ended ≡ ending.DiskFault) ⊎ LackedMemory ended)
+
+-- the same in the second
+abbrev pub Opens : DiskState → Ending → Type 0 → Type 0
+Opens disk ended Then = OpensIn Second disk ended Then
 
 -- A text in the grammar is answered, unless the input fails; and one outside it is refused.
 pub record Answers (ended : Ending) (IsIn IsOutside : Type 0) : Type 0 where
@@ -66,4 +72,5 @@ Completes (command.Import operator caller) input disk ended =
     Opens disk ended (WhereTold input.left (λ text. Answers ended ((rows : List SentRow) × IsTable text rows)
     ((number : ℕ) × IsFirstBad text number)))
 Completes (command.Report operator caller asked csv) input disk ended = Opens disk ended (IsAnswered ended)
+Completes command.Migrate input disk ended = OpensIn First disk ended (IsAnswered ended)
 Completes (command.Trial seed count) input disk ended = IsAnswered ended

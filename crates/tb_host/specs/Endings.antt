@@ -6,8 +6,11 @@ use Rattle.tb_link.specs.Sinks.{SinkState, Takes, FailsToTake}
 use Rattle.tb_units.specs.Bytes.{line_feed}
 use Rattle.tb_desk.specs.declared.fault.OpenFault.{OpenFault}
 use Rattle.tb_desk.specs.declared.fault.OpenFault.TheVariants as fault
+use Rattle.tb_desk.specs.declared.fault.MigrateFault.TheVariants as migrate_fault
 use Rattle.tb_host.specs.declared.command_endings.DiskEnding.{DiskEnding}
 use Rattle.tb_host.specs.declared.command_endings.DiskEnding.TheVariants as disk_ending
+use Rattle.tb_host.specs.declared.command_endings.MigrateEnding.{MigrateEnding}
+use Rattle.tb_host.specs.declared.command_endings.MigrateEnding.TheVariants as migrate_ending
 use Rattle.tb_host.specs.declared.command_endings.PrintEnding.{PrintEnding}
 use Rattle.tb_host.specs.declared.command_endings.PrintEnding.TheVariants as print_ending
 use Rattle.tb_host.specs.declared.command_endings.ServeEnding.{ServeEnding}
@@ -29,11 +32,13 @@ status_of (ending.NotAJournal found) = 7
 status_of (ending.Damaged place) = 8
 status_of ending.OutOfMemory = 9
 status_of ending.GateFault = 10
+status_of (ending.Unsealed byte) = 11
 
 -- the ending where the desk wasn't opened
 abbrev pub ending_of : OpenFault → Ending
 ending_of fault.DiskFault = ending.DiskFault
 ending_of (fault.NotAJournal found) = ending.NotAJournal found
+ending_of (fault.Unsealed byte) = ending.Unsealed byte
 ending_of (fault.Damaged place) = ending.Damaged place
 ending_of fault.OutOfMemory = ending.OutOfMemory
 
@@ -56,6 +61,13 @@ abbrev pub of_disk : {E : Type 0} → (E → Ending) → DiskEnding E → Ending
 of_disk of_own (disk_ending.Opened own) = of_own own
 of_disk of_own (disk_ending.Unopened why) = ending_of why
 
+-- where `migrate` did
+abbrev pub of_migrate : MigrateEnding → Ending
+of_migrate migrate_ending.Done = ending.Done
+of_migrate migrate_ending.WriteFault = ending.WriteFault
+of_migrate (migrate_ending.Unmigrated (migrate_fault.From why)) = ending_of why
+of_migrate (migrate_ending.Unmigrated migrate_fault.SpareFault) = ending.DiskFault
+
 -- where `serve` did
 abbrev pub of_serve : ServeEnding → Ending
 of_serve serve_ending.Done = ending.Done
@@ -67,6 +79,7 @@ of_serve (serve_ending.Unserved why) = ending_of why
 abbrev pub IsUnopened : Ending → Type 0
 IsUnopened ending.DiskFault = Unit {0}
 IsUnopened (ending.NotAJournal found) = Unit {0}
+IsUnopened (ending.Unsealed byte) = Unit {0}
 IsUnopened (ending.Damaged place) = Unit {0}
 IsUnopened ended = ⊥
 
@@ -90,6 +103,7 @@ message_of (ending.NotAJournal found) = codes "not a journal " ++ hexadecimal fo
 message_of (ending.Damaged place) = codes "damaged at " ++ decimal place ++ line_feed ∷ []
 message_of ending.OutOfMemory = codes "out of memory" ++ line_feed ∷ []
 message_of ending.GateFault = codes "gate fault" ++ line_feed ∷ []
+message_of (ending.Unsealed byte) = codes "unsealed " ++ hexadecimal (byte ∷ []) ++ line_feed ∷ []
 
 -- the sink has taken the message whole, or failed and has taken a prefix of it
 abbrev pub Tells : SinkState → SinkState → List ℕ → Type 0

@@ -1,5 +1,5 @@
 -- How the program ends.
-use Rattle.std.specs.Prelude.{◌≡◌, ℕ, List, Some}
+use Rattle.std.specs.Prelude.{◌≡◌, ◌⊎◌, ℕ, List, Some}
 use Rattle.tb_link.specs.Counts.{Rose}
 use Rattle.tb_link.specs.Sources.{SourceState}
 use Rattle.tb_link.specs.Sinks.{SinkState}
@@ -8,17 +8,20 @@ use Rattle.tb_disk.specs.Past.{Past, contents_of}
 use Rattle.tb_gates.specs.Clocks.{ClockState}
 use Rattle.tb_gates.specs.Gates.{GateState}
 use Rattle.tb_message.specs.declared.message.Entry.{Entry}
+use Rattle.tb_message.specs.declared.version.Version.{Version}
+use Rattle.tb_message.specs.declared.version.Version.TheVariants.{Second}
 use Rattle.tb_history.specs.Legal.{IsLegal}
-use Rattle.tb_desk.specs.Stands.{StandsForHistory}
+use Rattle.tb_desk.specs.Stands.{StandsForHistoryIn}
 use Rattle.tb_host.specs.AwardRun.{AwardEnds}
 use Rattle.tb_host.specs.ImportRun.{ImportEnds}
+use Rattle.tb_host.specs.MigrateRun.{MigrateEnds, Moved}
 use Rattle.tb_host.specs.ReportRun.{ReportEnds, inquiry}
 use Rattle.tb_host.specs.RunEnds.{Devices, RunEnds}
 use Rattle.tb_host.specs.ServeRun.{Handed, OneRose, ServeEnds}
 use Rattle.tb_host.specs.TrialRun.{TrialEnds}
 use Rattle.tb_words.specs.declared.command.Command.{Command}
 use Rattle.tb_words.specs.declared.command.Command.TheVariants as command
-use Rattle.tb_host.specs.Endings.{Tells, message_of, of_disk, of_print, of_serve, of_text, status_of}
+use Rattle.tb_host.specs.Endings.{Tells, message_of, of_disk, of_migrate, of_print, of_serve, of_text, status_of}
 use Rattle.tb_host.specs.declared.ending.Ending.{Ending}
 use Rattle.tb_host.specs.declared.ending.Ending.TheVariants as ending
 
@@ -27,11 +30,16 @@ pub record Objects (G : Type 0) : Type 0 where
   pub input : SourceState
   pub out : SinkState
   pub disk : DiskState
+  pub spare : DiskState
   pub gates : List G
 
 -- of that, what a command on the disk writes on
 abbrev pub devices : {G : Type 0} → Objects G → Devices
 devices objects = record { out = objects.out; disk = objects.disk }
+
+-- what `migrate` uses
+abbrev pub moved : {G : Type 0} → Objects G → Moved
+moved objects = record { out = objects.out; disk = objects.disk; spare = objects.spare }
 
 -- and what `serve` uses
 abbrev pub handed : {G : Type 0} → Objects G → Handed G
@@ -57,16 +65,19 @@ module _ {G K : Type 0} (gate : G → GateState K) (source : K → SourceState) 
   EndsAs (command.Report operator caller asked csv) clock ended old new =
       Ends (of_disk of_print) ended (λ own. ReportEnds (inquiry operator caller asked csv) own old.input new.input
       (devices old) (devices new))
+  EndsAs command.Migrate clock ended old new =
+      Ends of_migrate ended (λ own. MigrateEnds own (moved old) (moved new))
   EndsAs (command.Trial seed count) clock ended old new =
       Ends of_print ended (λ own. TrialEnds seed count own old.out new.out)
 
 module _ {G K : Type 0} (gate : G → GateState K) where
-  -- A fault of input, output, disk or gates ends a command only where the count of that object has risen; and where all
+  -- A fault of input, output, a disk or gates ends a command only where the count of that object has risen; and where all
   -- was done no fault of input or output was passed over.
   pub record HasCause (ended : Ending) (old new : Objects G) : Type 0 where
     pub read : ended ≡ ending.ReadFault → Rose old.input.faults new.input.faults
     pub write : ended ≡ ending.WriteFault → Rose old.out.faults new.out.faults
-    pub disk : ended ≡ ending.DiskFault → Rose old.disk.faults new.disk.faults
+    pub disk : ended ≡ ending.DiskFault
+        → Rose old.disk.faults new.disk.faults ⊎ Rose old.spare.faults new.spare.faults
     pub gates : ended ≡ ending.GateFault → OneRose gate old.gates new.gates
     pub none : ended ≡ ending.Done
         → (new.input.faults ≡ old.input.faults) × (new.out.faults ≡ old.out.faults)
@@ -83,7 +94,11 @@ pub record EndsWith (status : ℕ) (err err' : SinkState) (Holds : Ending → Ty
   pub told : Reports ended err err'
   pub holds : Holds ended
 
--- the disk tells that it stands for a legal history
+-- the disk tells that it stands for a legal history in this version
+abbrev pub HasHistoryIn : Version → DiskState → Type 0
+HasHistoryIn version disk = (past : Past) × (disk.past ≡ Some past)
+    × (history : List Entry) × StandsForHistoryIn version history (contents_of past) × IsLegal history
+
+-- the same in the second
 abbrev pub HasHistory : DiskState → Type 0
-HasHistory disk = (past : Past) × (disk.past ≡ Some past)
-    × (history : List Entry) × StandsForHistory history (contents_of past) × IsLegal history
+HasHistory disk = HasHistoryIn Second disk

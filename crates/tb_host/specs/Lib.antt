@@ -31,6 +31,7 @@ pub mod ScriptSteps
 pub mod ReportRun
 pub mod ImportRun
 pub mod ImportSteps
+pub mod MigrateRun
 pub mod TableInput
 pub mod Headline
 pub mod ScriptHeadline

@@ -1,9 +1,9 @@
 //! How each command ends: the endings that it has, and no others.
 ghost use Rattle.std.specs.Prelude.{◌≡◌};
-ghost use Rattle.tb_host.specs.Endings.{of_disk, of_print, of_serve, of_text};
+ghost use Rattle.tb_host.specs.Endings.{of_disk, of_migrate, of_print, of_serve, of_text};
 
 use crate::ending::Ending;
-use tb_desk::OpenFault;
+use tb_desk::{MigrateFault, OpenFault};
 
 /// How a command ends that reads a text: `award`, and on a desk that was opened `run` and `import`.
 #[derive(Clone, Copy, Debug, PartialEq, Eq)]
@@ -31,6 +31,15 @@ pub enum DiskEnding<E> {
     Opened(E),
     /// None was opened.
     Unopened(OpenFault),
+}
+
+/// How `migrate` ends.
+#[derive(Clone, Copy, Debug, PartialEq, Eq)]
+pub enum MigrateEnding {
+    Done,
+    WriteFault,
+    /// The journal wasn't migrated.
+    Unmigrated(MigrateFault),
 }
 
 /// How `serve` ends.
@@ -92,6 +101,20 @@ impl DiskEnding<PrintEnding> {
         match self {
             DiskEnding::Opened(own) => own.ending(),
             DiskEnding::Unopened(fault) => Ending::of(fault),
+        }
+    }
+}
+
+impl MigrateEnding {
+    /// How the program ends then.
+    pub fn ending(self) -> Ending
+        ensures { result ≡ of_migrate self }
+    {
+        match self {
+            MigrateEnding::Done => Ending::Done,
+            MigrateEnding::WriteFault => Ending::WriteFault,
+            MigrateEnding::Unmigrated(MigrateFault::From(fault)) => Ending::of(fault),
+            MigrateEnding::Unmigrated(MigrateFault::SpareFault) => Ending::DiskFault,
         }
     }
 }

@@ -1,5 +1,5 @@
 //! How a command ends.
-ghost use Rattle.std.specs.Prelude.{◌≡◌, ◌+◌, ◌*◌, ◌<◌, ◌≤◌, ◌++◌, false, length};
+ghost use Rattle.std.specs.Prelude.{◌≡◌, ◌+◌, ◌*◌, ◌<◌, ◌≤◌, ◌++◌, ◌∷◌, [], false, length};
 ghost use Rattle.std.specs.Fmt.{digit_glyph};
 ghost use Rattle.tb_host.specs.Endings.{status_of, ending_of, message_of, bad_input_message, hexadecimal};
 ghost use Rattle.tb_host.specs.declared.ending.Ending.TheVariants as ending;
@@ -19,13 +19,15 @@ pub enum Ending {
     WriteFault,
     /// The disk failed before the first line was read.
     DiskFault,
-    /// The disk has more than 17 bytes that don't begin with a journal's header, but with these.
+    /// The disk has more than 18 bytes that don't begin with a journal's header, but with these.
     NotAJournal([u8; 16]),
     /// At this place the disk has no whole frame, or none whose entries can follow on those before.
     Damaged(u64),
     OutOfMemory,
     /// A gate failed.
     GateFault,
+    /// The disk has more than 18 bytes with a journal's header, and this byte, which isn't 1, in the place of its seal.
+    Unsealed(u8),
 }
 
 impl Ending {
@@ -36,6 +38,7 @@ impl Ending {
         match fault {
             OpenFault::DiskFault => Ending::DiskFault,
             OpenFault::NotAJournal(found) => Ending::NotAJournal(found),
+            OpenFault::Unsealed(byte) => Ending::Unsealed(byte),
             OpenFault::Damaged(place) => Ending::Damaged(place),
             OpenFault::OutOfMemory => Ending::OutOfMemory,
         }
@@ -56,6 +59,7 @@ impl Ending {
             Ending::Damaged(_) => 8,
             Ending::OutOfMemory => 9,
             Ending::GateFault => 10,
+            Ending::Unsealed(_) => 11,
         }
     }
 
@@ -74,6 +78,7 @@ impl Ending {
             Ending::Damaged(place) => damaged(place),
             Ending::OutOfMemory => text(b"out of memory\n"),
             Ending::GateFault => text(b"gate fault\n"),
+            Ending::Unsealed(byte) => unsealed(byte),
         }
     }
 }
@@ -93,11 +98,27 @@ fn not_a_journal(found: &[u8; 16]) -> Short
 {
     let mut message = text(b"not a journal ");
     for byte in found {
-        message.push(hex_digit(*byte / 16));
-        message.push(hex_digit(*byte % 16));
+        push_hexadecimal(&mut message, *byte);
     }
     message.push(b'\n');
     message
+}
+
+fn unsealed(byte: u8) -> Short
+    ensures { result ≡ message_of (ending.Unsealed byte) }
+{
+    let mut message = text(b"unsealed ");
+    push_hexadecimal(&mut message, byte);
+    message.push(b'\n');
+    message
+}
+
+fn push_hexadecimal(text: &mut Short, byte: u8)
+    requires { length text.old + 2 ≤ 48 }
+    ensures { text.new ≡ text.old ++ hexadecimal (byte ∷ []) }
+{
+    text.push(hex_digit(byte / 16));
+    text.push(hex_digit(byte % 16));
 }
 
 fn hex_digit(value: u8) -> u8

@@ -11,6 +11,7 @@ ghost use Rattle.tb_host.specs.ReportRun as spec;
 use crate::award_command::award;
 use crate::ending::Ending;
 use crate::import_command::import;
+use crate::migrate_command::migrate;
 use crate::report_command::{Inquiry, report};
 use crate::run_command::run;
 use crate::sender::Sender;
@@ -37,10 +38,12 @@ pub struct Ended<D: Disk> {
 ///
 /// 0: done. 2: the words are outside the command set. 3: the first line outside the grammar was reached, and is told.
 /// 4: the input failed. 5: the output failed. 6: the disk failed while it was opened. 7: the disk holds no journal;
-/// what it begins with is told. 8: the journal is damaged; the place is told. 9: out of memory. 10: a gate failed.
+/// what it begins with is told. 8: the journal is damaged; the place is told. 9: out of memory. 10: a gate failed. 11:
+/// the journal isn't sealed; the byte in the seal's place is told.
 ///
-/// `run`, `import`, `report` and `serve` work on the journal that `disk` holds. `serve` alone touches the gates, of
-/// which there are as many as its words say; it and `import` read the clock. No command touches `spare`.
+/// `run`, `import`, `report` and `serve` work on the journal that `disk` holds. `migrate` reads the journal of the first
+/// version that it holds, and writes into `spare`, which no other command touches. `serve` alone touches the gates, of
+/// which there are as many as its words say; it and `import` read the clock.
 pub fn host_main<
     D: Disk + Send + Drop,
     G: Gate + Send + Drop,
@@ -64,15 +67,16 @@ pub fn host_main<
     requires gates { (said : declared.Command) → AreWordsOf said (map string_bytes words.now)
         → HasGates said (vec_len gates.old) }
     // Where the words are a command, it ends as its record says (`AwardEnds`, `RunEnds`, `ServeEnds`, `ImportEnds`,
-    // `ReportEnds`, `TrialEnds`), with the status of that ending, which is told.
+    // `ReportEnds`, `MigrateEnds`, `TrialEnds`), with the status of that ending, which is told.
     ensures ends { (said : declared.Command) → AreWordsOf said (map string_bytes words.now)
         → EndsWith result.status (E.sink err.old) (E.sink err.new) (λ ended.
         EndsAs G.gate G.Conn.source G.Conn.sink said (C.clock clock) ended
-        (record { input = I.source input.old; out = O.sink out.old; disk = D.disk disk; gates = gates.old.items })
+        (record { input = I.source input.old; out = O.sink out.old; disk = D.disk disk; spare = D.disk spare.old; gates = gates.old.items })
         (record {
           input = I.source input.new;
           out = O.sink out.new;
           disk = D.disk result.disk;
+          spare = D.disk spare.new;
           gates = gates.new.items;
         })) }
     // It is answered: what its input and its disk tell decides how it ends, unless an object failed or memory ran out.
@@ -81,11 +85,12 @@ pub fn host_main<
         (λ ended. Completes said (I.source input.old) (D.disk disk) ended) }
     // No object failed without a rise of its count.
     ensures causes { EndsWith result.status (E.sink err.old) (E.sink err.new) (λ ended. HasCause G.gate ended
-        (record { input = I.source input.old; out = O.sink out.old; disk = D.disk disk; gates = gates.old.items })
+        (record { input = I.source input.old; out = O.sink out.old; disk = D.disk disk; spare = D.disk spare.old; gates = gates.old.items })
         (record {
           input = I.source input.new;
           out = O.sink out.new;
           disk = D.disk result.disk;
+          spare = D.disk spare.new;
           gates = gates.new.items;
         })) }
     // It touches what the table says that it uses, and no other object.
@@ -93,18 +98,18 @@ pub fn host_main<
         → Stays (uses_of said).input input.old input.new
         × Stays (uses_of said).out out.old out.new
         × Stays (uses_of said).disk disk result.disk
+        × Stays (uses_of said).spare spare.old spare.new
         × Stays (uses_of said).gates gates.old gates.new }
-    ensures spare { spare.new ≡ spare.old }
     // Where the disk wasn't opened neither input nor output was touched.
     ensures unread { (ended : Ending) → IsUnopened ended → result.status ≡ status_of ended
         → (input.new ≡ input.old) × (O.sink out.new ≡ O.sink out.old) }
     // 2 is the status of other words, and of no command; then nothing is touched.
     ensures usage { (result.status ≡ 2) ↔ (¬ (AreCommand (map string_bytes words.now))) }
     ensures untouched { result.status ≡ 2 → Reports Ending.Usage (E.sink err.old) (E.sink err.new)
-        × (input.new ≡ input.old) × (out.new ≡ out.old) × (result.disk ≡ disk) × (gates.new ≡ gates.old) }
+        × (input.new ≡ input.old) × (out.new ≡ out.old) × (result.disk ≡ disk) × (spare.new ≡ spare.old)
+        × (gates.new ≡ gates.old) }
 {
-    let _ = spare;
-    let (ending, disk) = any_command(rt, alloc, words, input, out, disk, gates, clock);
+    let (ending, disk) = any_command(rt, alloc, words, input, out, disk, spare, gates, clock);
     tell(ending, err);
     Ended {
         status: ending.status(),
@@ -127,6 +132,7 @@ fn any_command<
     input: &mut I,
     out: &mut O,
     disk: D,
+    spare: &mut D,
     gates: &mut Vec<G>,
     clock: C,
 ) -> (Ending, D)
@@ -134,33 +140,37 @@ fn any_command<
         → HasGates said (vec_len gates.old) }
     ensures ends { (said : declared.Command) → AreWordsOf said (map string_bytes words.now)
         → EndsAs G.gate G.Conn.source G.Conn.sink said (C.clock clock) result.0
-        (record { input = I.source input.old; out = O.sink out.old; disk = D.disk disk; gates = gates.old.items })
+        (record { input = I.source input.old; out = O.sink out.old; disk = D.disk disk; spare = D.disk spare.old; gates = gates.old.items })
         (record {
           input = I.source input.new;
           out = O.sink out.new;
           disk = D.disk result.1;
+          spare = D.disk spare.new;
           gates = gates.new.items;
         }) }
     ensures causes { HasCause G.gate result.0
-        (record { input = I.source input.old; out = O.sink out.old; disk = D.disk disk; gates = gates.old.items })
+        (record { input = I.source input.old; out = O.sink out.old; disk = D.disk disk; spare = D.disk spare.old; gates = gates.old.items })
         (record {
           input = I.source input.new;
           out = O.sink out.new;
           disk = D.disk result.1;
+          spare = D.disk spare.new;
           gates = gates.new.items;
         }) }
     ensures uses { (said : declared.Command) → AreWordsOf said (map string_bytes words.now)
         → Stays (uses_of said).input input.old input.new
         × Stays (uses_of said).out out.old out.new
         × Stays (uses_of said).disk disk result.1
+        × Stays (uses_of said).spare spare.old spare.new
         × Stays (uses_of said).gates gates.old gates.new }
     ensures unread { IsUnopened result.0 → (input.new ≡ input.old) × (O.sink out.new ≡ O.sink out.old) }
     ensures usage { (result.0 ≡ Ending.Usage) ↔ (¬ (AreCommand (map string_bytes words.now))) }
     ensures untouched { result.0 ≡ Ending.Usage
-        → (input.new ≡ input.old) × (out.new ≡ out.old) × (result.1 ≡ disk) × (gates.new ≡ gates.old) }
+        → (input.new ≡ input.old) × (out.new ≡ out.old) × (result.1 ≡ disk) × (spare.new ≡ spare.old)
+        × (gates.new ≡ gates.old) }
 {
     match read_words(alloc, words) {
-        Ok(command) => do_command(rt, alloc, &command, input, out, disk, gates, clock),
+        Ok(command) => do_command(rt, alloc, &command, input, out, disk, spare, gates, clock),
         Err(WordsFault::Usage) => (Ending::Usage, disk),
         Err(WordsFault::OutOfMemory) => (Ending::OutOfMemory, disk),
     }
@@ -181,30 +191,34 @@ fn do_command<
     input: &mut I,
     out: &mut O,
     disk: D,
+    spare: &mut D,
     gates: &mut Vec<G>,
     clock: C,
 ) -> (Ending, D)
     requires in_range { IsInRange command.now }
     requires gates { HasGates command.now (vec_len gates.old) }
     ensures ends { EndsAs G.gate G.Conn.source G.Conn.sink command.now (C.clock clock) result.0
-        (record { input = I.source input.old; out = O.sink out.old; disk = D.disk disk; gates = gates.old.items })
+        (record { input = I.source input.old; out = O.sink out.old; disk = D.disk disk; spare = D.disk spare.old; gates = gates.old.items })
         (record {
           input = I.source input.new;
           out = O.sink out.new;
           disk = D.disk result.1;
+          spare = D.disk spare.new;
           gates = gates.new.items;
         }) }
     ensures causes { HasCause G.gate result.0
-        (record { input = I.source input.old; out = O.sink out.old; disk = D.disk disk; gates = gates.old.items })
+        (record { input = I.source input.old; out = O.sink out.old; disk = D.disk disk; spare = D.disk spare.old; gates = gates.old.items })
         (record {
           input = I.source input.new;
           out = O.sink out.new;
           disk = D.disk result.1;
+          spare = D.disk spare.new;
           gates = gates.new.items;
         }) }
     ensures uses { Stays (uses_of command.now).input input.old input.new
         × Stays (uses_of command.now).out out.old out.new
         × Stays (uses_of command.now).disk disk result.1
+        × Stays (uses_of command.now).spare spare.old spare.new
         × Stays (uses_of command.now).gates gates.old gates.new }
     ensures unread { IsUnopened result.0 → (input.new ≡ input.old) × (O.sink out.new ≡ O.sink out.old) }
 {
@@ -232,6 +246,10 @@ fn do_command<
         } => {
             let asked = inquiry(operator, key, query, *csv);
             let (own, disk) = report(alloc, &asked, out, disk);
+            (own.ending(), disk)
+        }
+        Command::Migrate => {
+            let (own, disk) = migrate(alloc, out, disk, spare);
             (own.ending(), disk)
         }
         Command::Trial { seed, count } => (trial(alloc, *seed, *count, out).ending(), disk),

@@ -14,6 +14,7 @@ mod import_command;
 mod input;
 mod laws;
 mod line_end;
+mod migrate_command;
 mod plan_words;
 mod planned;
 mod read_line;

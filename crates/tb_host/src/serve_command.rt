@@ -137,7 +137,8 @@ fn tell_run<O: Sink>(failed: bool, served: u64, accepted: u64, out: &mut O) -> S
     }
 }
 
-fn tell_count<O: Sink>(what: &[u8], number: u64, out: &mut O) -> Result<(), Failed>
+/// Writes a line with a number behind this text, in one write.
+pub fn tell_count<O: Sink>(what: &[u8], number: u64, out: &mut O) -> Result<(), Failed>
     requires { length what.now ≤ 9 }
     ensures takes { OnOk result
         (Takes (O.sink out.old) (O.sink out.new) (what.now ++ decimal number ++ line_feed ∷ [])) }

@@ -11,13 +11,14 @@ use std::test::Fail;
 use std::thread::Threads;
 use tb_disk::MemoryDisk;
 
-/// The journal after the first message of the ordinary auction: the header, an open gate, the length of the record, the
-/// record, and a closed gate.
-const ONE_ENTRY: &[u8] = b"TBHOSTJOURNAL001\
-    \x01\0\0\0\x21\x08operator\0\0\0\0\0\0\0\x01\x67\x28\x62\xe0\x01\x07dealer1\x02k1\
+/// The journal after the first message of the ordinary auction: the header, the seal, an open gate, the length of the
+/// record, the number of frames before it, the record, and a closed gate.
+const ONE_ENTRY: &[u8] = b"TBHOSTJOURNAL002\x01\
+    \x01\0\0\0\x25\0\0\0\0\0\0\0\0\
+    \x08operator\0\0\0\0\0\0\0\x01\0\0\0\0\x67\x28\x62\xe0\x01\x07dealer1\x02k1\
     \0";
 
-const EMPTY: &[u8] = b"TBHOSTJOURNAL001\0";
+const EMPTY: &[u8] = b"TBHOSTJOURNAL002\x01\0";
 
 /// The first message alone.
 const FIRST: &str = registered!("\nend\n");
@@ -93,7 +94,7 @@ fn a_journal_has_the_bytes_of_its_format(rt: HostRuntime) -> Result<(), Fail> {
     let accepted = "accepted 1 1730700000\n";
     assert!(rt; goes_on(&host, b"", FIRST, &[], 0, accepted, "", ONE_ENTRY)?);
     assert!(rt; goes_on(&host, b"", "end\n", &[], 0, "", "", EMPTY)?);
-    assert!(rt; goes_on(&host, b"seventeen bytes..", "end\n", &[], 0, "", "", EMPTY)?);
+    assert!(rt; goes_on(&host, b"eighteen bytes....", "end\n", &[], 0, "", "", EMPTY)?);
     Ok(())
 }
 
@@ -109,6 +110,15 @@ fn a_second_run_goes_on_with_the_history_of_the_first(rt: HostRuntime) -> Result
     let told = joined(alloc, &[SECOND_REPLIES, RESULTS, SECOND_AWARDS, RESULTS])?;
     assert!(rt; goes_on(&host, journal, ORDINARY, &[], 0, &told, "", journal)?);
     Ok(())
+}
+
+// The pieces of a file, one behind the other.
+fn joined_bytes(alloc: Global, pieces: &[&[u8]]) -> Result<Vec<u8>, Fail> {
+    let mut file = Vec::new(alloc);
+    for piece in pieces {
+        file.extend_from_slice(piece)?;
+    }
+    Ok(file)
 }
 
 // These contents are refused so, and stay. The first read would fail: nothing is read.
@@ -129,10 +139,24 @@ fn a_file_that_is_no_journal_is_refused_and_stays(rt: HostRuntime) -> Result<(),
     };
     let letters = "not a journal 61616161616161616161616161616161\n";
     let bytes = "not a journal 00017f80fffe5442484f53544a4f5552\n";
-    assert!(rt; is_refused(&host, b"aaaaaaaaaaaaaaaa\n.", 7, letters)?);
+    let first_version = "not a journal 5442484f53544a4f55524e414c303031\n";
+    let unsealed = joined_bytes(rt.alloc(), &[&ONE_ENTRY[..16], b"\0", &ONE_ENTRY[17..]])?;
+    // The frame once more, of which none stands before it.
+    let copied = joined_bytes(rt.alloc(), &[&ONE_ENTRY[..67], &ONE_ENTRY[17..]])?;
+    // One byte more in the payload, whose length is then 38.
+    let longer = joined_bytes(
+        rt.alloc(),
+        &[&ONE_ENTRY[..21], b"\x26", &ONE_ENTRY[22..67], b"x\0"],
+    )?;
+    assert!(rt; is_refused(&host, b"aaaaaaaaaaaaaaaa\n..", 7, letters)?);
     assert!(rt; is_refused(&host, b"\0\x01\x7f\x80\xff\xfeTBHOSTJOURNAL", 7, bytes)?);
-    assert!(rt; is_refused(&host, &ONE_ENTRY[..40], 8, "damaged at 16\n")?);
-    assert!(rt; is_refused(&host, &ONE_ENTRY[..54], 8, "damaged at 54\n")?);
+    assert!(rt; is_refused(&host, b"TBHOSTJOURNAL001\0..", 7, first_version)?);
+    assert!(rt; is_refused(&host, &ONE_ENTRY[..40], 8, "damaged at 17\n")?);
+    assert!(rt; is_refused(&host, &ONE_ENTRY[..67], 8, "damaged at 67\n")?);
+    assert!(rt; is_refused(&host, &copied, 8, "damaged at 67\n")?);
+    assert!(rt; is_refused(&host, &longer, 8, "damaged at 17\n")?);
+    assert!(rt; is_refused(&host, &unsealed, 11, "unsealed 00\n")?);
+    assert!(rt; is_refused(&host, b"TBHOSTJOURNAL002\xa7\0.", 11, "unsealed a7\n")?);
     Ok(())
 }
 
@@ -141,7 +165,7 @@ fn a_message_that_meets_a_fault_is_told_so_and_the_run_goes_on(
     rt: HostRuntime,
 ) -> Result<(), Fail> {
     let alloc = rt.alloc();
-    // The header and the gate fit, the first entry doesn't.
+    // The header, the seal and the gate fit, the first entry doesn't.
     let disk = MemoryDisk::new(alloc, b"", 40, 10_000, Vec::new(alloc), 0)?;
     let full = run_script(&rt, alloc, FIRST, disk)?;
     ended(&rt, &full, 0, "unavailable DiskFault\n", "");

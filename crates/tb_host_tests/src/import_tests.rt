@@ -81,11 +81,11 @@ fn rows_of_one_turn_stand_under_one_gate(rt: HostRuntime) -> Result<(), Fail> {
     let sent = import(&rt, rt.alloc(), &IMPORT, TWO, &[], &[], &[])?;
     ended(&rt, &sent, 0, BOTH, "");
     let journal = sent.disk.contents();
-    assert_eq!(rt; journal.len(), before.len() + 97);
+    assert_eq!(rt; journal.len(), before.len() + 113);
     // In place of the closed gate come an open one and the length of the two records.
     let (_, front) = before.split_last().ok_or("no bytes")?;
     let mut grown = front.to_vec(rt.alloc())?;
-    grown.extend_from_slice(b"\x01\0\0\0\x5c")?;
+    grown.extend_from_slice(b"\x01\0\0\0\x64")?;
     assert!(rt; journal.starts_with(grown.as_slice()));
     Ok(())
 }

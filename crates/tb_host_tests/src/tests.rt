@@ -229,7 +229,7 @@ pub fn run<R: Threads + Wait + Sync>(
     failing_reads: &[u64],
     failing_writes: &[u64],
 ) -> Result<Outcome, Fail> {
-    let disk = MemoryDisk::new(alloc, b"", 200_000, 1_000_000, Vec::new(alloc), 0)?;
+    let disk = MemoryDisk::new(alloc, b"", 300_000, 1_000_000, Vec::new(alloc), 0)?;
     run_on(
         rt,
         alloc,

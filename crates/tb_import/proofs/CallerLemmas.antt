@@ -73,18 +73,7 @@ module _ (P : Message → Type 0)
         (bids auction bidder None amount, record { number_fits = grind arith; message_fits = grind arith })
     numbered-row number (message.Bid auction bidder (Some rate) amount) row is sound =
         (bids auction bidder (Some rate) amount, record { number_fits = grind arith; message_fits = grind arith })
-    numbered-row number (message.Register _ _) row is sound = absurd (cc)
-    numbered-row number (message.Enrol _ _) row is sound = absurd (cc)
-    numbered-row number (message.Holiday _) row is sound = absurd (cc)
-    numbered-row number (message.Announce _) row is sound = absurd (cc)
-    numbered-row number (message.Cancel _ _) row is sound = absurd (cc)
-    numbered-row number (message.Position _ _ _) row is sound = absurd (cc)
-    numbered-row number (message.Publish _) row is sound = absurd (cc)
-    numbered-row number (message.Settle _) row is sound = absurd (cc)
-    numbered-row number (message.Transfer _ _ _) row is sound = absurd (cc)
-    numbered-row number (message.Pledge _ _ _) row is sound = absurd (cc)
-    numbered-row number (message.Release _ _ _) row is sound = absurd (cc)
-    numbered-row number (message.Redeem _) row is sound = absurd (cc)
+    numbered-row number other row is sound = absurd (cc)
 
     -- what is so of each row that was sent
     abbrev Is : ℕ × Message → Type 0

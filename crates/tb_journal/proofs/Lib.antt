@@ -4,7 +4,12 @@ pub mod Calls
 pub mod Spelling
 pub mod Settling
 pub mod Reading
+pub mod Showing
 pub mod Walking
+pub mod FrameLemmas
 pub mod OpeningLemmas
 pub mod SinceLemmas
 pub mod Exactness
+pub mod WritingImages
+pub mod WritingLemmas
+pub mod WritingRuns

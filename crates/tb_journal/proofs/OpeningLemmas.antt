@@ -5,16 +5,18 @@ use Rattle.tb_disk.specs.Steps.{Wrote, Tore, Synced, Torn}
 use Rattle.tb_disk.specs.Past.{Past, Then, contents_of, MayLeave, Follows}
 use Rattle.tb_disk.specs.Disks.{DiskState, Takes, Fails, HasLength}
 use Rattle.tb_disk.proofs.Moments.{Leaves-start, Leaves-step}
-use Rattle.tb_journal.specs.Frames.{header, frames, front}
+use Rattle.tb_journal.specs.declared.form.Form.TheVariants.{Second}
+use Rattle.tb_journal.specs.Frames.{title_of, header, frames, front}
 use Rattle.tb_journal.specs.Image.{IsFramed, StandsFor}
 use Rattle.tb_journal.specs.Journal.{Holds, Told, SyncsOrNot}
-use Rattle.tb_journal.specs.Opening.{StandsAsWell, Measures, Finds, Opens, BreaksOff, IsHarmless, empty_journal, made_past, MadeInPart}
-use Rattle.tb_journal.specs.Places.{EndsAt}
-use Rattle.tb_journal.proofs.Gates.{length-header, IsFramed-stands}
-use Rattle.tb_journal.proofs.ToldLemmas.{Told-both, Told-weaker, told_after, told_known, told_step, still_silent}
+use Rattle.tb_journal.specs.Opening.{StandsAsWell, Measures, Finds, FindsSoMany, Opens, BreaksOff, IsHarmless, empty_journal, made_past, MadeInPart}
+use Rattle.tb_journal.specs.Places.{EndsAt, ReadsTo, ReadsSome}
 use Rattle.tb_journal.specs.Answers.{IsTrueOf, LeavesRefused}
 use Rattle.tb_journal.specs.declared.fault.JournalFault.{JournalFault}
-use Rattle.tb_journal.specs.declared.fault.JournalFault.TheVariants.{DiskFault, NotAJournal, Damaged, OutOfMemory}
+use Rattle.tb_journal.specs.declared.fault.JournalFault.TheVariants.{DiskFault, NotAJournal, Unsealed, Damaged, OutOfMemory}
+use Rattle.tb_journal.proofs.Gates.{length-header, IsFramedIn-stands}
+use Rattle.tb_journal.proofs.Spelling.{StandsIn-one}
+use Rattle.tb_journal.proofs.ToldLemmas.{Told-both, Told-weaker, told_after, told_known, told_step, still_silent}
 
 -- what an opening may leave on crashes
 abbrev pub Old : Past → List ℕ → Type 0
@@ -40,12 +42,12 @@ harmless_synced before = record {
       (λ image left. inr (same_stands (contents_of before) image left));
 }
 
--- an empty journal has 17 bytes
-pub length-empty : length empty_journal ≡ 17
-length-empty = omega (arith, length-append header (0 ∷ []), length-header)
+-- an empty journal has 18 bytes
+pub length-empty : length empty_journal ≡ 18
+length-empty = omega (arith, length-append (header) (0 ∷ []), length-header Second)
 
--- files of at most 17 bytes stand for the same
-short_stands : (old new : List ℕ) → length old ≤ 17 → length new ≤ 17 → StandsAsWell old new
+-- files of at most 18 bytes stand for the same
+short_stands : (old new : List ℕ) → length old ≤ 18 → length new ≤ 18 → StandsAsWell old new
 short_stands old new short_old short_new payloads (inl stands) = inl (short_new, stands.1)
 short_stands old new short_old short_new payloads (inr stands) = absurd (omega (arith, stands.0))
 
@@ -54,20 +56,20 @@ nothing_left : (list : List ℕ) → 0 ≡ length list → list ≡ []
 nothing_left [] is = refl
 nothing_left (x ∷ list) is = absurd (omega (arith, is))
 
-module _ (before : Past) (short : length (contents_of before) ≤ 17) where
-  -- what is left of a file of at most 17 bytes by a write of 17
-  short_image : (longest : ℕ) → longest ≤ 17 → (image : List ℕ)
-      → Follows (Torn 0 17 longest) (MayLeave (Then Synced before)) image → length image ≤ 17
+module _ (before : Past) (short : length (contents_of before) ≤ 18) where
+  -- what is left of a file of at most 18 bytes by a write of 18
+  short_image : (longest : ℕ) → longest ≤ 18 → (image : List ℕ)
+      → Follows (Torn 0 18 longest) (MayLeave (Then Synced before)) image → length image ≤ 18
   short_image longest within image from = let same = ap length from.1 in omega (arith, from.2.no_longer, same)
 
   -- a failed write of an empty journal is harmless
-  pub torn_harmless : (left : List ℕ) → Torn 0 17 17 (contents_of before) left
-      → IsHarmless before (Then (Tore 0 17 left) (Then Synced before))
+  pub torn_harmless : (left : List ℕ) → Torn 0 18 18 (contents_of before) left
+      → IsHarmless before (Then (Tore 0 18 left) (Then Synced before))
   torn_harmless left tears =
-      let short_left : length left ≤ 17 = omega (arith, tears.no_longer, length-empty) in
+      let short_left : length left ≤ 18 = omega (arith, tears.no_longer, length-empty) in
       record {
         contents = short_stands (contents_of before) left short short_left;
-        images = Leaves-step (Old before) before (Then Synced before) (Tore 0 17 left) (harmless_synced before).images
+        images = Leaves-step (Old before) before (Then Synced before) (Tore 0 18 left) (harmless_synced before).images
             (λ image from. inr (short_stands (contents_of before) image short
             (short_image (length left) short_left image from)));
       }
@@ -105,14 +107,14 @@ module _ (before : Past) (short : length (contents_of before) ≤ 17) where
   }
 
   -- a made empty journal holds no payload
-  pub made_holds : Holds [] 16 (Then Synced (Then (Wrote 0 empty_journal) (Then Synced before)))
+  pub made_holds : Holds [] 17 (Then Synced (Then (Wrote 0 empty_journal) (Then Synced before)))
   made_holds = record {
-    place = omega (arith, length-append header (frames []), length-header);
+    place = omega (arith, length-append (header) (frames 0 []), length-header Second);
     file = record {
       sizes = tt;
       gate = 0;
       rest = [];
-      is = written_is ∙ ap (λ (list : List ℕ). list ++ 0 ∷ []) (sym (append-nil header));
+      is = written_is ∙ ap (λ (list : List ℕ). list ++ 0 ∷ []) (sym (append-nil (header)));
       closed = λ is. omega arith;
     };
     synced = λ image left. left;
@@ -130,35 +132,51 @@ read_fails before now (inr synced) = subst (λ (past : Past). IsHarmless before 
     (harmless_synced before)
 
 -- the disk failed while the empty journal was made
-pub making_fails : (before mid now : Past) → mid ≡ Then Synced before → length (contents_of before) ≤ 17
+pub making_fails : (before mid now : Past) → mid ≡ Then Synced before → length (contents_of before) ≤ 18
     → MadeInPart mid now → IsHarmless before now
 making_fails before mid now synced short part = go mid synced part
   where
     go : (past : Past) → past ≡ Then Synced before → MadeInPart past now → IsHarmless before now
     go past is (inl same) = subst (λ (past : Past). IsHarmless before past) (sym (same ∙ is)) (harmless_synced before)
     go past is (inr (inl torn)) = subst (λ (past : Past). IsHarmless before past)
-        (sym (torn.2 ∙ ap (Then (Tore 0 17 torn.0)) is))
-        (torn_harmless before short torn.0 (subst (λ (past : Past). Torn 0 17 17 (contents_of past) torn.0) is torn.1))
+        (sym (torn.2 ∙ ap (Then (Tore 0 18 torn.0)) is))
+        (torn_harmless before short torn.0 (subst (λ (past : Past). Torn 0 18 18 (contents_of past) torn.0) is torn.1))
     go past is (inr (inr wrote)) = subst (λ (past : Past). IsHarmless before past)
         (sym (wrote ∙ ap (Then (Wrote 0 empty_journal)) is)) (written_harmless before short)
 
 -- the empty journal is made
-pub made : (before mid now : Past) → mid ≡ Then Synced before → length (contents_of before) ≤ 17 → now ≡ made_past mid
-    → Holds [] 16 now × IsHarmless before now
+pub made : (before mid now : Past) → mid ≡ Then Synced before → length (contents_of before) ≤ 18 → now ≡ made_past mid
+    → Holds [] 17 now × IsHarmless before now
 made before mid now synced short is =
     let whole : now ≡ made_past (Then Synced before) = is ∙ ap made_past synced in (
-      subst (λ (past : Past). Holds [] 16 past) (sym whole) (made_holds before short),
+      subst (λ (past : Past). Holds [] 17 past) (sym whole) (made_holds before short),
       subst (λ (past : Past). IsHarmless before past) (sym whole) (made_harmless before short),
     )
 
 -- the bytes of an empty journal, as they are written
-pub empty_is : codes "TBHOSTJOURNAL001\0" ≡ empty_journal
-unfolding header
+pub empty_is : codes "TBHOSTJOURNAL002\u{1}\0" ≡ empty_journal
+unfolding title_of
 empty_is = refl
 
 -- what an opening that found payloads did
-abbrev pub FindsThem : ℕ → Past → Past → Type 0
-FindsThem gate before now = Finds gate before now × IsHarmless before now
+abbrev pub FindsThem : ℕ → ℕ → Past → Past → Type 0
+FindsThem gate ordinal before now = Finds gate before now × FindsSoMany ordinal before now × IsHarmless before now
+
+-- the file read to the gate
+pub found_reads : (gate : ℕ) (before now : Past) → Finds gate before now → ReadsSome Second gate (contents_of before)
+found_reads gate before now finds = (finds.0, record { place = finds.2.place; stands = finds.1 })
+
+-- what a disk holds reads to the gate
+pub holds_reads : (payloads : List (List ℕ)) (gate : ℕ) (past : Past) → Holds payloads gate past
+    → ReadsTo Second payloads gate (contents_of past)
+holds_reads payloads gate past holds = record {
+  place = holds.place;
+  stands = IsFramedIn-stands Second payloads (contents_of past) holds.file;
+}
+
+-- the file reads to the gate
+pub found_reads_now : (gate : ℕ) (before now : Past) → Finds gate before now → ReadsSome Second gate (contents_of now)
+found_reads_now gate before now finds = (finds.0, holds_reads finds.0 gate now finds.2)
 
 -- what an opening that was refused did
 abbrev pub Refuses : JournalFault → Past → Past → Type 0
@@ -185,7 +203,7 @@ breaks_reading before now part = record { kept = λ _. part; made = λ _. go par
     go (inr synced) = inr (inl (inl synced))
 
 -- so is one that made a part of an empty journal
-breaks_making : (before mid now : Past) → mid ≡ Then Synced before → length (contents_of before) ≤ 17
+breaks_making : (before mid now : Past) → mid ≡ Then Synced before → length (contents_of before) ≤ 18
     → MadeInPart mid now → BreaksOff before now
 breaks_making before mid now synced short part = record {
   kept = λ long. absurd (omega (arith, long, short));
@@ -202,6 +220,7 @@ breaks_opened old new = Told-weaker Opens BreaksOff old new (λ before now opens
 -- a refusal after a sync
 leaves_synced : (fault : JournalFault) (before now : Past) → now ≡ Then Synced before → LeavesRefused fault before now
 leaves_synced (NotAJournal found) before now synced = synced
+leaves_synced (Unsealed byte) before now synced = synced
 leaves_synced (Damaged place) before now synced = synced
 leaves_synced DiskFault before now synced = breaks_reading before now (inr synced)
 leaves_synced OutOfMemory before now synced = breaks_reading before now (inr synced)
@@ -215,21 +234,30 @@ measuring_fails fault old new is = Told-weaker SyncsOrNot (Refuses fault) old ne
 
 -- an empty journal couldn't be made
 pub find_making_fails : (fault : JournalFault) (size : ℕ) (old mid new : DiskState) → fault ≡ DiskFault
-    → size ≤ 17 → Told old mid (Measures size) → Told mid new MadeInPart → Told old new (Refuses fault)
+    → size ≤ 18 → Told old mid (Measures size) → Told mid new MadeInPart → Told old new (Refuses fault)
 find_making_fails fault size old mid new is short = Told-both (Measures size) MadeInPart (Refuses fault) old mid new
     (λ before mid now measures part. (
-    let within : length (contents_of before) ≤ 17 = omega (arith, short, measures.1) in
+    let within : length (contents_of before) ≤ 18 = omega (arith, short, measures.1) in
     refuses_disk fault before now (inl is) (breaks_making before mid now measures.0 within part)
     (making_fails before mid now measures.0 within part)))
 
+-- at most 18 bytes stand for no payload
+none_found : (before now : Past) → length (contents_of before) ≤ 18 → FindsSoMany 0 before now
+none_found before now short payloads stands =
+    ap length (StandsIn-one Second payloads [] (contents_of before) stands (inl (short, refl)))
+
 -- an empty journal was made
-pub find_made : (size : ℕ) (old mid new : DiskState) → size ≤ 17 → Told old mid (Measures size)
-    → Told mid new (λ before now. now ≡ made_past before) → Told old new (FindsThem 16)
+pub find_made : (size : ℕ) (old mid new : DiskState) → size ≤ 18 → Told old mid (Measures size)
+    → Told mid new (λ before now. now ≡ made_past before) → Told old new (FindsThem 17 0)
 find_made size old mid new short = Told-both (Measures size) (λ before now. now ≡ made_past before)
-    (FindsThem 16) old mid new
+    (FindsThem 17 0) old mid new
     (λ before mid now measures is. (
-    let within : length (contents_of before) ≤ 17 = omega (arith, short, measures.1) in
-    let both = made before mid now measures.0 within is in (([], inl (within, refl), both.0), both.1)))
+    let within : length (contents_of before) ≤ 18 = omega (arith, short, measures.1) in
+    let both = made before mid now measures.0 within is in (
+      ([], inl (within, refl), both.0),
+      none_found before now within,
+      both.1,
+    )))
 
 -- what the file is after it was measured
 pub has_length : (size : ℕ) (old new : DiskState) → Told old new (Measures size) → HasLength new size
@@ -245,19 +273,23 @@ told_kept P old mid new same told = record {
 }
 
 -- a journal was found
-pub find_found : (gate size : ℕ) (old mid new : DiskState) → new.past ≡ mid.past → Told old mid (Measures size)
-    → IfSome mid.past (λ past. EndsAt gate (contents_of past)) → Told old new (FindsThem gate)
-find_found gate size old mid new same measures ends = told_kept (FindsThem gate) old mid new same
-    (told_known (Measures size) (λ past. EndsAt gate (contents_of past)) (FindsThem gate) old mid
+pub find_found : (gate ordinal size : ℕ) (old mid new : DiskState) → new.past ≡ mid.past → Told old mid (Measures size)
+    → IfSome mid.past (λ past. EndsAt Second gate ordinal (contents_of past)) → Told old new (FindsThem gate ordinal)
+find_found gate ordinal size old mid new same measures ends = told_kept (FindsThem gate ordinal) old mid new same
+    (told_known (Measures size) (λ past. EndsAt Second gate ordinal (contents_of past)) (FindsThem gate ordinal) old mid
     (λ before now told known. (
     let file : IsFramed known.payloads (contents_of before) =
-    subst (λ (past : Past). IsFramed known.payloads (contents_of past)) told.0 known.framed in (
+    subst (λ (past : Past). IsFramed known.payloads (contents_of past)) told.0 known.framed in
+    let stands : StandsFor known.payloads (contents_of before) =
+    IsFramedIn-stands Second known.payloads (contents_of before) file in (
       (
         known.payloads,
-        IsFramed-stands known.payloads (contents_of before) file,
+        stands,
         subst (λ (past : Past). Holds known.payloads gate past) (sym told.0)
             (read_holds known.payloads gate before known.place file),
       ),
+      λ payloads also. ap length (StandsIn-one Second payloads known.payloads (contents_of before) also stands)
+          ∙ known.count,
       read_fails before now (inr told.0),
     ))) measures ends)
 
@@ -287,7 +319,7 @@ making_sync_fails old mid new writes fails = record {
 }
 
 -- the steps of an opening that made an empty journal
-pub opens_made : (size : ℕ) (old mid new : DiskState) → size ≤ 17 → Told old mid (Measures size)
+pub opens_made : (size : ℕ) (old mid new : DiskState) → size ≤ 18 → Told old mid (Measures size)
     → Told mid new (λ before now. now ≡ made_past before) → Told old new Opens
 opens_made size old mid new short = Told-both (Measures size) (λ before now. now ≡ made_past before) Opens old mid new
     (λ before between now measures is. record {
@@ -296,7 +328,7 @@ opens_made size old mid new short = Told-both (Measures size) (λ before now. no
     })
 
 -- the steps of an opening that found a journal
-pub opens_found : (size : ℕ) (old mid new : DiskState) → 17 < size → new.past ≡ mid.past → Told old mid (Measures size)
+pub opens_found : (size : ℕ) (old mid new : DiskState) → 18 < size → new.past ≡ mid.past → Told old mid (Measures size)
     → Told old new Opens
 opens_found size old mid new long same measures = told_kept Opens old mid new same
     (Told-weaker (Measures size) Opens old mid

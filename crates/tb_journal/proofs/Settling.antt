@@ -5,8 +5,10 @@ use Rattle.std.specs.Bool.{MatchBool}
 use Rattle.tb_disk.specs.Steps.{Synced}
 use Rattle.tb_disk.specs.Past.{Past, Then, contents_of, Leaves}
 use Rattle.tb_disk.proofs.Moments.{Leaves-start, Leaves-step}
+use Rattle.tb_journal.specs.declared.form.Form.TheVariants.{Second}
 use Rattle.tb_journal.specs.Frames.{front}
 use Rattle.tb_journal.specs.Journal.{IsDoubtful, WithOrWithout, Holds, InDoubt}
+use Rattle.tb_journal.proofs.Spelling.{length-framed}
 use Rattle.tb_journal.proofs.Gates.{doubtful_stands, front_push, length-front_push, ArePayloads-push}
 
 -- the gate of a file in doubt is within the file
@@ -46,14 +48,20 @@ module _ (payloads : List (List ℕ)) (payload : List ℕ) (gate next : ℕ) (be
       (Holds payloads gate (Then Synced before))
   settled true is = let one : doubt.file.gate ≡ 1 = sym doubt_gate ∙ is.0 refl in let whole = doubt.file.whole one in
       record {
-        place = omega (arith, length-front_push payloads payload, doubt.place, doubt.after);
+        place = omega (
+          arith,
+          length-front_push Second payloads payload,
+          length-framed Second (length payloads) payload,
+          doubt.place,
+          doubt.after,
+        );
         file = record {
           sizes = ArePayloads-push payloads payload doubt.file.sizes doubt.file.size;
           gate = whole.0;
           rest = whole.1;
           is = doubt.file.is ∙ (ap (λ (byte : ℕ). front payloads ++ byte ∷ doubt.file.rest) one
               ∙ (ap (λ (list : List ℕ). front payloads ++ 1 ∷ list) whole.2
-              ∙ sym (front_push payloads payload (whole.0 ∷ whole.1))));
+              ∙ sym (front_push Second payloads payload (whole.0 ∷ whole.1))));
           closed = whole.3;
         };
         synced = λ image left. left;

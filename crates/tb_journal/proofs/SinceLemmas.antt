@@ -6,14 +6,16 @@ use Rattle.tb_disk.specs.Steps.{Synced}
 use Rattle.tb_disk.specs.Past.{Past, Then, contents_of, Leaves}
 use Rattle.tb_disk.specs.Disks.{DiskState, Reaches}
 use Rattle.tb_disk.proofs.Moments.{Leaves-start, Leaves-both, Leaves-weaker}
+use Rattle.tb_journal.specs.declared.form.Form.TheVariants.{Second}
 use Rattle.tb_journal.specs.Frames.{front}
 use Rattle.tb_journal.specs.Image.{StandsFor}
-use Rattle.tb_journal.specs.Journal.{Told, WithOrWithout, Holds, InDoubt, KeepsAt, Adds, Doubts, StaysInDoubt, LeavesInDoubt, SyncsOrNot}
-use Rattle.tb_journal.specs.Opening.{Finds}
+use Rattle.tb_journal.specs.Journal.{Told, WithOrWithout, Holds, InDoubt, KeepsAt, Adds, Doubts, StaysInDoubt, LeavesInDoubt, SyncsOrNot, HoldsSoMany}
+use Rattle.tb_journal.specs.Opening.{Finds, FindsSoMany}
 use Rattle.tb_journal.specs.Journals.{StandsForBeginning, SinceOpening}
 use Rattle.tb_journal.proofs.ToldLemmas.{Told-both, Told-weaker, told_after, told_still}
 use Rattle.tb_journal.proofs.Calls.{held_stays}
-use Rattle.tb_journal.proofs.Gates.{IsFramed-stands}
+use Rattle.tb_journal.proofs.Gates.{IsFramedIn-stands}
+use Rattle.tb_journal.proofs.Spelling.{StandsIn-one}
 use Rattle.tb_journal.proofs.Settling.{doubtful_long, doubt_start, doubt_synced, doubt_leaves, settled}
 
 -- a beginning of the payloads, as a file stands for it, or for it and one payload more
@@ -52,12 +54,12 @@ pub recovered-within : (recovered payloads : List (List ℕ)) → take (length r
 recovered-within recovered payloads begins = omega (arith, ap length begins, length-take (length recovered) payloads)
 
 -- a call that leaves the list as it was
-pub since-kept : (gate here : ℕ) (doubt after : Option ℕ) (opened before now : Past) (payload : List ℕ)
-    → (known : SinceOpening gate doubt opened before)
+pub since-kept : (gate here ordinal : ℕ) (doubt after : Option ℕ) (opened before now : Past) (payload : List ℕ)
+    → (known : SinceOpening gate ordinal doubt opened before)
     → KeepsAt known.payloads here after now
     → Leaves (WithOrWithout known.payloads payload) before now
-    → SinceOpening here after opened now
-since-kept gate here doubt after opened before now payload known keeps leaves =
+    → SinceOpening here ordinal after opened now
+since-kept gate here ordinal doubt after opened before now payload known keeps leaves =
     let Beginning : List ℕ → Type 0 = StandsForBeginning known.recovered known.payloads in
     let enough : length known.recovered ≤ length known.payloads =
     recovered-within known.recovered known.payloads known.begins in
@@ -66,6 +68,7 @@ since-kept gate here doubt after opened before now payload known keeps leaves =
       payloads = known.payloads;
       found = known.found;
       begins = known.begins;
+      count = known.count;
       keeps = keeps;
       leaves = Leaves-both Beginning opened before now known.leaves
           (Leaves-weaker (WithOrWithout known.payloads payload) Beginning before now
@@ -73,12 +76,12 @@ since-kept gate here doubt after opened before now payload known keeps leaves =
     }
 
 -- a call that adds a payload to the list
-pub since-grown : (gate here : ℕ) (doubt : Option ℕ) (opened before now : Past) (payload : List ℕ)
-    → (known : SinceOpening gate doubt opened before)
+pub since-grown : (gate here ordinal : ℕ) (doubt : Option ℕ) (opened before now : Past) (payload : List ℕ)
+    → (known : SinceOpening gate ordinal doubt opened before)
     → Holds (known.payloads ++ payload ∷ []) here now
     → Leaves (WithOrWithout known.payloads payload) before now
-    → SinceOpening here None opened now
-since-grown gate here doubt opened before now payload known holds leaves =
+    → SinceOpening here (ordinal + 1) None opened now
+since-grown gate here ordinal doubt opened before now payload known holds leaves =
     let grown : List (List ℕ) = known.payloads ++ payload ∷ [] in
     let Old : List ℕ → Type 0 = StandsForBeginning known.recovered known.payloads in
     let New : List ℕ → Type 0 = StandsForBeginning known.recovered grown in
@@ -91,6 +94,7 @@ since-grown gate here doubt opened before now payload known holds leaves =
       payloads = grown;
       found = known.found;
       begins = take-append-le (length known.recovered) known.payloads (payload ∷ []) enough ∙ known.begins;
+      count = omega (arith, length-append known.payloads (payload ∷ []), known.count);
       keeps = holds;
       leaves = Leaves-both New opened before now (Leaves-weaker Old New opened before more known.leaves)
           (Leaves-weaker (WithOrWithout known.payloads payload) New before now
@@ -99,13 +103,14 @@ since-grown gate here doubt opened before now payload known holds leaves =
     }
 
 -- the opening itself
-pub since-opened : (payloads : List (List ℕ)) (gate : ℕ) (now : Past) → Holds payloads gate now
-    → SinceOpening gate None now now
-since-opened payloads gate now holds = record {
+pub since-opened : (payloads : List (List ℕ)) (gate ordinal : ℕ) (now : Past) → Holds payloads gate now
+    → length payloads ≡ ordinal → SinceOpening gate ordinal None now now
+since-opened payloads gate ordinal now holds count = record {
   recovered = payloads;
   payloads = payloads;
-  found = IsFramed-stands payloads (contents_of now) holds.file;
+  found = IsFramedIn-stands Second payloads (contents_of now) holds.file;
   begins = take_all (length payloads) payloads (omega arith);
+  count = count;
   keeps = holds;
   leaves = Leaves-start (StandsForBeginning payloads payloads) now
       (λ file left. StandsForBeginning-either payloads payloads [] file (omega arith)
@@ -113,33 +118,43 @@ since-opened payloads gate now holds = record {
 }
 
 -- what a journal knows of its disk, where that tells what has happened to it
-abbrev pub Knows : DiskState → DiskState → ℕ → Option ℕ → Type 0
-Knows opened disk gate doubt = Told opened disk (SinceOpening gate doubt)
+abbrev pub Knows : DiskState → DiskState → ℕ → ℕ → Option ℕ → Type 0
+Knows opened disk gate ordinal doubt = Told opened disk (SinceOpening gate ordinal doubt)
+
+-- so many payloads are held
+abbrev pub HoldsSome : ℕ → ℕ → Past → Type 0
+HoldsSome gate ordinal now = (payloads : List (List ℕ)) × Holds payloads gate now × (length payloads ≡ ordinal)
 
 -- a journal that was just opened
-pub knows_opened : (P : Past → Past → Type 0) (gate : ℕ) (old disk : DiskState)
-    → ((before now : Past) → P before now → Finds gate before now) → Told old disk P → Knows disk disk gate None
-knows_opened P gate old disk finds told =
-    told_still (SinceOpening gate None) (λ now. (payloads : List (List ℕ)) × Holds payloads gate now) disk
-    (λ now known. since-opened known.0 gate now known.1)
-    (told_after P (λ now. (payloads : List (List ℕ)) × Holds payloads gate now) old disk
-    (λ before now is. (let found = finds before now is in (found.0, found.2))) told)
+pub knows_opened : (P : Past → Past → Type 0) (gate ordinal : ℕ) (old disk : DiskState)
+    → ((before now : Past) → P before now → Finds gate before now × FindsSoMany ordinal before now) → Told old disk P
+    → Knows disk disk gate ordinal None
+knows_opened P gate ordinal old disk finds told =
+    told_still (SinceOpening gate ordinal None) (HoldsSome gate ordinal) disk
+    (λ now known. since-opened known.0 gate ordinal now known.1 known.2)
+    (told_after P (HoldsSome gate ordinal) old disk
+    (λ before now is. (let found = finds before now is in
+    (found.0.0, found.0.2, found.1 found.0.0 found.0.1))) told)
 
 -- a payload was added
-pub knows_added : (payload : List ℕ) (gate next : ℕ) (opened old new : DiskState) → Knows opened old gate None
-    → Told old new (Adds payload gate next) → Knows opened new next None
-knows_added payload gate next opened old new =
-    Told-both (SinceOpening gate None) (Adds payload gate next) (SinceOpening next None) opened old new
+pub knows_added : (payload : List ℕ) (gate next ordinal : ℕ) (opened old new : DiskState)
+    → Knows opened old gate ordinal None → Told old new (Adds payload gate next)
+    → Knows opened new next (ordinal + 1) None
+knows_added payload gate next ordinal opened old new =
+    Told-both (SinceOpening gate ordinal None) (Adds payload gate next) (SinceOpening next (ordinal + 1) None)
+    opened old new
     (λ first before now known adds. (let both = adds known.payloads known.keeps in
-    since-grown gate next None first before now payload known both.0 both.1))
+    since-grown gate next ordinal None first before now payload known both.0 both.1))
 
 -- a payload is in doubt
-pub knows_doubted : (payload : List ℕ) (gate next : ℕ) (opened old new : DiskState) → Knows opened old gate None
-    → Told old new (Doubts payload gate next) → Knows opened new gate (Some next)
-knows_doubted payload gate next opened old new =
-    Told-both (SinceOpening gate None) (Doubts payload gate next) (SinceOpening gate (Some next)) opened old new
+pub knows_doubted : (payload : List ℕ) (gate next ordinal : ℕ) (opened old new : DiskState)
+    → Knows opened old gate ordinal None → Told old new (Doubts payload gate next)
+    → Knows opened new gate ordinal (Some next)
+knows_doubted payload gate next ordinal opened old new =
+    Told-both (SinceOpening gate ordinal None) (Doubts payload gate next) (SinceOpening gate ordinal (Some next))
+    opened old new
     (λ first before now known doubts. (let both = doubts known.payloads known.keeps in
-    since-kept gate gate None (Some next) first before now payload known (payload, both.0) both.1))
+    since-kept gate gate ordinal None (Some next) first before now payload known (payload, both.0) both.1))
 
 -- what `gate_is_open` says
 abbrev pub Looks : ℕ → Bool → Past → Past → Type 0
@@ -184,31 +199,35 @@ still_doubt payloads payload gate next before now (inr synced) doubt = (
 )
 
 -- the payload in doubt counts
-pub knows_counts : (gate next : ℕ) (opened old new : DiskState) → Knows opened old gate (Some next)
-    → Told old new (Looks gate true) → Knows opened new next None
-knows_counts gate next opened old new =
-    Told-both (SinceOpening gate (Some next)) (Looks gate true) (SinceOpening next None) opened old new
-    (λ first before now known looks. since-grown gate next (Some next) first before now known.keeps.0 known
+pub knows_counts : (gate next ordinal : ℕ) (opened old new : DiskState) → Knows opened old gate ordinal (Some next)
+    → Told old new (Looks gate true) → Knows opened new next (ordinal + 1) None
+knows_counts gate next ordinal opened old new =
+    Told-both (SinceOpening gate ordinal (Some next)) (Looks gate true) (SinceOpening next (ordinal + 1) None)
+    opened old new
+    (λ first before now known looks. since-grown gate next ordinal (Some next) first before now known.keeps.0 known
     (looks_settle gate next true before now looks known.payloads known.keeps.0 known.keeps.1)
     (still_doubt known.payloads known.keeps.0 gate next before now (inr looks.0) known.keeps.1).1)
 
 -- the payload in doubt doesn't count
-pub knows_counts_not : (gate next : ℕ) (opened old new : DiskState) → Knows opened old gate (Some next)
-    → Told old new (Looks gate false) → Knows opened new gate None
-knows_counts_not gate next opened old new =
-    Told-both (SinceOpening gate (Some next)) (Looks gate false) (SinceOpening gate None) opened old new
-    (λ first before now known looks. since-kept gate gate (Some next) None first before now known.keeps.0 known
+pub knows_counts_not : (gate next ordinal : ℕ) (opened old new : DiskState) → Knows opened old gate ordinal (Some next)
+    → Told old new (Looks gate false) → Knows opened new gate ordinal None
+knows_counts_not gate next ordinal opened old new =
+    Told-both (SinceOpening gate ordinal (Some next)) (Looks gate false) (SinceOpening gate ordinal None)
+    opened old new
+    (λ first before now known looks. since-kept gate gate ordinal (Some next) None first before now known.keeps.0 known
     (looks_settle gate next false before now looks known.payloads known.keeps.0 known.keeps.1)
     (still_doubt known.payloads known.keeps.0 gate next before now (inr looks.0) known.keeps.1).1)
 
 -- the payload in doubt is in doubt still
-pub knows_still : (gate next : ℕ) (opened old new : DiskState) → Knows opened old gate (Some next)
-    → Told old new SyncsOrNot → Knows opened new gate (Some next)
-knows_still gate next opened old new =
-    Told-both (SinceOpening gate (Some next)) SyncsOrNot (SinceOpening gate (Some next)) opened old new
+pub knows_still : (gate next ordinal : ℕ) (opened old new : DiskState) → Knows opened old gate ordinal (Some next)
+    → Told old new SyncsOrNot → Knows opened new gate ordinal (Some next)
+knows_still gate next ordinal opened old new =
+    Told-both (SinceOpening gate ordinal (Some next)) SyncsOrNot (SinceOpening gate ordinal (Some next))
+    opened old new
     (λ first before now known part.
     (let both = still_doubt known.payloads known.keeps.0 gate next before now part known.keeps.1 in
-    since-kept gate gate (Some next) (Some next) first before now known.keeps.0 known (known.keeps.0, both.0) both.1))
+    since-kept gate gate ordinal (Some next) (Some next) first before now known.keeps.0 known
+    (known.keeps.0, both.0) both.1))
 
 -- after a look that failed the payload is in doubt still
 pub doubts_still : (gate next : ℕ) (old new : DiskState) → Told old new SyncsOrNot
@@ -230,11 +249,12 @@ leaves_looked gate next counts old new = Told-weaker (Looks gate counts) (Leaves
     (inr looks.0) doubt).1)
 
 -- the byte that was read is the standing gate byte
-pub byte_known : (gate next : ℕ) (counts : Bool) (opened old new : DiskState) → Knows opened old gate (Some next)
+pub byte_known : (gate next ordinal : ℕ) (counts : Bool) (opened old new : DiskState)
+    → Knows opened old gate ordinal (Some next)
     → Told old new (Looks gate counts)
     → IfSome old.past (λ past. IsTrue counts ↔ (slice_index (contents_of past) gate ≡ 1))
-byte_known gate next counts opened old new known looks = go old.past refl
-    (told_after (SinceOpening gate (Some next)) (λ past. gate < length (contents_of past)) opened old
+byte_known gate next ordinal counts opened old new known looks = go old.past refl
+    (told_after (SinceOpening gate ordinal (Some next)) (λ past. gate < length (contents_of past)) opened old
     (λ first now since. doubtful_long since.payloads since.keeps.0
     (contents_of now) gate since.keeps.1.place since.keeps.1.file) known)
   where
@@ -255,7 +275,18 @@ reaches_gate payloads gate past holds =
     )
 
 -- the same of its disk
-pub reaches_behind : (opened disk : DiskState) (gate : ℕ) → Knows opened disk gate None → Reaches disk (gate + 1)
-reaches_behind opened disk gate = told_after (SinceOpening gate None)
+pub reaches_behind : (opened disk : DiskState) (gate ordinal : ℕ) → Knows opened disk gate ordinal None
+    → Reaches disk (gate + 1)
+reaches_behind opened disk gate ordinal = told_after (SinceOpening gate ordinal None)
     (λ past. gate + 1 ≤ length (contents_of past)) opened disk
     (λ first now since. reaches_gate since.payloads gate now since.keeps)
+
+-- the payloads that a journal at rest holds are so many
+pub knows_many : (opened disk : DiskState) (gate ordinal : ℕ) → Knows opened disk gate ordinal None
+    → IfSome disk.past (HoldsSoMany gate ordinal)
+knows_many opened disk gate ordinal = told_after (SinceOpening gate ordinal None) (HoldsSoMany gate ordinal)
+    opened disk
+    (λ first now since payloads holds.
+    ap length (StandsIn-one Second payloads since.payloads (contents_of now)
+    (IsFramedIn-stands Second payloads (contents_of now) holds.file)
+    (IsFramedIn-stands Second since.payloads (contents_of now) since.keeps.file)) ∙ since.count)

@@ -14,7 +14,7 @@ pub record IsDoubtful (payloads : List (List ℕ)) (payload file : List ℕ) : T
   pub rest : List ℕ
   pub is : file ≡ front payloads ++ gate ∷ rest
   pub whole : gate ≡ open_gate
-      → (next : ℕ) × (more : List ℕ) × (rest ≡ framed payload ++ next ∷ more) × (next ≢ open_gate)
+      → (next : ℕ) × (more : List ℕ) × (rest ≡ framed (length payloads) payload ++ next ∷ more) × (next ≢ open_gate)
 
 -- the file stands for the payloads, with one more or without it
 abbrev pub WithOrWithout : List (List ℕ) → List ℕ → List ℕ → Type 0
@@ -29,7 +29,7 @@ pub record Holds (payloads : List (List ℕ)) (gate : ℕ) (past : Past) : Type 
 -- the payloads and a gate at this place, and one more payload that may count or not; behind it the gate is at `next`
 pub record InDoubt (payloads : List (List ℕ)) (payload : List ℕ) (gate next : ℕ) (past : Past) : Type 0 where
   pub place : length (front payloads) ≡ gate
-  pub after : gate + 1 + length (framed payload) ≡ next
+  pub after : gate + 13 + length payload ≡ next
   pub file : IsDoubtful payloads payload (contents_of past)
   pub images : (c : List ℕ) → MayLeave past c → IsDoubtful payloads payload c
 
@@ -40,9 +40,13 @@ pub record IsStaged (payloads : List (List ℕ)) (payload : List ℕ) (gate : �
   pub size : IsPayload payload
   pub closed : ℕ
   pub more : List ℕ
-  pub is : contents_of past ≡ front payloads ++ closed ∷ (framed payload ++ closed_gate ∷ more)
+  pub is : contents_of past ≡ front payloads ++ closed ∷ (framed (length payloads) payload ++ closed_gate ∷ more)
   pub shut : closed ≢ open_gate
   pub synced : IsSynced past
+
+-- so many payloads stand before the gate at this place
+abbrev pub HoldsSoMany : ℕ → ℕ → Past → Type 0
+HoldsSoMany gate ordinal past = (payloads : List (List ℕ)) → Holds payloads gate past → length payloads ≡ ordinal
 
 -- what a call did to a disk: one that told what had happened to it tells it again, and then P holds of both; one
 -- that told nothing tells nothing
@@ -50,9 +54,10 @@ pub record Told (old new : DiskState) (P : Past → Past → Type 0) : Type 0 wh
   pub silent : old.past ≡ None → new.past ≡ None
   pub told : (before : Past) → old.past ≡ Some before → (now : Past) × (new.past ≡ Some now) × P before now
 
--- the frame of a payload and a closed gate were written behind the gate, and synced
-abbrev pub staged_past : List ℕ → ℕ → Past → Past
-staged_past payload gate before = Then Synced (Then (Wrote (gate + 1) (framed payload ++ closed_gate ∷ [])) before)
+-- the frame of a payload with this ordinal, and a closed gate, were written behind the gate, and synced
+abbrev pub staged_past : ℕ → List ℕ → ℕ → Past → Past
+staged_past ordinal payload gate before =
+    Then Synced (Then (Wrote (gate + 1) (framed ordinal payload ++ closed_gate ∷ [])) before)
 
 -- the byte 1 was written on the gate, and synced
 abbrev pub opened_past : ℕ → Past → Past
@@ -120,10 +125,10 @@ WritesInPart place bytes before now =
 
 -- the disk failed while a payload was added: the frame was written in part, or it was staged and the gate opened in
 -- part
-abbrev pub AddsInPart : List ℕ → ℕ → Past → Past → Type 0
-AddsInPart payload gate before now =
-    WritesInPart (gate + 1) (framed payload ++ closed_gate ∷ []) before now
-    ⊎ WritesInPart gate (open_gate ∷ []) (staged_past payload gate before) now
+abbrev pub AddsInPart : ℕ → List ℕ → ℕ → Past → Past → Type 0
+AddsInPart ordinal payload gate before now =
+    WritesInPart (gate + 1) (framed ordinal payload ++ closed_gate ∷ []) before now
+    ⊎ WritesInPart gate (open_gate ∷ []) (staged_past ordinal payload gate before) now
 
 -- all was put on the disk, or nothing happened
 abbrev pub SyncsOrNot : Past → Past → Type 0

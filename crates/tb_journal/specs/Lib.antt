@@ -4,4 +4,7 @@ pub mod Journal
 pub mod Journals
 pub mod Opening
 pub mod Places
+pub mod Windows
 pub mod Answers
+pub mod Writing
+pub mod WriterSteps

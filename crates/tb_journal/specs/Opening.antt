@@ -18,6 +18,11 @@ Measures size before now = (now ≡ Then Synced before) × (size ≡ length (con
 abbrev pub Finds : ℕ → Past → Past → Type 0
 Finds gate before now = (payloads : List (List ℕ)) × StandsFor payloads (contents_of before) × Holds payloads gate now
 
+-- so many payloads were found
+abbrev pub FindsSoMany : ℕ → Past → Past → Type 0
+FindsSoMany ordinal before now = (payloads : List (List ℕ)) → StandsFor payloads (contents_of before)
+    → length payloads ≡ ordinal
+
 -- an empty journal: the header and a closed gate
 abbrev pub empty_journal : List ℕ
 empty_journal = header ++ closed_gate ∷ []
@@ -26,7 +31,7 @@ empty_journal = header ++ closed_gate ∷ []
 abbrev pub made_past : Past → Past
 made_past before = Then Synced (Then (Wrote 0 empty_journal) before)
 
--- All was put on the disk; over at most 17 bytes an empty journal was made then, and over more nothing was written.
+-- All was put on the disk; over at most 18 bytes an empty journal was made then, and over more nothing was written.
 pub record Opens (before now : Past) : Type 0 where
   pub kept : empty_size < length (contents_of before) → now ≡ Then Synced before
   pub made : length (contents_of before) ≤ empty_size → now ≡ made_past (Then Synced before)
@@ -35,11 +40,11 @@ pub record Opens (before now : Past) : Type 0 where
 abbrev pub MadeInPart : Past → Past → Type 0
 MadeInPart before now =
     (now ≡ before)
-    ⊎ ((left : List ℕ) × Torn 0 17 17 (contents_of before) left × (now ≡ Then (Tore 0 17 left) before))
+    ⊎ ((left : List ℕ) × Torn 0 18 18 (contents_of before) left × (now ≡ Then (Tore 0 18 left) before))
     ⊎ (now ≡ Then (Wrote 0 empty_journal) before)
 
--- An opening that a failing disk or want of memory broke off. Over more than 17 bytes all was put on the disk, or
--- nothing happened; over at most 17 it did nothing, or put all on the disk and made none, a part or the whole of an
+-- An opening that a failing disk or want of memory broke off. Over more than 18 bytes all was put on the disk, or
+-- nothing happened; over at most 18 it did nothing, or put all on the disk and made none, a part or the whole of an
 -- empty journal.
 pub record BreaksOff (before now : Past) : Type 0 where
   pub kept : empty_size < length (contents_of before) → SyncsOrNot before now

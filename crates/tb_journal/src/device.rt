@@ -4,54 +4,60 @@ ghost use Rattle.tb_link.specs.Counts.{Rose, NeverFalls};
 ghost use Rattle.tb_disk.specs.Steps.{Synced};
 ghost use Rattle.tb_disk.specs.Past.{Then, contents_of};
 ghost use Rattle.tb_disk.specs.Disks.{Reaches};
-ghost use Rattle.tb_journal.specs.Frames.{IsPayload, framed};
+ghost use Rattle.tb_journal.specs.Frames.{IsPayload, framed, head_of};
 ghost use Rattle.tb_journal.specs.Image.{length_in};
-ghost use Rattle.tb_journal.specs.Places.{IsPlace, GivesFrame, StandsBetween};
-ghost use Rattle.tb_journal.specs.Journal.{Told, Stages, Doubts, Counts, MaybeCounts, WritesInPart, SyncsOrNot, staged_past, opened_past};
+ghost use Rattle.tb_journal.specs.Places.{IsPlaceIn, GivesFrameIn, StandsBetweenIn};
+ghost use Rattle.tb_journal.specs.Windows.{Shows};
+ghost use Rattle.tb_journal.specs.Journal.{Told, HoldsSoMany, Stages, Doubts, Counts, MaybeCounts, WritesInPart, SyncsOrNot, staged_past, opened_past};
 
-use crate::frames::{CLOSED, FRAME_HEAD, OPEN, Window, payload_size};
+use crate::form::Form;
+use crate::frames::{CLOSED, OPEN, payload_size};
+use crate::window::Window;
 use tb_disk::Disk;
 use tb_link::Failed;
 
 /// The bytes of a frame without its gate byte, and a closed gate: what is written behind the standing gate.
-#[tactic(auto, unfolding(crate::specs::Frames::framed))]
-pub fn spell(block: &mut Vec<u8>, payload: &[u8])
+#[tactic(auto, unfolding(crate::specs::Frames::head_in))]
+pub fn spell(block: &mut Vec<u8>, ordinal: u64, payload: &[u8])
     requires size { IsPayload payload.now }
-    requires room { length payload.now + 5 ≤ vec_capacity block.old }
-    ensures bytes { block.new.items ≡ framed payload.now ++ 0 ∷ [] }
+    requires room { length payload.now + 13 ≤ vec_capacity block.old }
+    ensures bytes { block.new.items ≡ framed ordinal payload.now ++ 0 ∷ [] }
     ensures room { vec_capacity block.old ≤ vec_capacity block.new }
 {
     block.clear();
     let length = payload.len() as u32;
     block.extend_from_slice(&length.to_be_bytes()).unwrap();
+    block.extend_from_slice(&ordinal.to_be_bytes()).unwrap();
     block.extend_from_slice(payload).unwrap();
     block.push(CLOSED).unwrap();
 }
 
-/// Puts the frame of a payload behind the closed gate.
+/// Puts the frame of a payload behind the closed gate, before which so many frames stand.
 pub fn stage<D: Disk>(
     disk: &mut D,
     gate: u64,
+    ordinal: u64,
     payload: &[u8],
     block: &mut Vec<u8>,
 ) -> Result<(), Failed>
     requires size { IsPayload payload.now }
-    requires room { length payload.now + 5 ≤ vec_capacity block.old }
+    requires room { length payload.now + 13 ≤ vec_capacity block.old }
     requires place { Reaches (D.disk disk.old) (gate + 1) }
-    requires end { gate + 6 + length payload.now < 2 ^ 42 }
+    requires many { IfSome (D.disk disk.old).past (HoldsSoMany gate ordinal) }
+    requires end { gate + 14 + length payload.now < 2 ^ 42 }
     ensures ok { OnOk result (Told (D.disk disk.old) (D.disk disk.new) (Stages payload.now gate)) }
     ensures steps { OnOk result (Told (D.disk disk.old) (D.disk disk.new)
-        (λ before now. now ≡ staged_past payload.now gate before)) }
+        (λ before now. now ≡ staged_past ordinal payload.now gate before)) }
     ensures err { OnErr result (Told (D.disk disk.old) (D.disk disk.new)
-        (Doubts payload.now gate (gate + 5 + length payload.now))) }
+        (Doubts payload.now gate (gate + 13 + length payload.now))) }
     ensures steps_failed { OnErr result (Told (D.disk disk.old) (D.disk disk.new)
-        (WritesInPart (gate + 1) (framed payload.now ++ 0 ∷ []))) }
+        (WritesInPart (gate + 1) (framed ordinal payload.now ++ 0 ∷ []))) }
     ensures fault { OnErr result (Rose (D.disk disk.old).faults (D.disk disk.new).faults) }
     ensures no_fault { OnOk result ((D.disk disk.new).faults ≡ (D.disk disk.old).faults) }
     ensures count { NeverFalls (D.disk disk.old).faults (D.disk disk.new).faults }
     ensures room { vec_capacity block.old ≤ vec_capacity block.new }
 {
-    spell(block, payload);
+    spell(block, ordinal, payload);
     disk.write_at(gate + 1, block)?;
     // The frame is on the disk before its gate opens.
     disk.sync()
@@ -62,11 +68,11 @@ pub fn open_gate<D: Disk>(disk: &mut D, gate: u64) -> Result<(), Failed>
     requires place { Reaches (D.disk disk.old) gate }
     requires end { gate + 1 < 2 ^ 42 }
     ensures ok { OnOk result ((payload : List ℕ) → Told (D.disk disk.old) (D.disk disk.new)
-        (Counts payload gate (gate + 5 + length payload))) }
+        (Counts payload gate (gate + 13 + length payload))) }
     ensures steps { OnOk result (Told (D.disk disk.old) (D.disk disk.new)
         (λ before now. now ≡ opened_past gate before)) }
     ensures err { OnErr result ((payload : List ℕ) → Told (D.disk disk.old) (D.disk disk.new)
-        (MaybeCounts payload gate (gate + 5 + length payload))) }
+        (MaybeCounts payload gate (gate + 13 + length payload))) }
     ensures steps_failed { OnErr result (Told (D.disk disk.old) (D.disk disk.new) (WritesInPart gate (1 ∷ []))) }
     ensures fault { OnErr result (Rose (D.disk disk.old).faults (D.disk disk.new).faults) }
     ensures no_fault { OnOk result ((D.disk disk.new).faults ≡ (D.disk disk.old).faults) }
@@ -81,46 +87,51 @@ pub fn open_gate<D: Disk>(disk: &mut D, gate: u64) -> Result<(), Failed>
 /// that reads as none is given as no bytes that end at the gate.
 pub fn read_frame<D: Disk>(
     disk: &mut D,
+    form: Form,
     place: u64,
     gate: u64,
     into: &mut Window,
 ) -> Result<(usize, u64), Failed>
     requires before { place < gate }
-    requires place { IfSome (D.disk disk.old).past (IsPlace gate place) }
+    requires place { IfSome (D.disk disk.old).past (IsPlaceIn form gate place) }
+    requires window { Shows (D.disk disk.old) into.old }
     ensures frame { IfOk result (λ found. IfSome (D.disk disk.old).past
-        (GivesFrame gate place into.new.bytes found.0 found.1)) }
-    ensures between { IfOk result (λ found. StandsBetween gate place found.0 found.1 × (found.1 ≤ gate)) }
+        (GivesFrameIn form gate place into.new.payload found.1)) }
+    ensures size { IfOk result (λ found. found.0 ≡ length into.new.payload) }
+    ensures between { IfOk result (λ found. StandsBetweenIn form gate place found.0 found.1 × (found.1 ≤ gate)) }
+    ensures window { Shows (D.disk disk.new) into.new }
     ensures kept { (D.disk disk.new).past ≡ (D.disk disk.old).past }
     ensures fault { OnErr result (Rose (D.disk disk.old).faults (D.disk disk.new).faults) }
     ensures no_fault { OnOk result ((D.disk disk.new).faults ≡ (D.disk disk.old).faults) }
     ensures count { NeverFalls (D.disk disk.old).faults (D.disk disk.new).faults }
 {
-    let mut head = [CLOSED; FRAME_HEAD];
-    let count = disk.read(place, &mut head)?;
-    let Some(size) = payload_within(&head, count, gate - place) else {
+    let before = 1 + form.head_size();
+    into.fill(disk, place, before)?;
+    let Some(size) = payload_within(form, into.bytes_at(place, before), gate - place) else {
+        into.take_none();
         return Ok((0, gate));
     };
-    let count = disk.read(place + FRAME_HEAD as u64, &mut into.bytes[..size])?;
-    if count < size {
+    into.fill(disk, place, before + size)?;
+    if !into.take_payload(place + before as u64, size) {
+        into.take_none();
         return Ok((0, gate));
     }
-    Ok((size, place + (FRAME_HEAD + size) as u64))
+    Ok((size, place + (before + size) as u64))
 }
 
-// How long a payload is, by so many bytes of the head of its frame: none where these say no length of a payload, or one
-// that needs more than the room.
-fn payload_within(head: &[u8; 5], count: usize, room: u64) -> Option<usize>
-    requires { count ≤ 5 }
-    ensures found { IfSome result (λ size. (count ≡ 5) × (size ≡ length_in (drop 1 head.now))
-        × (1 ≤ size) × (size ≤ 32768) × (5 + size ≤ room)) }
-    ensures none { IfNone result ((count < 5) ⊎ (length_in (drop 1 head.now) < 1)
-        ⊎ (32768 < length_in (drop 1 head.now)) ⊎ (room < 5 + length_in (drop 1 head.now))) }
+// How long a payload is, by the bytes of its frame up to it: none where these say no length of a payload, or one that
+// needs more than the room.
+fn payload_within(form: Form, bytes: &[u8], room: u64) -> Option<usize>
+    ensures found { IfSome result (λ size. (1 + head_of form ≤ length bytes.now) × (size ≡ length_in (drop 1 bytes.now))
+        × (1 ≤ size) × (size ≤ 32768) × (1 + head_of form + size ≤ room)) }
+    ensures none { IfNone result ((length bytes.now < 1 + head_of form) ⊎ (length_in (drop 1 bytes.now) < 1)
+        ⊎ (32768 < length_in (drop 1 bytes.now)) ⊎ (room < 1 + head_of form + length_in (drop 1 bytes.now))) }
 {
-    if count < FRAME_HEAD {
+    if bytes.is_empty() {
         return None;
     }
-    let size = payload_size(&head[1..])?;
-    if (FRAME_HEAD + size) as u64 > room {
+    let size = payload_size(form, &bytes[1..])?;
+    if (1 + form.head_size() + size) as u64 > room {
         return None;
     }
     Some(size)

@@ -26,9 +26,12 @@ impl Error for DiskFault {}
 pub enum JournalFault {
     /// The disk failed, and its count of faults has risen.
     DiskFault,
-    /// More than 17 bytes that don't begin with the header, but with these.
+    /// It is longer than an empty journal and doesn't begin with the title, but with these bytes.
     NotAJournal([u8; 16]),
-    /// At this place a gate byte is missing, or an open one stands before no frame.
+    /// It is longer than an empty journal and begins with the title, but this byte, which isn't 1, stands in the place
+    /// of the seal.
+    Unsealed(u8),
+    /// At this place a gate byte is missing, or an open one stands before no frame with the ordinal of that place.
     Damaged(u64),
     OutOfMemory,
 }

@@ -1,12 +1,10 @@
-//! Where frames stand, and the window into which their payloads are read.
-ghost use Rattle.std.specs.Prelude.{◌≡◌, ◌⊎◌, ◌<◌, ◌≤◌, length, take, IfSome, IfNone};
-ghost use Rattle.std.specs.Int.{w32, to_be_bytes};
+//! The heads of frames, in either form of a journal.
+ghost use Rattle.std.specs.Prelude.{◌≡◌, ◌≢◌, ◌⊎◌, ◌<◌, ◌≤◌, length, take, IfSome, IfNone};
+ghost use Rattle.std.specs.Bool.{Decides};
+ghost use Rattle.tb_journal.specs.Frames.{head_of, head_in};
 ghost use Rattle.tb_journal.specs.Image.{length_in};
 
-pub(crate) const HEADER: [u8; 16] = *b"TBHOSTJOURNAL001";
-
-/// The place of the first gate byte, behind the header.
-pub(crate) const FIRST_GATE: u64 = 16;
+use crate::form::Form;
 
 /// The gate byte before a frame that counts.
 pub(crate) const OPEN: u8 = 1;
@@ -18,29 +16,64 @@ const SHORTEST_PAYLOAD: usize = 1;
 
 pub(crate) const LONGEST_PAYLOAD: usize = 32_768;
 
-/// How many bytes of a frame stand before its payload: the gate byte and four bytes of length.
-pub(crate) const FRAME_HEAD: usize = 5;
+/// How many bytes of a frame of the second form stand before its payload: the gate byte, the length and the ordinal.
+pub(crate) const FRAME_HEAD: usize = 13;
 
-/// Room for the longest payload.
-#[derive(Drop)]
-pub struct Window {
-    pub bytes: [u8; 32768],
+// The number in the first four bytes.
+fn size_in(bytes: &[u8]) -> usize
+    requires { 4 ≤ length bytes.now }
+    ensures { result ≡ length_in bytes.now }
+{
+    let (size, _) = bytes.split_at(4);
+    u32::from_be_bytes([size[0], size[1], size[2], size[3]]) as usize
 }
 
-/// How long a payload is, by the bytes behind its gate byte: none where they are fewer than four, or say no length that
-/// a payload may have.
-pub(crate) fn payload_size(bytes: &[u8]) -> Option<usize>
-    ensures found { IfSome result (λ size. (4 ≤ length bytes.now) × (size ≡ length_in bytes.now)
-        × (1 ≤ size) × (size ≤ 32768)) }
-    ensures spelled { IfSome result (λ size. take 4 bytes.now ≡ to_be_bytes w32 size) }
-    ensures none { IfNone result ((length bytes.now < 4) ⊎ (length_in bytes.now < 1) ⊎ (32768 < length_in bytes.now)) }
+// Whether a head has this ordinal behind its length. In the first form it has none.
+#[tactic(auto, unfolding(crate::specs::Frames::head_in))]
+fn has_ordinal(form: Form, ordinal: u64, bytes: &[u8], size: usize) -> bool
+    requires long { head_of form ≤ length bytes.now }
+    requires size { size ≡ length_in bytes.now }
+    requires few { size ≤ 32768 }
+    ensures { Decides result (take (head_of form) bytes.now ≡ head_in form ordinal size) }
 {
-    if bytes.len() < 4 {
+    match form {
+        Form::First => true,
+        Form::Second => {
+            let (head, _) = bytes.split_at(12);
+            let (_, found) = head.split_at(4);
+            found == ordinal.to_be_bytes().as_slice()
+        }
+    }
+}
+
+/// How long a payload is, by the bytes behind its gate byte: none where they are fewer than a head, or say no length
+/// that a payload may have.
+pub(crate) fn payload_size(form: Form, bytes: &[u8]) -> Option<usize>
+    ensures found { IfSome result (λ size. (head_of form ≤ length bytes.now) × (size ≡ length_in bytes.now)
+        × (1 ≤ size) × (size ≤ 32768)) }
+    ensures none { IfNone result ((length bytes.now < head_of form) ⊎ (length_in bytes.now < 1)
+        ⊎ (32768 < length_in bytes.now)) }
+{
+    if bytes.len() < form.head_size() {
         return None;
     }
-    let (head, _) = bytes.split_at(4);
-    let size = u32::from_be_bytes([head[0], head[1], head[2], head[3]]) as usize;
+    let size = size_in(bytes);
     if size < SHORTEST_PAYLOAD || size > LONGEST_PAYLOAD {
+        return None;
+    }
+    Some(size)
+}
+
+/// The same where the frame has to have this ordinal.
+pub(crate) fn numbered_size(form: Form, ordinal: u64, bytes: &[u8]) -> Option<usize>
+    ensures found { IfSome result (λ size. (size ≡ length_in bytes.now) × (1 ≤ size) × (size ≤ 32768)) }
+    ensures spelled { IfSome result (λ size. take (head_of form) bytes.now ≡ head_in form ordinal size) }
+    ensures none { IfNone result ((length bytes.now < head_of form) ⊎ (length_in bytes.now < 1)
+        ⊎ (32768 < length_in bytes.now)
+        ⊎ (take (head_of form) bytes.now ≢ head_in form ordinal (length_in bytes.now))) }
+{
+    let size = payload_size(form, bytes)?;
+    if !has_ordinal(form, ordinal, bytes, size) {
         return None;
     }
     Some(size)

@@ -5,13 +5,16 @@ ghost use Rattle.tb_disk.specs.Steps.{Synced};
 ghost use Rattle.tb_disk.specs.Past.{Then, contents_of};
 ghost use Rattle.tb_disk.specs.Disks.{Reaches};
 ghost use Rattle.tb_journal.specs.Frames.{IsPayload};
-ghost use Rattle.tb_journal.specs.Journal.{Told, Adds, Doubts, Stays, LeavesOldOrNew, Settles, StaysInDoubt, LeavesInDoubt, AddsInPart, SyncsOrNot, staged_past, opened_past};
+ghost use Rattle.tb_journal.specs.Journal.{Told, HoldsSoMany, Adds, Doubts, Stays, LeavesOldOrNew, Settles, StaysInDoubt, LeavesInDoubt, AddsInPart, SyncsOrNot, staged_past, opened_past};
 ghost use Rattle.tb_journal.specs.Journals.{SinceOpening, IsJournal};
 ghost use Rattle.tb_journal.specs.Places.{StandsAt, GivesFrame, StandsBetween};
+ghost use Rattle.tb_journal.specs.Windows.{Shows};
 
 use crate::device::{gate_is_open, open_gate, read_frame, stage};
 use crate::fault::DiskFault;
-use crate::frames::{FRAME_HEAD, LONGEST_PAYLOAD, Window};
+use crate::form::Form;
+use crate::frames::{FRAME_HEAD, LONGEST_PAYLOAD};
+use crate::window::Window;
 use std::marker::Model;
 use std::snapshot::Snapshot;
 use tb_disk::Disk;
@@ -20,13 +23,14 @@ use tb_link::Failed;
 // Room for the longest frame and a closed gate.
 pub(crate) const BLOCK: usize = LONGEST_PAYLOAD + FRAME_HEAD;
 
-/// A list of payloads on a disk. It keeps the place of its gate byte and, while a payload may count or not, the place
-/// of the gate byte behind that payload; and for contracts the disk as the opening left it. Of the payloads it keeps
-/// nothing.
+/// A list of payloads on a disk. It keeps the place of its gate byte, the ordinal of the frame that will stand there
+/// and, while a payload may count or not, the place of the gate byte behind that payload; and for contracts the disk as
+/// the opening left it. Of the payloads it keeps nothing.
 #[derive(Drop)]
 pub struct Journal<D: Disk> {
     disk: D,
     gate: u64,
+    ordinal: u64,
     doubt: Option<u64>,
     block: Vec<u8>,
     opened: Snapshot<D>,
@@ -40,43 +44,60 @@ impl<D: Disk> Model for Journal<D> {
 
     ghost coded = { journal_code D.code };
 
-    ghost view = { λ a. record { disk = a.disk; opened = a.opened.value; gate = a.gate; doubt = a.doubt } };
+    ghost view = { λ a. record {
+      disk = a.disk;
+      opened = a.opened.value;
+      gate = a.gate;
+      ordinal = a.ordinal;
+      doubt = a.doubt;
+    } };
 
-    ghost invariant = { λ a. IsJournal (D.disk a.disk) (D.disk a.opened.value) a.gate a.doubt (vec_capacity a.block) };
+    ghost invariant = { λ a. IsJournal (D.disk a.disk) (D.disk a.opened.value) a.gate a.ordinal a.doubt
+        (vec_capacity a.block) };
 }
 
 // The four device calls that add a payload.
-fn add<D: Disk>(disk: &mut D, gate: u64, payload: &[u8], block: &mut Vec<u8>) -> Result<(), Failed>
+fn add<D: Disk>(
+    disk: &mut D,
+    gate: u64,
+    ordinal: u64,
+    payload: &[u8],
+    block: &mut Vec<u8>,
+) -> Result<(), Failed>
     requires size { IsPayload payload.now }
-    requires room { length payload.now + 5 ≤ vec_capacity block.old }
+    requires room { length payload.now + 13 ≤ vec_capacity block.old }
     requires place { Reaches (D.disk disk.old) (gate + 1) }
-    requires end { gate + 6 + length payload.now < 2 ^ 42 }
+    requires many { IfSome (D.disk disk.old).past (HoldsSoMany gate ordinal) }
+    requires end { gate + 14 + length payload.now < 2 ^ 42 }
     ensures ok { OnOk result (Told (D.disk disk.old) (D.disk disk.new)
-        (Adds payload.now gate (gate + 5 + length payload.now))) }
+        (Adds payload.now gate (gate + 13 + length payload.now))) }
     ensures steps { OnOk result (Told (D.disk disk.old) (D.disk disk.new)
-        (λ before now. now ≡ opened_past gate (staged_past payload.now gate before))) }
+        (λ before now. now ≡ opened_past gate (staged_past ordinal payload.now gate before))) }
     ensures err { OnErr result (Told (D.disk disk.old) (D.disk disk.new)
-        (Doubts payload.now gate (gate + 5 + length payload.now))) }
-    ensures steps_failed { OnErr result (Told (D.disk disk.old) (D.disk disk.new) (AddsInPart payload.now gate)) }
+        (Doubts payload.now gate (gate + 13 + length payload.now))) }
+    ensures steps_failed { OnErr result (Told (D.disk disk.old) (D.disk disk.new)
+        (AddsInPart ordinal payload.now gate)) }
     ensures fault { OnErr result (Rose (D.disk disk.old).faults (D.disk disk.new).faults) }
     ensures no_fault { OnOk result ((D.disk disk.new).faults ≡ (D.disk disk.old).faults) }
     ensures count { NeverFalls (D.disk disk.old).faults (D.disk disk.new).faults }
     ensures room { vec_capacity block.old ≤ vec_capacity block.new }
 {
-    stage(disk, gate, payload, block)?;
+    stage(disk, gate, ordinal, payload, block)?;
     open_gate(disk, gate)
 }
 
 // A journal that was just opened.
-pub(crate) fn opened<D: Disk>(disk: D, gate: u64, block: Vec<u8>) -> Journal<D>
-    requires room { 32773 ≤ vec_capacity block }
-    requires since { Told (D.disk disk) (D.disk disk) (SinceOpening gate None) }
-    ensures { result ≡ record { disk = disk; opened = disk; gate = gate; doubt = None } }
+pub(crate) fn opened<D: Disk>(disk: D, gate: u64, ordinal: u64, block: Vec<u8>) -> Journal<D>
+    requires room { 32781 ≤ vec_capacity block }
+    requires few { ordinal ≤ gate }
+    requires since { Told (D.disk disk) (D.disk disk) (SinceOpening gate ordinal None) }
+    ensures { result ≡ record { disk = disk; opened = disk; gate = gate; ordinal = ordinal; doubt = None } }
 {
     Journal {
         opened: Snapshot::of(&disk),
         disk,
         gate,
+        ordinal,
         doubt: None,
         block,
     }
@@ -87,11 +108,12 @@ impl<D: Disk> Journal<D> {
     pub fn into_disk(self) -> D
         ensures disk { result ≡ self.disk }
         // What the disk holds, and what every crash since the opening left.
-        ensures since { Told (D.disk self.opened) (D.disk result) (SinceOpening self.gate self.doubt) }
+        ensures since { Told (D.disk self.opened) (D.disk result) (SinceOpening self.gate self.ordinal self.doubt) }
     {
         let Journal {
             disk,
             gate: _,
+            ordinal: _,
             doubt: _,
             block: _,
             opened: _,
@@ -114,7 +136,7 @@ impl<D: Disk> Journal<D> {
     }
 
     /// Reads the payload of the frame at a place into the window, and gives its length and the place behind the frame.
-    /// At the standing gate there is none.
+    /// At the standing gate there is none. The window shows this disk or nothing yet.
     ///
     /// Where the disk doesn't tell its contents a frame may read otherwise than it was opened. One that reads as none
     /// is given as no bytes that end at the gate.
@@ -125,16 +147,19 @@ impl<D: Disk> Journal<D> {
     ) -> Result<Option<(usize, u64)>, DiskFault>
         requires sure { self.old.doubt ≡ None }
         requires place { StandsAt (D.disk self.old.disk) self.old.gate place }
+        requires window { Shows (D.disk self.old.disk) into.old }
         ensures end { IfOk result (λ found. IsNone found ↔ (place ≡ self.old.gate)) }
         ensures frame { IfOk result (λ found. IfSome found (λ frame. IfSome (D.disk self.old.disk).past
-            (GivesFrame self.old.gate place into.new.bytes frame.0 frame.1))) }
+            (GivesFrame self.old.gate place into.new.payload frame.1))) }
+        ensures size { IfOk result (λ found. IfSome found (λ frame. frame.0 ≡ length into.new.payload)) }
         ensures between { IfOk result (λ found. IfSome found
             (λ frame. StandsBetween self.old.gate place frame.0 frame.1)) }
         ensures next { IfOk result (λ found. IfSome found
             (λ frame. StandsAt (D.disk self.new.disk) self.new.gate frame.1)) }
+        ensures window { Shows (D.disk self.new.disk) into.new }
         ensures kept { (D.disk self.new.disk).past ≡ (D.disk self.old.disk).past }
-        ensures same { (self.new.gate ≡ self.old.gate) × (self.new.doubt ≡ self.old.doubt)
-            × (self.new.opened ≡ self.old.opened) }
+        ensures same { (self.new.gate ≡ self.old.gate) × (self.new.ordinal ≡ self.old.ordinal)
+            × (self.new.doubt ≡ self.old.doubt) × (self.new.opened ≡ self.old.opened) }
         ensures fault { OnErr result (Rose (D.disk self.old.disk).faults (D.disk self.new.disk).faults) }
         ensures no_fault { OnOk result ((D.disk self.new.disk).faults ≡ (D.disk self.old.disk).faults) }
         ensures count { NeverFalls (D.disk self.old.disk).faults (D.disk self.new.disk).faults }
@@ -142,7 +167,7 @@ impl<D: Disk> Journal<D> {
         if place == self.gate {
             return Ok(None);
         }
-        match read_frame(&mut self.disk, place, self.gate, into) {
+        match read_frame(&mut self.disk, Form::Second, place, self.gate, into) {
             Ok(found) => Ok(Some(found)),
             Err(Failed) => Err(DiskFault),
         }
@@ -153,7 +178,7 @@ impl<D: Disk> Journal<D> {
     pub fn append(&mut self, payload: &[u8]) -> Result<(), DiskFault>
         requires sure { self.old.doubt ≡ None }
         requires size { IsPayload payload.now }
-        requires end { self.old.gate + 6 + length payload.now < 2 ^ 42 }
+        requires end { self.old.gate + 14 + length payload.now < 2 ^ 42 }
         ensures adds { OnOk result (Told (D.disk self.old.disk) (D.disk self.new.disk)
             (Adds payload.now self.old.gate self.new.gate)) }
         // From then on a crash leaves the new list and nothing else.
@@ -161,27 +186,35 @@ impl<D: Disk> Journal<D> {
             (Stays payload.now self.old.gate)) }
         // A write behind the gate, a sync, a write of the gate and a sync.
         ensures steps { OnOk result (Told (D.disk self.old.disk) (D.disk self.new.disk) (λ before now.
-            now ≡ opened_past self.old.gate (staged_past payload.now self.old.gate before))) }
+            now ≡ opened_past self.old.gate (staged_past self.old.ordinal payload.now self.old.gate before))) }
         // After a fault a beginning of these.
         ensures steps_failed { OnErr result (Told (D.disk self.old.disk) (D.disk self.new.disk)
-            (AddsInPart payload.now self.old.gate)) }
+            (AddsInPart self.old.ordinal payload.now self.old.gate)) }
         ensures doubts { OnErr result (Told (D.disk self.old.disk) (D.disk self.new.disk)
-            (Doubts payload.now self.old.gate (self.old.gate + 5 + length payload.now))) }
+            (Doubts payload.now self.old.gate (self.old.gate + 13 + length payload.now))) }
         // A crash at any moment of the call leaves the payloads from before it, with the new one or without.
         ensures crash { Told (D.disk self.old.disk) (D.disk self.new.disk) (LeavesOldOrNew payload.now self.old.gate) }
         ensures fault { OnErr result (Rose (D.disk self.old.disk).faults (D.disk self.new.disk).faults) }
         ensures no_fault { OnOk result ((D.disk self.new.disk).faults ≡ (D.disk self.old.disk).faults) }
         ensures count { NeverFalls (D.disk self.old.disk).faults (D.disk self.new.disk).faults }
         ensures sure { OnOk result ((self.new.doubt ≡ None)
-            × (self.new.gate ≡ self.old.gate + 5 + length payload.now)) }
-        ensures unsure { OnErr result ((self.new.doubt ≡ Some (self.old.gate + 5 + length payload.now))
-            × (self.new.gate ≡ self.old.gate)) }
+            × (self.new.gate ≡ self.old.gate + 13 + length payload.now)
+            × (self.new.ordinal ≡ self.old.ordinal + 1)) }
+        ensures unsure { OnErr result ((self.new.doubt ≡ Some (self.old.gate + 13 + length payload.now))
+            × (self.new.gate ≡ self.old.gate) × (self.new.ordinal ≡ self.old.ordinal)) }
         ensures opened { self.new.opened ≡ self.old.opened }
     {
         let next = self.gate + FRAME_HEAD as u64 + payload.len() as u64;
-        match add(&mut self.disk, self.gate, payload, &mut self.block) {
+        match add(
+            &mut self.disk,
+            self.gate,
+            self.ordinal,
+            payload,
+            &mut self.block,
+        ) {
             Ok(()) => {
                 self.gate = next;
+                self.ordinal += 1;
                 Ok(())
             }
             Err(Failed) => {
@@ -212,14 +245,17 @@ impl<D: Disk> Journal<D> {
         ensures no_fault { OnOk result ((D.disk self.new.disk).faults ≡ (D.disk self.old.disk).faults) }
         ensures count { NeverFalls (D.disk self.old.disk).faults (D.disk self.new.disk).faults }
         ensures sure { IfOk result (λ counts. (self.new.doubt ≡ None) × ((next : ℕ) → self.old.doubt ≡ Some next
-            → self.new.gate ≡ (if counts then next else self.old.gate))) }
-        ensures unsure { OnErr result ((self.new.doubt ≡ self.old.doubt) × (self.new.gate ≡ self.old.gate)) }
+            → self.new.gate ≡ (if counts then next else self.old.gate))
+            × (self.new.ordinal ≡ (if counts then self.old.ordinal + 1 else self.old.ordinal))) }
+        ensures unsure { OnErr result ((self.new.doubt ≡ self.old.doubt) × (self.new.gate ≡ self.old.gate)
+            × (self.new.ordinal ≡ self.old.ordinal)) }
         ensures opened { self.new.opened ≡ self.old.opened }
     {
         let next = self.doubt.unwrap();
         match gate_is_open(&mut self.disk, self.gate) {
             Ok(true) => {
                 self.gate = next;
+                self.ordinal += 1;
                 self.doubt = None;
                 Ok(true)
             }

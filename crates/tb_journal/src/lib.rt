@@ -3,10 +3,21 @@
 
 mod device;
 mod fault;
+mod first;
+mod form;
 mod frames;
 mod journal;
 mod opening;
+mod rewriting;
+mod walk;
+mod window;
+mod writer;
+mod writer_steps;
 
 pub use fault::{DiskFault, JournalFault};
-pub use frames::Window;
+pub use first::FirstJournal;
+pub use form::Form;
 pub use journal::Journal;
+pub use rewriting::{add_all, rewrite};
+pub use window::Window;
+pub use writer::Writer;

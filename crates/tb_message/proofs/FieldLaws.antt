@@ -12,6 +12,7 @@ use Rattle.std.proofs.lemmas.Int.{of_z-to_z, to_z-of_z, to_z_pos}
 use Rattle.std.proofs.lemmas.Nat.{be_bytes_2, be_bytes_4, be_bytes_8, from_be_bytes-to_be_bytes_2}
 use Rattle.std.proofs.lemmas.Nat.{from_be_bytes-to_be_bytes_4, from_be_bytes-to_be_bytes_8}
 use Rattle.tb_units.proofs.ByteLemmas.{AreBytes, take-bytes, drop-bytes, rest-bytes}
+use Rattle.tb_message.specs.declared.version.Version.TheVariants.{First, Second}
 use Rattle.tb_message.specs.Forms.{Form, name, cusip, amount, number, position, rate, day}
 use Rattle.tb_message.specs.Forms.{minute, moment, Part, text, whole, signed, is_of}
 use Rattle.tb_message.specs.Spelling.{spelled}
@@ -166,7 +167,8 @@ field_takes position bytes x fits e = position_takes bytes x fits e
 field_takes rate bytes x fits e = whole_takes w32 (spelled rate) bytes x wide32 (λ n. refl) fits e
 field_takes day bytes x fits e = whole_takes w32 (spelled day) bytes x wide32 (λ n. refl) fits e
 field_takes minute bytes x fits e = whole_takes w16 (spelled minute) bytes x wide16 (λ n. refl) fits e
-field_takes moment bytes x fits e = whole_takes w32 (spelled moment) bytes x wide32 (λ n. refl) fits e
+field_takes (moment First) bytes x fits e = whole_takes w32 (spelled (moment First)) bytes x wide32 (λ n. refl) fits e
+field_takes (moment Second) bytes x fits e = whole_takes w64 (spelled (moment Second)) bytes x wide64 (λ n. refl) fits e
 
 -- ---- what was spelled is read again
 
@@ -218,7 +220,10 @@ field_again day (whole n) rest fits =
 field_again minute (whole n) rest fits =
     let most : n < 1440 = grind (arith, nat_tests) in
     whole_again w16 n rest wide16 (from_be_bytes-to_be_bytes_2 n (omega arith))
-field_again moment (whole n) rest fits =
+field_again (moment Second) (whole n) rest fits =
+    let most : n ≤ 4102444799 = grind (arith, nat_tests) in
+    whole_again w64 n rest wide64 (from_be_bytes-to_be_bytes_8 n (omega arith))
+field_again (moment First) (whole n) rest fits =
     let most : n ≤ 4102444799 = grind (arith, nat_tests) in
     whole_again w32 n rest wide32 (from_be_bytes-to_be_bytes_4 n (omega arith))
 field_again form part rest fits = absurd cc

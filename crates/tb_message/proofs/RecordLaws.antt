@@ -12,11 +12,13 @@ use Rattle.tb_units.proofs.NameLemmas.{is_name-length}
 use Rattle.tb_message.specs.declared.kind.Kind.{Kind}
 use Rattle.tb_message.specs.declared.kind.Kind.TheVariants as kind
 use Rattle.tb_message.specs.declared.message.Entry.{Entry}
+use Rattle.tb_message.specs.declared.version.Version.{Version}
+use Rattle.tb_message.specs.declared.version.Version.TheVariants.{First, Second}
 use Rattle.tb_message.specs.Kinds.{kinds, tag_of, kind_of_tag, forms_of}
 use Rattle.tb_message.specs.Messages.{kind_of, parts_of}
 use Rattle.tb_message.specs.Forms.{Form, name, cusip, amount, number, position, rate, day}
 use Rattle.tb_message.specs.Forms.{minute, moment, Part, text, whole, signed, is_of}
-use Rattle.tb_message.specs.Spelling.{spelled, spelled_all, AreOf, head_forms, head_of, IsInRange, spelling, spellings}
+use Rattle.tb_message.specs.Spelling.{spelled, spelled_all, AreOf, heads_in, head_of, IsInRange, spelling, spelling_in, spellings, spellings_in, IsNoRecordIn}
 use Rattle.tb_message.specs.Reading.{part_at, parts_at, message_at, tagged_at, entry_at}
 use Rattle.tb_message.proofs.Steps.{from_map, from_then, some_is}
 use Rattle.tb_message.proofs.Same.{IsSame, entries}
@@ -85,6 +87,13 @@ kind_of_tag-tag_of kind.Pledge = refl
 kind_of_tag-tag_of kind.Release = refl
 kind_of_tag-tag_of kind.Redeem = refl
 
+-- two kinds of one tag are one
+pub tag_of-one : (one other : Kind) → tag_of one ≡ tag_of other → one ≡ other
+tag_of-one one other same =
+    let found : Some one ≡ Some other =
+    sym (kind_of_tag-tag_of one) ∙ (ap kind_of_tag same ∙ kind_of_tag-tag_of other) in
+    cc
+
 -- what is found passes the test
 found_passes : {A : Type 0} (p : A → Bool) (xs : List A) (x : A) → find p xs ≡ Some x → p x ≡ true
 found_passes p [] x e = absurd cc
@@ -105,10 +114,11 @@ abbrev pub Read : Type 0
 Read = List Part × Kind × List Part × List ℕ
 
 -- the bytes are the spelling of what is read, which is in its ranges, and what follows
-pub record ReadsEntry (bytes : List ℕ) (x : Read) : Type 0 where
-  pub head : AreOf head_forms x.0
+pub record ReadsEntry (version : Version) (bytes : List ℕ) (x : Read) : Type 0 where
+  pub head : AreOf (heads_in version) x.0
   pub body : AreOf (forms_of x.1) x.2
-  pub joined : bytes ≡ (spelled_all head_forms x.0 ++ tag_of x.1 ∷ spelled_all (forms_of x.1) x.2) ++ x.3
+  pub joined :
+      bytes ≡ (spelled_all (heads_in version) x.0 ++ tag_of x.1 ∷ spelled_all (forms_of x.1) x.2) ++ x.3
 
 -- a tag, and the fields of its kind
 record ReadsTagged (bytes : List ℕ) (x : Kind × List Part × List ℕ) : Type 0 where
@@ -133,20 +143,24 @@ tagged_takes (tag ∷ bytes) x fits e =
     }))
 
 -- an entry that is read was spelled
-pub entry_takes : (bytes : List ℕ) (x : Read) → AreBytes bytes → entry_at bytes ≡ Some x → ReadsEntry bytes x
-entry_takes bytes x fits e =
-    from_then (ReadsEntry bytes) (λ head. option_map (λ body. (head.0, body.0, body.1, body.2)) (tagged_at head.1))
-    (parts_at head_forms bytes) x e
+pub entry_takes : (version : Version) (bytes : List ℕ) (x : Read)
+    → AreBytes bytes
+    → entry_at version bytes ≡ Some x
+    → ReadsEntry version bytes x
+entry_takes version bytes x fits e =
+    from_then (ReadsEntry version bytes)
+    (λ head. option_map (λ body. (head.0, body.0, body.1, body.2)) (tagged_at head.1))
+    (parts_at (heads_in version) bytes) x e
     (λ head given more.
-    from_map (ReadsEntry bytes) (λ body. (head.0, body.0, body.1, body.2)) (tagged_at head.1) x more
+    from_map (ReadsEntry version bytes) (λ body. (head.0, body.0, body.1, body.2)) (tagged_at head.1) x more
     (λ body body_given.
-    let front = parts_take head_forms bytes head fits given in
+    let front = parts_take (heads_in version) bytes head fits given in
     let back = tagged_takes head.1 body front.takes.rest_fits body_given in
     record {
       head = front.fits;
       body = back.fits;
-      joined = front.takes.joined ∙ ap (λ (b : List ℕ). spelled_all head_forms head.0 ++ b) back.joined
-          ∙ sym (append_assoc (spelled_all head_forms head.0)
+      joined = front.takes.joined ∙ ap (λ (b : List ℕ). spelled_all (heads_in version) head.0 ++ b) back.joined
+          ∙ sym (append_assoc (spelled_all (heads_in version) head.0)
           (tag_of body.0 ∷ spelled_all (forms_of body.0) body.1) body.2);
     }))
 
@@ -161,43 +175,37 @@ abbrev pub read_of : Entry → List ℕ → Read
 read_of entry rest = (head_of entry, kind_of entry.message, parts_of entry.message, rest)
 
 -- an entry that is spelled is read, whatever follows it
-pub entry_again : (entry : Entry) (rest : List ℕ)
+pub entry_again : (version : Version) (entry : Entry) (rest : List ℕ)
     → IsInRange entry
-    → entry_at (spelling entry ++ rest) ≡ Some (read_of entry rest)
-entry_again entry rest fits =
+    → entry_at version (spelling_in version entry ++ rest) ≡ Some (read_of entry rest)
+entry_again version entry rest fits =
     let kind = kind_of entry.message in
     let parts = parts_of entry.message in
     let back = tag_of kind ∷ (spelled_all (forms_of kind) parts ++ rest) in
-    let front = spelled_all head_forms (head_of entry) in
-    ap entry_at (append_assoc front (tag_of kind ∷ spelled_all (forms_of kind) parts) rest)
-    ∙ rw (parts_again head_forms (head_of entry) back fits.head, tagged_again kind parts rest fits.body) refl
+    let front = spelled_all (heads_in version) (head_of entry) in
+    ap (entry_at version) (append_assoc front (tag_of kind ∷ spelled_all (forms_of kind) parts) rest)
+    ∙ rw (parts_again (heads_in version) (head_of entry) back fits.head, tagged_again kind parts rest fits.body) refl
 
 -- ---- what is taken
 
 -- the bytes are the spelling of the entry, which is in its ranges, and what follows
-pub record Taken (bytes : List ℕ) (entry : Entry) (rest : List ℕ) : Type 0 where
+pub record Taken (version : Version) (bytes : List ℕ) (entry : Entry) (rest : List ℕ) : Type 0 where
   pub in_range : IsInRange entry
-  pub joined : bytes ≡ spelling entry ++ rest
+  pub joined : bytes ≡ spelling_in version entry ++ rest
 
 -- an entry is taken where its spelling begins the bytes
-pub taken : (bytes : List ℕ) (entry : Entry) (rest : List ℕ)
+pub taken : (version : Version) (bytes : List ℕ) (entry : Entry) (rest : List ℕ)
     → AreBytes bytes
-    → Some (read_of entry rest) ≡ entry_at bytes
-    → Taken bytes entry rest
-taken bytes entry rest fits e =
-    let reads = entry_takes bytes (read_of entry rest) fits (sym e) in
+    → Some (read_of entry rest) ≡ entry_at version bytes
+    → Taken version bytes entry rest
+taken version bytes entry rest fits e =
+    let reads = entry_takes version bytes (read_of entry rest) fits (sym e) in
     record { in_range = record { head = reads.head; body = reads.body }; joined = reads.joined }
 
 -- none is taken where none does
-pub not_taken : (bytes : List ℕ)
-    → None ≡ entry_at bytes
-    → (entry : Entry)
-    → IsInRange entry
-    → (rest : List ℕ)
-    → bytes ≡ spelling entry ++ rest
-    → ⊥
-not_taken bytes none entry fits rest same =
-    let some = ap entry_at same ∙ entry_again entry rest fits in
+pub not_taken : (version : Version) (bytes : List ℕ) → None ≡ entry_at version bytes → IsNoRecordIn version bytes
+not_taken version bytes none entry fits rest same =
+    let some = ap (entry_at version) same ∙ entry_again version entry rest fits in
     let clash : ◌≡◌ {A = Option Read} None (Some (read_of entry rest)) = none ∙ some in
     cc
 
@@ -216,41 +224,49 @@ same_read one other x y e =
     } in
     (values, ap (λ (r : Read). r.3) same)
 
--- bytes that begin with two spellings begin with one, and go on alike
-pub spelling-begins : (one other : Entry) (x y : List ℕ)
+-- bytes that begin with two spellings of a version begin with one, and go on alike
+pub spelling_in-begins : (version : Version) (one other : Entry) (x y : List ℕ)
     → IsInRange one
     → IsInRange other
-    → spelling one ++ x ≡ spelling other ++ y
+    → spelling_in version one ++ x ≡ spelling_in version other ++ y
     → (one ≡ other) × (x ≡ y)
-spelling-begins one other x y in_one in_other e =
+spelling_in-begins version one other x y in_one in_other e =
     let alike =
-    same_read one other x y (sym (entry_again one x in_one) ∙ ap entry_at e ∙ entry_again other y in_other) in
+    same_read one other x y (sym (entry_again version one x in_one) ∙ ap (entry_at version) e
+    ∙ entry_again version other y in_other) in
     (entries one other alike.0, alike.1)
 
 -- a spelling is of one entry
-pub spelling-one : (one other : Entry) → IsInRange one → IsInRange other → spelling one ≡ spelling other → one ≡ other
-spelling-one one other in_one in_other e =
-    (spelling-begins one other [] [] in_one in_other (ap (λ (b : List ℕ). b ++ []) e)).0
+pub spelling_in-one : (version : Version) (one other : Entry)
+    → IsInRange one
+    → IsInRange other
+    → spelling_in version one ≡ spelling_in version other
+    → one ≡ other
+spelling_in-one version one other in_one in_other e =
+    (spelling_in-begins version one other [] [] in_one in_other (ap (λ (b : List ℕ). b ++ []) e)).0
 
 -- no spelling is empty
-spelling-some : (entry : Entry) (bytes : List ℕ) → [] ≡ spelling entry ++ bytes → ⊥
+spelling_in-some : (version : Version) (entry : Entry) (bytes : List ℕ) → [] ≡ spelling_in version entry ++ bytes → ⊥
 unfolding spelled
-spelling-some entry bytes e = absurd cc
+spelling_in-some version entry bytes e = absurd cc
 
 -- the spellings of a list are of no other list
-pub spellings-one : (ones others : List Entry)
+pub spellings_in-one : (version : Version) (ones others : List Entry)
     → All IsInRange ones
     → All IsInRange others
-    → spellings ones ≡ spellings others
+    → spellings_in version ones ≡ spellings_in version others
     → ones ≡ others
-spellings-one [] [] in_ones in_others e = refl
-spellings-one [] (other ∷ others) in_ones in_others e = absurd (spelling-some other (spellings others) e)
-spellings-one (one ∷ ones) [] in_ones in_others e = absurd (spelling-some one (spellings ones) (sym e))
-spellings-one (one ∷ ones) (other ∷ others) in_ones in_others e =
+spellings_in-one version [] [] in_ones in_others e = refl
+spellings_in-one version [] (other ∷ others) in_ones in_others e =
+    absurd (spelling_in-some version other (spellings_in version others) e)
+spellings_in-one version (one ∷ ones) [] in_ones in_others e =
+    absurd (spelling_in-some version one (spellings_in version ones) (sym e))
+spellings_in-one version (one ∷ ones) (other ∷ others) in_ones in_others e =
     let in_one = in_ones 0 one (omega arith) in
     let in_other = in_others 0 other (omega arith) in
-    let alike = spelling-begins one other (spellings ones) (spellings others) in_one in_other e in
-    let rest = spellings-one ones others (All-tail IsInRange one ones in_ones)
+    let alike = spelling_in-begins version one other (spellings_in version ones) (spellings_in version others)
+    in_one in_other e in
+    let rest = spellings_in-one version ones others (All-tail IsInRange one ones in_ones)
     (All-tail IsInRange other others in_others) alike.1 in
     cc
 
@@ -267,7 +283,8 @@ spelled-few position (signed z) fits = lit≤ tt
 spelled-few rate (whole n) fits = lit≤ tt
 spelled-few day (whole n) fits = lit≤ tt
 spelled-few minute (whole n) fits = lit≤ tt
-spelled-few moment (whole n) fits = lit≤ tt
+spelled-few (moment First) (whole n) fits = lit≤ tt
+spelled-few (moment Second) (whole n) fits = lit≤ tt
 spelled-few form part fits = absurd cc
 
 -- and so many fields so many times that
@@ -291,12 +308,40 @@ forms_of-few kind.Announce = lit≤ tt
 forms_of-few other = lit≤ tt
 
 -- a spelling has 1 to 512 bytes
-pub spelling-sizes : (entry : Entry) → IsInRange entry → (1 ≤ length (spelling entry)) × (length (spelling entry) ≤ 512)
-spelling-sizes entry fits =
-    let front = spelled_all head_forms (head_of entry) in
+pub spelling_in-sizes : (version : Version) (entry : Entry)
+    → IsInRange entry
+    → (1 ≤ length (spelling_in version entry)) × (length (spelling_in version entry) ≤ 512)
+spelling_in-sizes version entry fits =
+    let front = spelled_all (heads_in version) (head_of entry) in
     let body = spelled_all (forms_of (kind_of entry.message)) (parts_of entry.message) in
     let whole_size = length-append front (tag_of (kind_of entry.message) ∷ body) in
-    let head_few = spelled_all-few head_forms (head_of entry) fits.head in
+    let head_few = spelled_all-few (heads_in version) (head_of entry) fits.head in
     let body_few = spelled_all-few (forms_of (kind_of entry.message)) (parts_of entry.message) fits.body in
     let fields = forms_of-few (kind_of entry.message) in
     (omega (arith, whole_size), omega (arith, whole_size, head_few, body_few, fields))
+
+-- ---- the same of records as they are put
+
+-- bytes that begin with two spellings begin with one, and go on alike
+pub spelling-begins : (one other : Entry) (x y : List ℕ)
+    → IsInRange one
+    → IsInRange other
+    → spelling one ++ x ≡ spelling other ++ y
+    → (one ≡ other) × (x ≡ y)
+spelling-begins = spelling_in-begins Second
+
+-- a spelling is of one entry
+pub spelling-one : (one other : Entry) → IsInRange one → IsInRange other → spelling one ≡ spelling other → one ≡ other
+spelling-one = spelling_in-one Second
+
+-- the spellings of a list are of no other list
+pub spellings-one : (ones others : List Entry)
+    → All IsInRange ones
+    → All IsInRange others
+    → spellings ones ≡ spellings others
+    → ones ≡ others
+spellings-one = spellings_in-one Second
+
+-- a spelling has 1 to 512 bytes
+pub spelling-sizes : (entry : Entry) → IsInRange entry → (1 ≤ length (spelling entry)) × (length (spelling entry) ≤ 512)
+spelling-sizes = spelling_in-sizes Second

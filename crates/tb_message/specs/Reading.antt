@@ -4,10 +4,11 @@ use Rattle.std.specs.Prelude.{nat_lt, if◌then◌else◌, option_and_then, opti
 use Rattle.std.specs.Option.{option_and_then, option_map}
 use Rattle.std.specs.Int.{Width, w16, w32, w64, byte_len, from_be_bytes, cast_signed}
 use Rattle.tb_message.specs.declared.kind.Kind.{Kind}
+use Rattle.tb_message.specs.declared.version.Version.{Version}
 use Rattle.tb_message.specs.Forms.{Form, name, cusip, amount, number, position, rate, day}
-use Rattle.tb_message.specs.Forms.{minute, moment, Part, text, whole, signed, is_of}
+use Rattle.tb_message.specs.Forms.{minute, moment, width_of, Part, text, whole, signed, is_of}
 use Rattle.tb_message.specs.Kinds.{kind_of_tag, forms_of}
-use Rattle.tb_message.specs.Spelling.{head_forms}
+use Rattle.tb_message.specs.Spelling.{heads_in}
 
 -- so many bytes, and what follows them
 abbrev pub front_at : ℕ → List ℕ → Option (List ℕ × List ℕ)
@@ -31,7 +32,7 @@ field_at position bytes =
 field_at rate bytes = whole_at w32 bytes
 field_at day bytes = whole_at w32 bytes
 field_at minute bytes = whole_at w16 bytes
-field_at moment bytes = whole_at w32 bytes
+field_at (moment version) bytes = whole_at (width_of version) bytes
 
 abbrev pub ranged : Form → Part × List ℕ → Option (Part × List ℕ)
 ranged form read = if is_of form read.0 then Some read else None
@@ -55,7 +56,7 @@ tagged_at [] = None
 tagged_at (tag ∷ bytes) = option_and_then (λ kind. message_at kind bytes) (kind_of_tag tag)
 
 -- an entry: what stands in front of the tag, and the message
-abbrev pub entry_at : List ℕ → Option (List Part × Kind × List Part × List ℕ)
-entry_at bytes =
+abbrev pub entry_at : Version → List ℕ → Option (List Part × Kind × List Part × List ℕ)
+entry_at version bytes =
     option_and_then (λ head. option_map (λ body. (head.0, body.0, body.1, body.2)) (tagged_at head.1))
-    (parts_at head_forms bytes)
+    (parts_at (heads_in version) bytes)

@@ -60,7 +60,7 @@ said_in position value = option_map signed (signed_in value)
 said_in rate value = option_map whole (option_and_then steps_of (text_in value))
 said_in day value = option_map whole (option_and_then day_of (text_in value))
 said_in minute value = option_map whole (option_and_then minute_of (text_in value))
-said_in moment value = None
+said_in (moment version) value = None
 
 -- what a member of an object says, or the member itself where it is missing or not of its form
 unfoldable pub part_in : Data → Field × Form → Result Part Field

@@ -2,10 +2,11 @@
 ghost use Rattle.std.specs.Prelude.{◌≡◌};
 ghost use Rattle.std.specs.Option.{option_map};
 ghost use Rattle.std.specs.Int.{w32, w64};
-ghost use Rattle.tb_message.specs.Forms.{text, whole, signed};
+ghost use Rattle.tb_message.specs.Forms.{text, whole, signed, width_of};
 ghost use Rattle.tb_message.specs.Forms as form;
 ghost use Rattle.tb_message.specs.Reading.{front_at, part_at, whole_at};
 
+use crate::version::Version;
 use tb_terms::Cusip;
 use tb_units::{Day, Dollars, Ident, Moment, Rate};
 
@@ -137,12 +138,23 @@ impl<'a> Fields<'a> {
         Some(minute)
     }
 
-    #[tactic(auto, unfolding(crate::specs::Reading::part_at), using(std::proofs::lemmas::Bool::Decides::nat_tests))]
-    pub(crate) fn moment(&mut self) -> Option<Moment>
-        ensures { option_map (λ x. (whole x.seconds, self.new.rest.now)) result
-            ≡ part_at form.moment self.old.rest.now }
+    // The seconds of a moment, in the width of the version.
+    fn seconds(&mut self, version: Version) -> Option<u64>
+        ensures { option_map (λ n. (whole n, self.new.rest.now)) result
+            ≡ whole_at (width_of version) self.old.rest.now }
     {
-        let seconds = self.word32()? as u64;
+        match version {
+            Version::First => Some(self.word32()? as u64),
+            Version::Second => self.word64(),
+        }
+    }
+
+    #[tactic(auto, unfolding(crate::specs::Reading::part_at), using(std::proofs::lemmas::Bool::Decides::nat_tests))]
+    pub(crate) fn moment(&mut self, version: Version) -> Option<Moment>
+        ensures { option_map (λ x. (whole x.seconds, self.new.rest.now)) result
+            ≡ part_at (form.moment version) self.old.rest.now }
+    {
+        let seconds = self.seconds(version)?;
         if seconds < Moment::FIRST || seconds > Moment::LAST {
             return None;
         }

@@ -13,6 +13,7 @@ mod record;
 mod requests;
 mod taking;
 mod verdict;
+mod version;
 mod writing;
 
 pub use key::Key;
@@ -23,3 +24,4 @@ pub use query::{Query, QueryKind, ReadFault, Request};
 pub use record::Record;
 pub use requests::read_request;
 pub use verdict::{Line, Verdict, verdict_line};
+pub use version::Version;

@@ -4,6 +4,7 @@ ghost use Rattle.tb_message.specs.Forms.{text, whole, signed};
 ghost use Rattle.tb_message.specs.Forms as form;
 ghost use Rattle.tb_message.specs.Spelling.{spelled, spelling, fields_of, FitsFields, IsInRange};
 ghost use Rattle.tb_message.specs.declared.message.Message.TheVariants as messages;
+ghost use Rattle.tb_message.specs.declared.version.Version.TheVariants as versions;
 
 use crate::message::{Entry, Message};
 use crate::record::Record;
@@ -60,10 +61,10 @@ impl Record {
     #[tactic(auto, unfolding(crate::specs::Spelling::spelled))]
     fn moment(&mut self, moment: Moment)
         requires room { length self.old ≤ 500 }
-        ensures moment { self.new ≡ self.old ++ spelled form.moment (whole moment.seconds) }
-        ensures size { length self.new ≡ length self.old + 4 }
+        ensures moment { self.new ≡ self.old ++ spelled (form.moment versions.Second) (whole moment.seconds) }
+        ensures size { length self.new ≡ length self.old + 8 }
     {
-        self.push(&(moment.seconds as u32).to_be_bytes());
+        self.push(&moment.seconds.to_be_bytes());
     }
 
     #[tactic(auto, unfolding(crate::specs::Spelling::spelled))]

@@ -1,15 +1,16 @@
 //! Entries, read from the front of the bytes.
-ghost use Rattle.std.specs.Prelude.{◌≡◌, ◌≢◌, ◌++◌, List, ℕ, IfSome, IfNone};
+ghost use Rattle.std.specs.Prelude.{◌≡◌, IfSome, IfNone};
 ghost use Rattle.std.specs.Option.{option_map};
-ghost use Rattle.tb_message.specs.declared.message.Entry.{Entry};
 ghost use Rattle.tb_message.specs.Messages.{kind_of, parts_of};
 ghost use Rattle.tb_message.specs.Reading.{message_at, tagged_at, entry_at};
-ghost use Rattle.tb_message.specs.Spelling.{spelling, IsInRange, IsTaken, head_of};
+ghost use Rattle.tb_message.specs.Spelling.{IsTaken, IsTakenIn, IsNoRecordIn, head_of};
 ghost use Rattle.tb_message.specs.declared.kind.Kind.TheVariants as kinds;
+ghost use Rattle.tb_message.specs.declared.version.Version.TheVariants as versions;
 
 use crate::fields::Fields;
 use crate::kind::Kind;
 use crate::message::{Entry, Message};
+use crate::version::Version;
 use tb_terms::Announcement;
 
 impl<'a> Fields<'a> {
@@ -201,14 +202,14 @@ impl<'a> Fields<'a> {
         self.message(Kind::of_tag(*tag)?)
     }
 
-    fn entry(&mut self) -> Option<Entry>
+    fn entry(&mut self, version: Version) -> Option<Entry>
         ensures { option_map (λ x. (head_of x, kind_of x.message, parts_of x.message, self.new.rest.now)) result
-            ≡ entry_at self.old.rest.now }
+            ≡ entry_at version self.old.rest.now }
     {
         Some(Entry {
             submitter: self.name()?,
             number: self.number()?,
-            moment: self.moment()?,
+            moment: self.moment(version)?,
             message: self.tagged()?,
         })
     }
@@ -219,11 +220,25 @@ impl Entry {
     /// spelling are `None`.
     pub fn take(bytes: &[u8]) -> Option<(Entry, usize)>
         ensures found { IfSome result (λ x. IsTaken bytes.now x.0 x.1) }
-        ensures none { IfNone result
-            ((entry : Entry) → IsInRange entry → (rest : List ℕ) → bytes.now ≢ spelling entry ++ rest) }
+        ensures none { IfNone result (IsNoRecordIn versions.Second bytes.now) }
+    {
+        Entry::take_in(Version::Second, bytes)
+    }
+
+    /// The same by the spelling of the first version, in which a moment has four bytes.
+    pub fn take_first(bytes: &[u8]) -> Option<(Entry, usize)>
+        ensures found { IfSome result (λ x. IsTakenIn versions.First bytes.now x.0 x.1) }
+        ensures none { IfNone result (IsNoRecordIn versions.First bytes.now) }
+    {
+        Entry::take_in(Version::First, bytes)
+    }
+
+    fn take_in(version: Version, bytes: &[u8]) -> Option<(Entry, usize)>
+        ensures found { IfSome result (λ x. IsTakenIn version bytes.now x.0 x.1) }
+        ensures none { IfNone result (IsNoRecordIn version bytes.now) }
     {
         let mut fields = Fields { rest: bytes };
-        let Some(entry) = fields.entry() else {
+        let Some(entry) = fields.entry(version) else {
             return None;
         };
         Some((entry, bytes.len() - fields.rest.len()))

@@ -37,7 +37,7 @@ impl Model for Line {
 }
 
 impl Line {
-    /// The bytes of the text, which are ASCII.
+    /// The bytes of the text.
     pub fn bytes(&self) -> &[u8]
         ensures bytes { result.now ≡ self.now }
         ensures few { length result.now ≤ 160 }

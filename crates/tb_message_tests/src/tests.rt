@@ -8,20 +8,20 @@ use tb_units::{Day, Dollars, Ident, Moment};
 
 /// A record in hexadecimal, and the text of its message, for each kind. All are of one moment.
 const RECORDS: &str =
-    r#"086f70657261746f720000000000000001672862e001076465616c657231026b31 {"number":1,"kind":"register","submitter":"dealer1","key":"k1"}
-086f70657261746f720000000000000002672862e0020566756e6431076465616c657231 {"number":2,"kind":"enrol","bidder":"fund1","submitter":"dealer1"}
-086f70657261746f720000000000000003672862e00300004ea8 {"number":3,"kind":"holiday","day":"2025-02-17"}
-086f70657261746f720000000000000004672862e0040662696c6c313339313237393741413500000011b1f3f80000000000000000640000000000989680000000003b9aca0000000006317bca0000004e3f029402b200004e4200004e9d {"number":4,"kind":"announce","auction":"bill13","cusip":"912797AA5","offering":76000000000,"minimum":100,"ceiling":10000000,"floor":1000000000,"threshold":26600000000,"date":"2024-11-04","nc_close":"11:00","c_close":"11:30","issue":"2024-11-07","maturity":"2025-02-06"}
-076465616c6572310000000000000001672862e0050662696c6c31330566756e64310000035600000004a817c800 {"number":1,"kind":"bid","auction":"bill13","bidder":"fund1","rate":"4.27","amount":20000000000}
-076465616c6572310000000000000002672862e0060662696c6c31330566756e64310000000000989680 {"number":2,"kind":"noncompetitive","auction":"bill13","bidder":"fund1","amount":10000000}
-076465616c6572310000000000000003672862e0070662696c6c31330000000000000001 {"number":3,"kind":"cancel","auction":"bill13","bid":1}
-076465616c6572310000000000000004672862e0080662696c6c31330566756e6431fffffffffffffe0c {"number":4,"kind":"position","auction":"bill13","bidder":"fund1","position":-500}
-086f70657261746f720000000000000005672862e0090662696c6c3133 {"number":5,"kind":"publish","auction":"bill13"}
-086f70657261746f720000000000000006672862e00a0662696c6c3133 {"number":6,"kind":"settle","auction":"bill13"}
-076465616c6572310000000000000005672862e00b393132373937414135076465616c6572320000000000000190 {"number":5,"kind":"transfer","cusip":"912797AA5","to":"dealer2","amount":400}
-076465616c657231000000000000000c672862e00c393132373937414135076465616c65723200000000000001f4 {"number":12,"kind":"pledge","cusip":"912797AA5","to":"dealer2","amount":500}
-076465616c65723100038d7ea4c68000672862e00d076465616c657231000000000000000c000000000000012c {"number":1000000000000000,"kind":"release","holder":"dealer1","pledge":12,"amount":300}
-086f70657261746f720000000000000007672862e00e393132373937414135 {"number":7,"kind":"redeem","cusip":"912797AA5"}"#;
+    r#"086f70657261746f72000000000000000100000000672862e001076465616c657231026b31 {"number":1,"kind":"register","submitter":"dealer1","key":"k1"}
+086f70657261746f72000000000000000200000000672862e0020566756e6431076465616c657231 {"number":2,"kind":"enrol","bidder":"fund1","submitter":"dealer1"}
+086f70657261746f72000000000000000300000000672862e00300004ea8 {"number":3,"kind":"holiday","day":"2025-02-17"}
+086f70657261746f72000000000000000400000000672862e0040662696c6c313339313237393741413500000011b1f3f80000000000000000640000000000989680000000003b9aca0000000006317bca0000004e3f029402b200004e4200004e9d {"number":4,"kind":"announce","auction":"bill13","cusip":"912797AA5","offering":76000000000,"minimum":100,"ceiling":10000000,"floor":1000000000,"threshold":26600000000,"date":"2024-11-04","nc_close":"11:00","c_close":"11:30","issue":"2024-11-07","maturity":"2025-02-06"}
+076465616c657231000000000000000100000000672862e0050662696c6c31330566756e64310000035600000004a817c800 {"number":1,"kind":"bid","auction":"bill13","bidder":"fund1","rate":"4.27","amount":20000000000}
+076465616c657231000000000000000200000000672862e0060662696c6c31330566756e64310000000000989680 {"number":2,"kind":"noncompetitive","auction":"bill13","bidder":"fund1","amount":10000000}
+076465616c657231000000000000000300000000672862e0070662696c6c31330000000000000001 {"number":3,"kind":"cancel","auction":"bill13","bid":1}
+076465616c657231000000000000000400000000672862e0080662696c6c31330566756e6431fffffffffffffe0c {"number":4,"kind":"position","auction":"bill13","bidder":"fund1","position":-500}
+086f70657261746f72000000000000000500000000672862e0090662696c6c3133 {"number":5,"kind":"publish","auction":"bill13"}
+086f70657261746f72000000000000000600000000672862e00a0662696c6c3133 {"number":6,"kind":"settle","auction":"bill13"}
+076465616c657231000000000000000500000000672862e00b393132373937414135076465616c6572320000000000000190 {"number":5,"kind":"transfer","cusip":"912797AA5","to":"dealer2","amount":400}
+076465616c657231000000000000000c00000000672862e00c393132373937414135076465616c65723200000000000001f4 {"number":12,"kind":"pledge","cusip":"912797AA5","to":"dealer2","amount":500}
+076465616c65723100038d7ea4c6800000000000672862e00d076465616c657231000000000000000c000000000000012c {"number":1000000000000000,"kind":"release","holder":"dealer1","pledge":12,"amount":300}
+086f70657261746f72000000000000000700000000672862e00e393132373937414135 {"number":7,"kind":"redeem","cusip":"912797AA5"}"#;
 
 /// What is told of each text.
 const READINGS: &str = r#"BadJson {
@@ -59,6 +59,17 @@ fn hexadecimal(alloc: Global, bytes: &[u8]) -> Result<String, Fail> {
     Ok(text)
 }
 
+// the bytes without four of them from a place on, by which a moment is longer than in the first version
+fn without_four(alloc: Global, bytes: &[u8], place: usize) -> Result<Vec<u8>, Fail> {
+    let mut left = Vec::new(alloc);
+    for (at, byte) in bytes.iter().enumerate() {
+        if at < place || at - place >= 4 {
+            left.push(*byte)?;
+        }
+    }
+    Ok(left)
+}
+
 #[test]
 fn a_message_of_each_kind_is_read_put_and_taken(rt: HostRuntime) -> Result<(), Fail> {
     let alloc = rt.alloc();
@@ -86,9 +97,13 @@ fn a_message_of_each_kind_is_read_put_and_taken(rt: HostRuntime) -> Result<(), F
         };
         let put = entry.put();
         let (_, front) = put.bytes().split_last().ok_or("no bytes")?;
+        let first = without_four(alloc, put.bytes(), submitter.bytes().len() + 9)?;
         assert_eq!(rt; hexadecimal(alloc, put.bytes())?.as_str(), record);
         assert_eq!(rt; Entry::take(put.bytes()), Some((entry, put.bytes().len())));
         assert_eq!(rt; Entry::take(front), None);
+        assert_eq!(rt; Entry::take_first(&first), Some((entry, first.len())));
+        assert_eq!(rt; Entry::take_first(put.bytes()), None);
+        assert_eq!(rt; Entry::take(&first), None);
     }
     assert_eq!(rt; RECORDS.lines().count(), 14);
     Ok(())

@@ -11,20 +11,18 @@ use Rattle.tb_terms.specs.Refusals.{member_of}
 use Rattle.tb_terms.specs.Same.{same_cusip}
 use Rattle.tb_message.specs.declared.key.Key.{Key}
 use Rattle.tb_message.specs.declared.key.Key.TheVariants as key
-use Rattle.tb_message.specs.declared.kind.Kind.{Kind}
-use Rattle.tb_message.specs.declared.kind.Kind.TheVariants as kind
 use Rattle.tb_message.specs.declared.message.Entry.{Entry}
 use Rattle.tb_message.specs.declared.query.Query.{Query}
 use Rattle.tb_message.specs.declared.query.Query.TheVariants as query
 use Rattle.tb_message.specs.declared.query.QueryKind.{QueryKind}
 use Rattle.tb_message.specs.declared.query.QueryKind.TheVariants as asked
 use Rattle.tb_message.specs.Forms.{Part, text, whole, signed}
-use Rattle.tb_message.specs.Kinds.{tag_of, kind_of_tag}
+use Rattle.tb_message.specs.Kinds.{tag_of}
 use Rattle.tb_message.specs.Messages.{kind_of, parts_of}
 use Rattle.tb_message.specs.Queries.{query_kind_of, query_parts_of, query_text, query_of_text}
 use Rattle.tb_message.specs.Spelling.{spelling, IsInRange}
 use Rattle.tb_message.proofs.Same.{messages}
-use Rattle.tb_message.proofs.RecordLaws.{spelling-one}
+use Rattle.tb_message.proofs.RecordLaws.{tag_of-one, spelling-one}
 use Rattle.tb_session.specs.declared.called.Ask.{Ask}
 use Rattle.tb_session.specs.declared.called.Ask.TheVariants as ask
 use Rattle.tb_session.specs.declared.called.Called.{Called}
@@ -95,29 +93,6 @@ parts-same (p ∷ ps) (q ∷ qs) is =
     let both = part-same p q (parts_code ps) (parts_code qs) is in
     let heads = both.0 in
     let tails = parts-same ps qs both.1 in
-    cc
-
--- a tag is of one kind
-tag-kind : (k : Kind) → kind_of_tag (tag_of k) ≡ Some k
-tag-kind kind.Register = refl
-tag-kind kind.Enrol = refl
-tag-kind kind.Holiday = refl
-tag-kind kind.Announce = refl
-tag-kind kind.Bid = refl
-tag-kind kind.Noncompetitive = refl
-tag-kind kind.Cancel = refl
-tag-kind kind.Position = refl
-tag-kind kind.Publish = refl
-tag-kind kind.Settle = refl
-tag-kind kind.Transfer = refl
-tag-kind kind.Pledge = refl
-tag-kind kind.Release = refl
-tag-kind kind.Redeem = refl
-
--- two kinds with one word are one
-kind-same : (k l : Kind) → tag_of k ≡ tag_of l → k ≡ l
-kind-same k l is =
-    let found : Some k ≡ Some l = sym (tag-kind k) ∙ (ap kind_of_tag is ∙ tag-kind l) in
     cc
 
 -- a word is of one kind of query
@@ -199,7 +174,7 @@ ask-same (ask.Message m x) (ask.Message n y) is =
     let numbers : m ≡ n = cc in
     let tags : tag_of (kind_of x) ≡ tag_of (kind_of y) = cc in
     let parts : parts_code (parts_of x) ≡ parts_code (parts_of y) = cc in
-    let same = messages x y (kind-same (kind_of x) (kind_of y) tags) (parts-same (parts_of x) (parts_of y) parts) in
+    let same = messages x y (tag_of-one (kind_of x) (kind_of y) tags) (parts-same (parts_of x) (parts_of y) parts) in
     cc
 ask-same (ask.Query x) (ask.Query y) is =
     let behind : sized (query_text (query_kind_of x)) ++ parts_code (query_parts_of x)

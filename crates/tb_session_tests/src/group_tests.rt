@@ -3,7 +3,9 @@ ghost use Rattle.std.specs.Prelude.{IfOk};
 ghost use Rattle.tb_message.specs.Spelling.{IsNumbered};
 ghost use Rattle.tb_core.specs.House.{IsBid};
 
-use crate::tests::{Given, Memory, ends, opened, opening_calls, post, replied, whole};
+use crate::tests::{
+    FAULT_REPLY, Given, Memory, ends, joined, opened, opening_calls, post, replied, whole,
+};
 use std::alloc::Global;
 use std::process::Abort;
 use std::sync::Wait;
@@ -39,15 +41,9 @@ fn bid(rt: &impl Abort, alloc: Global, text: &str) -> Result<(u64, Message), Fai
     match read_request(alloc, text.as_bytes()) {
         Ok(Request::Message { number, message }) => match message {
             Message::Bid { .. } => Ok((number, message)),
-            _ => {
-                assert!(rt; false, "no bid");
-                Err("no bid")?
-            }
+            _ => panic!(rt; "no bid"),
         },
-        _ => {
-            assert!(rt; false, "no message");
-            Err("no message")?
-        }
+        _ => panic!(rt; "no message"),
     }
 }
 
@@ -90,17 +86,15 @@ fn submit_pair(
     Ok((answer, told_by(verdicts[0]), told_by(verdicts[1])))
 }
 
-/// Each of the two bids is answered so.
+/// Whether the two bids are answered so.
 fn pair_told(
     rt: &impl Abort,
     alloc: Global,
     room: &mut Memory,
     key: &str,
     wanted: (GroupAnswer, Told, Told),
-) -> Result<(), Fail> {
-    let found = submit_pair(rt, alloc, room, key)?;
-    assert!(rt; found == wanted);
-    Ok(())
+) -> Result<bool, Fail> {
+    Ok(submit_pair(rt, alloc, room, key)? == wanted)
 }
 
 /// The answers to the two bids: the key is nobody's, they are accepted now or were before, or the disk failed.
@@ -120,15 +114,14 @@ const REPEATED: (GroupAnswer, Told, Told) = (
 
 const FAULT: (GroupAnswer, Told, Told) = (GroupAnswer::DiskFault, Told::Nothing, Told::Nothing);
 
-// The journal has a gate byte, a length of four bytes and two records of 46 bytes more.
-fn grew_by_a_pair(rt: &impl Abort, before: &MemoryDisk, after: &MemoryDisk) {
+// The journal has a gate byte, a length of four bytes, eight of an ordinal and two records of 50 bytes more.
+fn grew_by_a_pair(before: &MemoryDisk, after: &MemoryDisk) -> bool {
     let size = before.contents().len();
-    assert!(rt; size > 0 && after.contents().len() == size + 97);
-    assert_eq!(rt;
-        &after.contents()[size - 1..size + 4],
-        b"\x01\0\0\0\x5c".as_slice()
-    );
-    assert_eq!(rt; after.calls(), before.calls().saturating_add(4));
+    if size == 0 || after.contents().len() != size + 113 {
+        return false;
+    }
+    let front = &after.contents()[size - 1..size + 4];
+    front == b"\x01\0\0\0\x64".as_slice() && after.calls() == before.calls().saturating_add(4)
 }
 
 #[test]
@@ -136,25 +129,35 @@ fn two_bids_of_a_key_stand_under_one_gate(rt: HostRuntime) -> Result<(), Fail> {
     let alloc = rt.alloc();
     let before = opened(&rt, alloc, Vec::new(alloc))?.desk.into_disk();
     let mut room = opened(&rt, alloc, Vec::new(alloc))?;
-    for (key, wanted) in [("k9", UNKNOWN), ("k1", ACCEPTED), ("k1", REPEATED)] {
-        pair_told(&rt, alloc, &mut room, key, wanted)?;
-    }
-    assert_eq!(rt; room.desk.entries(), 7);
-    grew_by_a_pair(&rt, &before, &room.desk.into_disk());
+    assert!(rt; pair_told(&rt, alloc, &mut room, "k9", UNKNOWN)?);
+    assert!(rt; pair_told(&rt, alloc, &mut room, "k1", ACCEPTED)?);
+    assert!(rt; pair_told(&rt, alloc, &mut room, "k1", REPEATED)?);
+    assert!(rt; room.desk.entries() == 7);
+    assert!(rt; grew_by_a_pair(&before, &room.desk.into_disk()));
     Ok(())
+}
+
+/// Whether the two bids meet a fault where this call of the disk fails, and are answered so when they come again.
+fn meet_a_fault<R: Threads + Wait + Sync + Abort>(
+    rt: &R,
+    alloc: Global,
+    fails: u64,
+    again: (GroupAnswer, Told, Told),
+) -> Result<bool, Fail> {
+    let mut room = opened(rt, alloc, vec![in alloc; fails; 1]?)?;
+    Ok(
+        pair_told(rt, alloc, &mut room, "k1", FAULT)?
+            && pair_told(rt, alloc, &mut room, "k1", again)?,
+    )
 }
 
 // Where the last of the four calls of the disk at new messages fails, they stand at the next turn; where the first
 // fails, nothing is there.
 #[test]
 fn two_bids_meet_a_fault_together(rt: HostRuntime) -> Result<(), Fail> {
-    let alloc = rt.alloc();
-    let calls = opening_calls(&rt, alloc)?;
-    for (fails, again) in [(calls.saturating_add(3), REPEATED), (calls, ACCEPTED)] {
-        let mut room = opened(&rt, alloc, vec![in alloc; fails; 1]?)?;
-        pair_told(&rt, alloc, &mut room, "k1", FAULT)?;
-        pair_told(&rt, alloc, &mut room, "k1", again)?;
-    }
+    let calls = opening_calls(&rt, rt.alloc())?;
+    assert!(rt; meet_a_fault(&rt, rt.alloc(), calls.saturating_add(3), REPEATED)?);
+    assert!(rt; meet_a_fault(&rt, rt.alloc(), calls, ACCEPTED)?);
     Ok(())
 }
 
@@ -162,66 +165,78 @@ fn two_bids_meet_a_fault_together(rt: HostRuntime) -> Result<(), Fail> {
 fn pair(alloc: Global) -> Result<String, Fail> {
     let first = post(alloc, "k1", BIDS[0])?;
     let second = post(alloc, "k1", BIDS[1])?;
-    Ok(format!(in alloc; "{first}{second}")?)
+    joined(alloc, &[first.as_str(), second.as_str()])
 }
 
-/// Serves a link that gives this text in pieces of so many bytes. It ends with its input and is replied this: how many
-/// calls of the disk that made.
-fn serve_pieces<R: Threads + Wait + Sync + Abort>(
+/// Serves a link that gives this text in pieces of so many bytes, in a room of which these calls of the disk fail. How
+/// many calls of the disk that made, if the link ends with its input and is replied this.
+fn calls_for<R: Threads + Wait + Sync + Abort>(
     rt: &R,
     alloc: Global,
     fails: Vec<u64>,
     text: &str,
     piece: usize,
     expected: &str,
-) -> Result<u64, Fail> {
+) -> Result<Option<u64>, Fail> {
     let before = opening_calls(rt, alloc)?;
-    let room = opened(rt, alloc, fails)?;
+    let mut room = Some(opened(rt, alloc, fails)?);
     let given = Given {
         piece,
         ..whole(text)
     };
-    let room = ends(rt, alloc, room, &given, End::EndOfInput, expected)?;
-    Ok(room.desk.into_disk().calls().saturating_sub(before))
+    if !ends(rt, alloc, &mut room, &given, End::EndOfInput, expected)? {
+        return Ok(None);
+    }
+    let room = room.expect(rt, "a room");
+    Ok(Some(room.desk.into_disk().calls().saturating_sub(before)))
 }
 
 #[test]
 fn bids_that_are_read_at_once_share_a_gate(rt: HostRuntime) -> Result<(), Fail> {
     let alloc = rt.alloc();
     let text = pair(alloc)?;
-    let expected = format!(in alloc; "{FIRST_REPLY}{SECOND_REPLY}")?;
+    let replies = joined(alloc, &[FIRST_REPLY, SECOND_REPLY])?;
+    let at_once = calls_for(&rt, alloc, Vec::new(alloc), &text, text.len(), &replies)?;
+    assert!(rt; at_once == Some(4));
     // Where they come one after the other each has a gate of its own.
-    for (piece, made) in [(text.len(), 4), (50, 8)] {
-        let calls = serve_pieces(&rt, alloc, Vec::new(alloc), &text, piece, &expected)?;
-        assert_eq!(rt; calls, made, "pieces of {piece}");
-    }
+    let in_turn = calls_for(&rt, alloc, Vec::new(alloc), &text, 50, &replies)?;
+    assert!(rt; in_turn == Some(8));
     Ok(())
 }
 
 /// The two bids, a query, the first bid again, and another dealer's.
 fn row_with_a_query(alloc: Global) -> Result<String, Fail> {
-    let query = "GET /bids/bill13 HTTP/1.1\r\nAuction-Key: k1\r\n\r\n";
-    let mut text = pair(alloc)?;
-    text.push_str(query)?;
-    text.push_str(&post(alloc, "k1", BIDS[0])?)?;
-    text.push_str(&post(alloc, "k2", OTHER_BID)?)?;
-    Ok(text)
+    let pair = pair(alloc)?;
+    let first = post(alloc, "k1", BIDS[0])?;
+    let other = post(alloc, "k2", OTHER_BID)?;
+    joined(
+        alloc,
+        &[pair.as_str(), QUERY, first.as_str(), other.as_str()],
+    )
 }
+
+const QUERY: &str = "GET /bids/bill13 HTTP/1.1\r\nAuction-Key: k1\r\n\r\n";
+
+const QUERY_REPLY: &str = replied!(
+    "200 OK",
+    46,
+    "7 fund1 4.300 100 live\n8 fund1 4.305 100 live\n"
+);
 
 #[test]
 fn a_query_and_another_key_end_a_row(rt: HostRuntime) -> Result<(), Fail> {
     let alloc = rt.alloc();
     let text = row_with_a_query(alloc)?;
-    let bids = replied!(
-        "200 OK",
-        46,
-        "7 fund1 4.300 100 live\n8 fund1 4.305 100 live\n"
-    );
-    let expected = format!(in alloc;
-        "{FIRST_REPLY}{SECOND_REPLY}{bids}{FIRST_REPLY}{FIRST_REPLY}"
-    )?;
-    let calls = serve_pieces(&rt, alloc, Vec::new(alloc), &text, text.len(), &expected)?;
-    assert_eq!(rt; calls, 8);
+    let replies = [
+        FIRST_REPLY,
+        SECOND_REPLY,
+        QUERY_REPLY,
+        FIRST_REPLY,
+        FIRST_REPLY,
+    ];
+    let expected = joined(alloc, &replies)?;
+    let calls = calls_for(&rt, alloc, Vec::new(alloc), &text, text.len(), &expected)?;
+    assert!(rt; calls == Some(8));
     Ok(())
 }
 
@@ -229,12 +244,14 @@ fn a_query_and_another_key_end_a_row(rt: HostRuntime) -> Result<(), Fail> {
 fn bids_that_share_a_gate_are_told_a_fault_together(rt: HostRuntime) -> Result<(), Fail> {
     let alloc = rt.alloc();
     let pair = pair(alloc)?;
-    let text = format!(in alloc; "{pair}{pair}")?;
-    let fault = replied!("503 Service Unavailable", 22, "unavailable DiskFault\n");
-    let expected = format!(in alloc; "{fault}{fault}{FIRST_REPLY}{SECOND_REPLY}")?;
+    let text = joined(alloc, &[pair.as_str(), pair.as_str()])?;
+    let replies = joined(
+        alloc,
+        &[FAULT_REPLY, FAULT_REPLY, FIRST_REPLY, SECOND_REPLY],
+    )?;
     let calls = opening_calls(&rt, alloc)?;
     let fails = vec![in alloc; calls.saturating_add(3); 1]?;
-    let _ = serve_pieces(&rt, alloc, fails, &text, pair.len(), &expected)?;
+    assert!(rt; calls_for(&rt, alloc, fails, &text, pair.len(), &replies)?.is_some());
     Ok(())
 }
 
@@ -242,13 +259,13 @@ fn bids_that_share_a_gate_are_told_a_fault_together(rt: HostRuntime) -> Result<(
 fn bids_whose_reply_is_not_written_stand(rt: HostRuntime) -> Result<(), Fail> {
     let alloc = rt.alloc();
     let text = pair(alloc)?;
-    let room = opened(&rt, alloc, Vec::new(alloc))?;
+    let mut room = Some(opened(&rt, alloc, Vec::new(alloc))?);
     let given = Given {
         piece: text.len(),
         failing_writes: &[1],
         ..whole(&text)
     };
-    let room = ends(&rt, alloc, room, &given, End::WriteFault, FIRST_REPLY)?;
-    assert_eq!(rt; room.desk.entries(), 7);
+    assert!(rt; ends(&rt, alloc, &mut room, &given, End::WriteFault, FIRST_REPLY)?);
+    assert!(rt; room.expect(&rt, "a room").desk.entries() == 7);
     Ok(())
 }

@@ -100,6 +100,13 @@ const CHANGED: &str = posted!(
     "{\"number\":1,\"kind\":\"bid\",\"auction\":\"bill13\",\"bidder\":\"fund1\",\"rate\":\"4.300\",\"amount\":200}"
 );
 
+/// The reply to a new bid at the closing.
+const LATE_REPLY: &str = replied!(
+    "422 Unprocessable Entity",
+    38,
+    "refused 17 Late 1730737800 1730737800\n"
+);
+
 /// A message without its members, and the reply to it.
 pub const SHAPELESS: &str = posted!("k1", 2, "{}");
 
@@ -121,8 +128,7 @@ fn room_on(rt: &impl Abort, alloc: Global, disk: MemoryDisk, seconds: u64) -> Re
     assert!(rt; (946_702_800..=4_102_444_799).contains(&seconds));
     let moments = vec![in alloc; Moment { seconds }; 1]?;
     let Ok(desk) = Desk::open(alloc, disk) else {
-        assert!(rt; false, "not opened");
-        return Err("not opened")?;
+        panic!(rt; "not opened")
     };
     Ok(Room {
         desk,
@@ -232,8 +238,7 @@ fn serve<R: Threads + Wait + Sync + Abort>(
         },
     ) = serve_gates(rt, alloc, room, &mut gates)
     else {
-        assert!(rt; false, "no memory");
-        return Err("no memory")?;
+        panic!(rt; "no memory")
     };
     let replies = replies_of(alloc, &gates)?;
     Ok((
@@ -261,18 +266,18 @@ fn serve_texts<R: Threads + Wait + Sync + Abort>(
     serve(rt, alloc, room, gates)
 }
 
-/// So many links were served and so many messages accepted, no gate failed, and these are the replies.
-fn expect(rt: &impl Abort, told: &Told, served: u64, accepted: u64, replies: &[&str]) {
-    told_so(rt, told, (served, accepted, false), replies);
+/// So many links were served and messages accepted, a gate failed or none, and these are the replies.
+fn tells(told: &Told, wanted: (u64, u64, bool), replies: &[&str]) -> bool {
+    (told.served, told.accepted, told.failed) == wanted && are_told(&told.replies, replies)
 }
 
-/// So many links were served and messages accepted, a gate failed or none, and these are the replies.
-fn told_so(rt: &impl Abort, told: &Told, wanted: (u64, u64, bool), replies: &[&str]) {
-    assert_eq!(rt; (told.served, told.accepted, told.failed), wanted);
-    assert_eq!(rt; told.replies.len(), replies.len());
-    for (reply, expected) in told.replies.iter().zip(replies) {
-        assert_eq!(rt; reply.as_str(), *expected);
+fn are_told(told: &[String], replies: &[&str]) -> bool {
+    for (reply, expected) in told.iter().zip(replies) {
+        if reply.as_str() != *expected {
+            return false;
+        }
     }
+    told.len() == replies.len()
 }
 
 /// A room in which the operator has opened the auction. These calls of its disk fail.
@@ -286,22 +291,22 @@ pub fn opened<R: Threads + Wait + Sync + Abort>(
         text.push_str(&post(alloc, "op:root", message)?)?;
     }
     let (room, told) = serve_texts(rt, alloc, empty_room(rt, alloc, fails)?, &[text.as_str()])?;
-    assert_eq!(rt; (told.served, told.accepted), (1, 5));
+    assert!(rt; told.served == 1 && told.accepted == 5);
     Ok(room)
 }
 
-/// Serves each text on a link of its own. So many messages are accepted, no gate fails, and these are the replies.
+/// Serves each text on a link of its own in a new room. So many messages are accepted, no gate fails, and these are the
+/// replies.
 fn serves<R: Threads + Wait + Sync + Abort>(
     rt: &R,
     alloc: Global,
-    room: Memory,
     texts: &[&str],
     accepted: u64,
     replies: &[&str],
-) -> Result<Memory, Fail> {
-    let (room, told) = serve_texts(rt, alloc, room, texts)?;
-    expect(rt, &told, texts.len() as u64, accepted, replies);
-    Ok(room)
+) -> Result<bool, Fail> {
+    let room = opened(rt, alloc, Vec::new(alloc))?;
+    let (_, told) = serve_texts(rt, alloc, room, texts)?;
+    Ok(tells(&told, (texts.len() as u64, accepted, false), replies))
 }
 
 /// How many calls of the disk open the auction.
@@ -312,186 +317,259 @@ pub fn opening_calls<R: Threads + Wait + Sync + Abort>(rt: &R, alloc: Global) ->
 #[test]
 fn two_workers_take_a_bid_each(rt: HostRuntime) -> Result<(), Fail> {
     let room = opened(&rt, rt.alloc(), Vec::new(rt.alloc()))?;
-    let replies = [FIRST_REPLY, SECOND_REPLY];
-    let room = serves(&rt, rt.alloc(), room, &[FIRST, SECOND], 2, &replies)?;
+    let (room, told) = serve_texts(&rt, rt.alloc(), room, &[FIRST, SECOND])?;
+    assert!(rt; tells(&told, (2, 2, false), &[FIRST_REPLY, SECOND_REPLY]));
     // The disk has both, each once, and so they stand after it is opened again. Past the closing a new bid is late.
     let room = room_on(&rt, rt.alloc(), room.desk.into_disk(), CLOSING)?;
-    assert_eq!(rt; room.desk.entries(), 7);
-    let late = replied!(
-        "422 Unprocessable Entity",
-        38,
-        "refused 17 Late 1730737800 1730737800\n"
-    );
-    let _ = serves(
-        &rt,
-        rt.alloc(),
-        room,
-        &[THIRD, FIRST],
-        0,
-        &[late, FIRST_REPLY],
-    )?;
+    assert!(rt; room.desk.entries() == 7);
+    let (_, told) = serve_texts(&rt, rt.alloc(), room, &[THIRD, FIRST])?;
+    assert!(rt; tells(&told, (2, 0, false), &[LATE_REPLY, FIRST_REPLY]));
     Ok(())
 }
 
 #[test]
 fn one_message_on_two_links_stands_once(rt: HostRuntime) -> Result<(), Fail> {
-    let room = opened(&rt, rt.alloc(), Vec::new(rt.alloc()))?;
-    let replies = [FIRST_REPLY, FIRST_REPLY];
-    let _ = serves(&rt, rt.alloc(), room, &[FIRST, FIRST], 1, &replies)?;
+    assert!(rt;
+        serves(
+            &rt,
+            rt.alloc(),
+            &[FIRST, FIRST],
+            1,
+            &[FIRST_REPLY, FIRST_REPLY]
+        )?
+    );
     Ok(())
 }
 
-/// Requests of one link, and the reply to each.
-const REQUESTS: [(&str, &str); 8] = [
-    (FIRST, FIRST_REPLY),
-    (
-        "GET /bids/bill13 HTTP/1.1\r\nAuction-Key: k1\r\n\r\n",
-        replied!("200 OK", 23, "1 fund1 4.300 100 live\n"),
-    ),
-    (SHAPELESS, SHAPELESS_REPLY),
-    (
-        posted!("k9", 2, "{}"),
-        replied!("401 Unauthorized", 21, "refused 1 UnknownKey\n"),
-    ),
-    (
-        "GET /elsewhere HTTP/1.1\r\n\r\n",
-        replied!("404 Not Found", 18, "refused 7 NoRoute\n"),
-    ),
-    (
-        "GET /messages HTTP/1.1\r\n\r\n",
-        replied!(
-            "405 Method Not Allowed",
-            20,
-            "Allow: POST\r\n",
-            "refused 8 BadMethod\n"
-        ),
-    ),
-    (
-        "GET /holdings HTTP/1.1\r\n\r\n",
-        replied!("401 Unauthorized", 21, "refused 1 UnknownKey\n"),
-    ),
-    (
-        "GET /results/bill13 HTTP/1.1\r\nAuction-Key: k1\r\nConnection: close\r\n\r\nGET",
-        replied_last!("404 Not Found", 24, "refused 62 NotPublished\n"),
-    ),
+/// Requests of one link.
+const REQUESTS: [&str; 8] = [
+    FIRST,
+    "GET /bids/bill13 HTTP/1.1\r\nAuction-Key: k1\r\n\r\n",
+    SHAPELESS,
+    posted!("k9", 2, "{}"),
+    "GET /elsewhere HTTP/1.1\r\n\r\n",
+    "GET /messages HTTP/1.1\r\n\r\n",
+    "GET /holdings HTTP/1.1\r\n\r\n",
+    "GET /results/bill13 HTTP/1.1\r\nAuction-Key: k1\r\nConnection: close\r\n\r\nGET",
 ];
+
+/// The reply to each.
+const REPLIES: [&str; 8] = [
+    FIRST_REPLY,
+    replied!("200 OK", 23, "1 fund1 4.300 100 live\n"),
+    SHAPELESS_REPLY,
+    replied!("401 Unauthorized", 21, "refused 1 UnknownKey\n"),
+    replied!("404 Not Found", 18, "refused 7 NoRoute\n"),
+    replied!(
+        "405 Method Not Allowed",
+        20,
+        "Allow: POST\r\n",
+        "refused 8 BadMethod\n"
+    ),
+    replied!("401 Unauthorized", 21, "refused 1 UnknownKey\n"),
+    replied_last!("404 Not Found", 24, "refused 62 NotPublished\n"),
+];
+
+/// Texts one behind the other.
+pub fn joined(alloc: Global, texts: &[&str]) -> Result<String, Fail> {
+    let mut all = String::new(alloc);
+    for text in texts {
+        all.push_str(text)?;
+    }
+    Ok(all)
+}
+
+/// Whether the first so many requests have the first so many replies, on one link.
+fn first_are_answered<R: Threads + Wait + Sync + Abort>(
+    rt: &R,
+    alloc: Global,
+    count: usize,
+) -> Result<bool, Fail> {
+    assert!(rt; count <= 8);
+    let text = joined(alloc, &REQUESTS[..count])?;
+    let replies = joined(alloc, &REPLIES[..count])?;
+    serves(rt, alloc, &[text.as_str()], 1, &[replies.as_str()])
+}
 
 #[test]
 fn a_link_is_answered_request_by_request(rt: HostRuntime) -> Result<(), Fail> {
-    let mut text = String::new(rt.alloc());
-    let mut expected = String::new(rt.alloc());
-    for (request, reply) in &REQUESTS {
-        text.push_str(request)?;
-        expected.push_str(reply)?;
-    }
-    let room = opened(&rt, rt.alloc(), Vec::new(rt.alloc()))?;
-    let _ = serves(
-        &rt,
-        rt.alloc(),
-        room,
-        &[text.as_str()],
-        1,
-        &[expected.as_str()],
-    )?;
+    assert!(rt; first_are_answered(&rt, rt.alloc(), 1)?);
+    assert!(rt; first_are_answered(&rt, rt.alloc(), 2)?);
+    assert!(rt; first_are_answered(&rt, rt.alloc(), 3)?);
+    assert!(rt; first_are_answered(&rt, rt.alloc(), 4)?);
+    assert!(rt; first_are_answered(&rt, rt.alloc(), 5)?);
+    assert!(rt; first_are_answered(&rt, rt.alloc(), 6)?);
+    assert!(rt; first_are_answered(&rt, rt.alloc(), 7)?);
+    assert!(rt; first_are_answered(&rt, rt.alloc(), 8)?);
     Ok(())
 }
 
-/// Serves one link in the room. It ends so, and is replied this.
-pub fn ends<R: Wait + Abort>(
+// Serves one link in a room: how it ended, and the link and the room afterwards.
+fn served<R: Wait + Abort>(
     rt: &R,
     alloc: Global,
     room: Memory,
     given: &Given<'_>,
-    ended: End,
-    reply: &str,
-) -> Result<Memory, Fail> {
+) -> Result<(End, PairLink, Memory), Fail> {
     assert!(rt; !room.desk.unsure());
     let mut link = link_of(rt, alloc, given)?;
     let Ok((lock, mut pass)) = TurnLock::new(alloc, room) else {
-        assert!(rt; false, "no memory");
-        return Err("no memory")?;
+        panic!(rt; "no memory")
     };
-    let found = serve_link(rt, alloc, &lock, &mut pass, &mut link);
-    assert_eq!(rt; found, ended, "{}", given.text);
-    assert!(rt; link.sink.bytes() == reply.as_bytes(), "{}", given.text);
-    let Ok(room) = lock.close(pass) else {
-        assert!(rt; false, "a turn is out");
-        return Err("a turn is out")?;
+    let end = serve_link(rt, alloc, &lock, &mut pass, &mut link);
+    let Ok(after) = lock.close(pass) else {
+        panic!(rt; "a turn is out")
     };
-    Ok(room)
+    Ok((end, link, after))
 }
 
-/// Texts of a link, how it ends, and what it is replied.
-const ENDS: [(&str, End, &str); 7] = [
-    ("", End::EndOfInput, ""),
-    (SHAPELESS, End::EndOfInput, SHAPELESS_REPLY),
-    ("POST /messages HTTP/1.1\r\n", End::CutShort, ""),
-    (
-        "POST /messages HTTP/1.1\r\nContent-Length: 4097\r\n\r\n",
-        End::BadRequest(413),
-        replied_last!("413 Payload Too Large", 12, "bad request\n"),
-    ),
-    (
-        "POST /messages HTTP/1.1\r\nTransfer-Encoding: chunked\r\n\r\n",
-        End::BadRequest(501),
-        replied_last!("501 Not Implemented", 12, "bad request\n"),
-    ),
-    (
-        "POST /messages HTTP/1.1\r\n\r\n{}",
-        End::BadRequest(411),
-        replied_last!("411 Length Required", 12, "bad request\n"),
-    ),
-    (
-        "POST /messages HTTP/1.1\r\nAuction-Key: k1\r\nConnection: close\r\nContent-Length: 2\r\n\r\n{}",
-        End::Asked,
-        replied_last!("400 Bad Request", 26, "refused 6 BadShape number\n"),
-    ),
-];
+/// Serves one link in the room, which serves the next one afterwards. Whether it ends so, and is replied this.
+pub fn ends<R: Wait + Abort>(
+    rt: &R,
+    alloc: Global,
+    room: &mut Option<Memory>,
+    given: &Given<'_>,
+    ended: End,
+    reply: &str,
+) -> Result<bool, Fail> {
+    let found = room.take().expect(rt, "a room");
+    let (end, link, after) = served(rt, alloc, found, given)?;
+    *room = Some(after);
+    Ok(end == ended && link.sink.bytes() == reply.as_bytes())
+}
+
+/// The same of a link that gives this text.
+fn text_ends<R: Wait + Abort>(
+    rt: &R,
+    alloc: Global,
+    room: &mut Option<Memory>,
+    text: &str,
+    ended: End,
+    reply: &str,
+) -> Result<bool, Fail> {
+    ends(rt, alloc, room, &whole(text), ended, reply)
+}
+
+/// Texts of a link that end it, and the replies to them.
+const CUT: &str = "POST /messages HTTP/1.1\r\n";
+
+const TOO_LONG: &str = "POST /messages HTTP/1.1\r\nContent-Length: 4097\r\n\r\n";
+
+const TOO_LONG_REPLY: &str = replied_last!("413 Payload Too Large", 12, "bad request\n");
+
+const CHUNKED: &str = "POST /messages HTTP/1.1\r\nTransfer-Encoding: chunked\r\n\r\n";
+
+const CHUNKED_REPLY: &str = replied_last!("501 Not Implemented", 12, "bad request\n");
+
+const WITHOUT_LENGTH: &str = "POST /messages HTTP/1.1\r\n\r\n{}";
+
+const WITHOUT_LENGTH_REPLY: &str = replied_last!("411 Length Required", 12, "bad request\n");
+
+const LAST: &str =
+    "POST /messages HTTP/1.1\r\nAuction-Key: k1\r\nConnection: close\r\nContent-Length: 2\r\n\r\n{}";
+
+const LAST_REPLY: &str = replied_last!("400 Bad Request", 26, "refused 6 BadShape number\n");
 
 #[test]
 fn a_link_ends_as_its_bytes_do(rt: HostRuntime) -> Result<(), Fail> {
-    let mut room = opened(&rt, rt.alloc(), Vec::new(rt.alloc()))?;
-    for (text, ended, reply) in &ENDS {
-        room = ends(&rt, rt.alloc(), room, &whole(text), *ended, reply)?;
-    }
+    let alloc = rt.alloc();
+    let mut room = Some(opened(&rt, alloc, Vec::new(alloc))?);
+    assert!(rt; text_ends(&rt, alloc, &mut room, "", End::EndOfInput, "")?);
+    assert!(rt;
+        text_ends(
+            &rt,
+            alloc,
+            &mut room,
+            SHAPELESS,
+            End::EndOfInput,
+            SHAPELESS_REPLY
+        )?
+    );
+    assert!(rt; text_ends(&rt, alloc, &mut room, CUT, End::CutShort, "")?);
+    assert!(rt;
+        text_ends(
+            &rt,
+            alloc,
+            &mut room,
+            TOO_LONG,
+            End::BadRequest(413),
+            TOO_LONG_REPLY
+        )?
+    );
+    assert!(rt;
+        text_ends(
+            &rt,
+            alloc,
+            &mut room,
+            CHUNKED,
+            End::BadRequest(501),
+            CHUNKED_REPLY
+        )?
+    );
+    assert!(rt;
+        text_ends(
+            &rt,
+            alloc,
+            &mut room,
+            WITHOUT_LENGTH,
+            End::BadRequest(411),
+            WITHOUT_LENGTH_REPLY
+        )?
+    );
+    assert!(rt; text_ends(&rt, alloc, &mut room, LAST, End::Asked, LAST_REPLY)?);
     Ok(())
+}
+
+/// A link with this text, of which these calls fail.
+fn failing<'a>(text: &'a str, reads: &'a [u64], writes: &'a [u64]) -> Given<'a> {
+    Given {
+        failing_reads: reads,
+        failing_writes: writes,
+        ..whole(text)
+    }
+}
+
+/// A link with a message on which these calls fail ends so, and is replied nothing.
+fn fails<R: Wait + Abort>(
+    rt: &R,
+    alloc: Global,
+    room: &mut Option<Memory>,
+    failing_reads: &[u64],
+    failing_writes: &[u64],
+    ended: End,
+) -> Result<bool, Fail> {
+    let given = failing(SHAPELESS, failing_reads, failing_writes);
+    ends(rt, alloc, room, &given, ended, "")
 }
 
 #[test]
 fn a_link_ends_at_a_failing_call(rt: HostRuntime) -> Result<(), Fail> {
-    let mut room = opened(&rt, rt.alloc(), Vec::new(rt.alloc()))?;
-    let asked = whole(SHAPELESS);
-    for (failing_reads, failing_writes, ended) in [
-        ([0].as_slice(), [].as_slice(), End::ReadFault),
-        ([].as_slice(), [0].as_slice(), End::WriteFault),
-    ] {
-        let failing = Given {
-            failing_reads,
-            failing_writes,
-            ..asked
-        };
-        room = ends(&rt, rt.alloc(), room, &failing, ended, "")?;
-    }
+    let mut room = Some(opened(&rt, rt.alloc(), Vec::new(rt.alloc()))?);
+    assert!(rt; fails(&rt, rt.alloc(), &mut room, &[0], &[], End::ReadFault)?);
+    assert!(rt; fails(&rt, rt.alloc(), &mut room, &[], &[0], End::WriteFault)?);
     Ok(())
+}
+
+/// Whether a message that comes in pieces of so many bytes has its reply.
+fn comes_in_pieces<R: Wait + Abort>(
+    rt: &R,
+    alloc: Global,
+    room: &mut Option<Memory>,
+    piece: usize,
+) -> Result<bool, Fail> {
+    let given = Given {
+        piece,
+        ..whole(SHAPELESS)
+    };
+    ends(rt, alloc, room, &given, End::EndOfInput, SHAPELESS_REPLY)
 }
 
 // However the bytes are cut, the reply is the same.
 #[test]
 fn a_request_comes_in_pieces(rt: HostRuntime) -> Result<(), Fail> {
-    let mut room = opened(&rt, rt.alloc(), Vec::new(rt.alloc()))?;
+    let mut room = Some(opened(&rt, rt.alloc(), Vec::new(rt.alloc()))?);
     for piece in 1..SHAPELESS.len() {
-        let given = Given {
-            piece,
-            ..whole(SHAPELESS)
-        };
-        room = ends(
-            &rt,
-            rt.alloc(),
-            room,
-            &given,
-            End::EndOfInput,
-            SHAPELESS_REPLY,
-        )?;
+        assert!(rt; comes_in_pieces(&rt, rt.alloc(), &mut room, piece)?);
     }
     Ok(())
 }
@@ -501,41 +579,50 @@ fn a_request_comes_in_pieces(rt: HostRuntime) -> Result<(), Fail> {
 fn fails_beside<R: Threads + Wait + Sync + Abort>(
     rt: &R,
     alloc: Global,
-    room: Memory,
-    failing_reads: &[u64],
-    failing_writes: &[u64],
+    room: &mut Option<Memory>,
+    failing: Given<'_>,
     expected: &str,
     new: u64,
-) -> Result<Memory, Fail> {
-    let text = format!(in alloc; "{OTHER_SHAPELESS}{OTHER_SHAPELESS}")?;
-    let failing = Given {
-        failing_reads,
-        failing_writes,
-        ..whole(&text)
-    };
+) -> Result<bool, Fail> {
     let mut gates = Vec::new(alloc);
     gates.push(gate_of(rt, alloc, &[failing], &[])?)?;
     gates.push(gate_of(rt, alloc, &[whole(FIRST)], &[])?)?;
-    let (room, told) = serve(rt, alloc, room, gates)?;
-    expect(rt, &told, 2, new, &[expected, FIRST_REPLY]);
-    Ok(room)
+    let found = room.take().expect(rt, "a room");
+    let (after, told) = serve(rt, alloc, found, gates)?;
+    *room = Some(after);
+    Ok(tells(&told, (2, new, false), &[expected, FIRST_REPLY]))
 }
 
 #[test]
 fn a_failing_link_leaves_the_others_whole(rt: HostRuntime) -> Result<(), Fail> {
     let alloc = rt.alloc();
-    let both = format!(in alloc; "{SHAPELESS_REPLY}{SHAPELESS_REPLY}")?;
-    let mut room = opened(&rt, alloc, Vec::new(alloc))?;
-    for (reads, writes, expected, new) in [
-        ([0].as_slice(), [].as_slice(), "", 1),
-        ([1].as_slice(), [].as_slice(), "", 0),
-        ([2].as_slice(), [].as_slice(), SHAPELESS_REPLY, 0),
-        ([3].as_slice(), [].as_slice(), both.as_str(), 0),
-        ([].as_slice(), [0].as_slice(), "", 0),
-        ([].as_slice(), [1].as_slice(), SHAPELESS_REPLY, 0),
-    ] {
-        room = fails_beside(&rt, alloc, room, reads, writes, expected, new)?;
-    }
+    let mut room = Some(opened(&rt, alloc, Vec::new(alloc))?);
+    let text = joined(alloc, &[OTHER_SHAPELESS, OTHER_SHAPELESS])?;
+    let both = joined(alloc, &[SHAPELESS_REPLY, SHAPELESS_REPLY])?;
+    assert!(rt; fails_beside(&rt, alloc, &mut room, failing(&text, &[0], &[]), "", 1)?);
+    assert!(rt; fails_beside(&rt, alloc, &mut room, failing(&text, &[1], &[]), "", 0)?);
+    assert!(rt;
+        fails_beside(
+            &rt,
+            alloc,
+            &mut room,
+            failing(&text, &[2], &[]),
+            SHAPELESS_REPLY,
+            0
+        )?
+    );
+    assert!(rt; fails_beside(&rt, alloc, &mut room, failing(&text, &[3], &[]), &both, 0)?);
+    assert!(rt; fails_beside(&rt, alloc, &mut room, failing(&text, &[], &[0]), "", 0)?);
+    assert!(rt;
+        fails_beside(
+            &rt,
+            alloc,
+            &mut room,
+            failing(&text, &[], &[1]),
+            SHAPELESS_REPLY,
+            0
+        )?
+    );
     Ok(())
 }
 
@@ -555,30 +642,25 @@ fn serve_at_one<R: Threads + Wait + Sync + Abort>(
 fn a_gate_is_served_until_it_fails(rt: HostRuntime) -> Result<(), Fail> {
     let room = opened(&rt, rt.alloc(), Vec::new(rt.alloc()))?;
     let (room, told) = serve_at_one(&rt, rt.alloc(), room, &[1])?;
-    told_so(&rt, &told, (1, 1, true), &[FIRST_REPLY]);
+    assert!(rt; tells(&told, (1, 1, true), &[FIRST_REPLY]));
     // A gate that doesn't fail gives all links.
     let (_, told) = serve_at_one(&rt, rt.alloc(), room, &[])?;
-    expect(&rt, &told, 2, 1, &[FIRST_REPLY, SECOND_REPLY]);
+    assert!(rt; tells(&told, (2, 1, false), &[FIRST_REPLY, SECOND_REPLY]));
     Ok(())
 }
 
+pub const FAULT_REPLY: &str = replied!("503 Service Unavailable", 22, "unavailable DiskFault\n");
+
 #[test]
 fn a_disk_fault_is_told_and_the_link_goes_on(rt: HostRuntime) -> Result<(), Fail> {
-    let text = format!(in rt.alloc(); "{FIRST}{FIRST}")?;
-    let fault = replied!("503 Service Unavailable", 22, "unavailable DiskFault\n");
-    let expected = format!(in rt.alloc(); "{fault}{FIRST_REPLY}")?;
+    let text = joined(rt.alloc(), &[FIRST, FIRST])?;
+    let replies = joined(rt.alloc(), &[FAULT_REPLY, FIRST_REPLY])?;
     // The last of the four calls of the disk at a new message fails, so its entry stands at the next turn.
     let calls = opening_calls(&rt, rt.alloc())?;
     let fails = vec![in rt.alloc(); calls.saturating_add(3); 1]?;
     let room = opened(&rt, rt.alloc(), fails)?;
-    let _ = serves(
-        &rt,
-        rt.alloc(),
-        room,
-        &[text.as_str()],
-        1,
-        &[expected.as_str()],
-    )?;
+    let (_, told) = serve_texts(&rt, rt.alloc(), room, &[text.as_str()])?;
+    assert!(rt; tells(&told, (1, 1, false), &[replies.as_str()]));
     Ok(())
 }
 
@@ -596,15 +678,15 @@ fn other_bids(alloc: Global, count: u64) -> Result<String, Fail> {
 }
 
 /// What a dealer sends, and asks.
-fn own_requests(alloc: Global) -> Result<String, Fail> {
-    let mut text = format!(in alloc; "{FIRST}{FIRST}{CHANGED}")?;
-    for path in ["bids", "awards", "results", "terms"] {
-        text.push_str(&format!(in alloc;
-            "GET /{path}/bill13 HTTP/1.1\r\nAuction-Key: k1\r\n\r\n"
-        )?)?;
-    }
-    Ok(text)
-}
+const OWN: [&str; 7] = [
+    FIRST,
+    FIRST,
+    CHANGED,
+    "GET /bids/bill13 HTTP/1.1\r\nAuction-Key: k1\r\n\r\n",
+    "GET /awards/bill13 HTTP/1.1\r\nAuction-Key: k1\r\n\r\n",
+    "GET /results/bill13 HTTP/1.1\r\nAuction-Key: k1\r\n\r\n",
+    "GET /terms/bill13 HTTP/1.1\r\nAuction-Key: k1\r\n\r\n",
+];
 
 /// The reply to the first of these texts, each on a link of its own in a room of their own. So many messages are
 /// accepted.
@@ -616,21 +698,18 @@ fn first_reply<R: Threads + Wait + Sync + Abort>(
 ) -> Result<String, Fail> {
     let room = opened(rt, alloc, Vec::new(alloc))?;
     let (_, told) = serve_texts(rt, alloc, room, texts)?;
-    assert_eq!(rt; told.accepted, accepted);
-    assert_eq!(rt; told.replies.len(), texts.len());
-    match told.replies.first() {
-        Some(reply) => Ok(reply.clone()?),
-        None => Err("no reply")?,
-    }
+    assert!(rt; told.accepted == accepted && told.replies.len() == texts.len());
+    let reply = told.replies.first().expect(rt, "a reply");
+    Ok(reply.clone()?)
 }
 
 #[test]
 fn a_dealer_learns_nothing_of_the_others(rt: HostRuntime) -> Result<(), Fail> {
-    let own = own_requests(rt.alloc())?;
+    let own = joined(rt.alloc(), &OWN)?;
     let bids = other_bids(rt.alloc(), 1000)?;
     let alone = first_reply(&rt, rt.alloc(), &[own.as_str()], 1)?;
     let beside = first_reply(&rt, rt.alloc(), &[own.as_str(), bids.as_str()], 1001)?;
-    assert_eq!(rt; alone.as_str(), beside.as_str());
+    assert!(rt; alone.as_str() == beside.as_str());
     Ok(())
 }
 
@@ -639,7 +718,7 @@ fn a_room_is_called_by_a_key(rt: HostRuntime) -> Result<(), Fail> {
     let dealer = Key::read("k1").expect(&rt, "a key");
     let nobody = Key::read("k9").expect(&rt, "a key");
     let mut room = opened(&rt, rt.alloc(), Vec::new(rt.alloc()))?;
-    assert_eq!(rt; (room.knows(&dealer), room.knows(&nobody)), (true, false));
+    assert!(rt; room.knows(&dealer) && !room.knows(&nobody));
     let answer = room.read(rt.alloc(), &dealer, &Query::Holdings);
     assert!(rt; matches!(answer, Answer::Reading(_)));
     Ok(())

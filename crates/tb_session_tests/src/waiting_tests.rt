@@ -1,7 +1,7 @@
 //! A client that sends nothing more before it has its reply: it is answered only by a session that doesn't read on while
 //! a whole request waits.
 
-use crate::tests::{FIRST, FIRST_REPLY, Memory, SHAPELESS, SHAPELESS_REPLY, opened};
+use crate::tests::{FIRST, FIRST_REPLY, Memory, SHAPELESS, SHAPELESS_REPLY, joined, opened};
 use std::alloc::Global;
 use std::process::Abort;
 use std::sync::Wait;
@@ -111,54 +111,67 @@ fn link_of(
     })
 }
 
-/// Serves a link in the room, and says how it ended.
+/// Serves a link in the room, which serves the next one afterwards, and says how it ended.
 fn serve<R: Wait + Abort>(
     rt: &R,
     alloc: Global,
-    room: Memory,
+    room: &mut Option<Memory>,
     link: &mut WaitingLink,
-) -> Result<(Memory, End), Fail> {
-    assert!(rt; !room.desk.unsure());
-    let Ok((lock, mut pass)) = TurnLock::new(alloc, room) else {
-        assert!(rt; false, "no memory");
-        return Err("no memory")?;
+) -> End {
+    let found = room.take().expect(rt, "a room");
+    assert!(rt; !found.desk.unsure());
+    let Ok((lock, mut pass)) = TurnLock::new(alloc, found) else {
+        panic!(rt; "no memory")
     };
     let ended = serve_link(rt, alloc, &lock, &mut pass, link);
-    let Ok(room) = lock.close(pass) else {
-        assert!(rt; false, "a turn is out");
-        return Err("a turn is out")?;
+    let Ok(after) = lock.close(pass) else {
+        panic!(rt; "a turn is out")
     };
-    Ok((room, ended))
+    *room = Some(after);
+    ended
 }
 
-/// Three requests with this text, each of which has this reply, and one read more finds the end of the input.
+/// Three requests with this text come in pieces of so many bytes. Whether each has this reply, and one read more finds
+/// the end of the input.
 fn three_are_answered<R: Wait + Abort>(
     rt: &R,
     alloc: Global,
-    room: Memory,
+    room: &mut Option<Memory>,
     request: &str,
     piece: usize,
     reply: &str,
-) -> Result<Memory, Fail> {
+) -> Result<bool, Fail> {
     let mut link = link_of(rt, alloc, request, 3, piece)?;
-    let (room, ended) = serve(rt, alloc, room, &mut link)?;
-    assert!(rt; !link.lost, "pieces of {piece}");
-    assert_eq!(rt; ended, End::EndOfInput);
-    let expected = format!(in alloc; "{reply}{reply}{reply}")?;
-    assert_eq!(rt; link.pair.sink.bytes(), expected.as_bytes());
-    Ok(room)
+    let ended = serve(rt, alloc, room, &mut link);
+    let expected = joined(alloc, &[reply, reply, reply])?;
+    let taken = link.pair.sink.bytes();
+    Ok(!link.lost && ended == End::EndOfInput && taken == expected.as_bytes())
 }
 
 // Two of them come in one piece, or parts of them.
 #[test]
 fn a_client_that_waits_for_its_replies_is_answered(rt: HostRuntime) -> Result<(), Fail> {
     let alloc = rt.alloc();
-    let mut room = opened(&rt, alloc, Vec::new(alloc))?;
-    for (request, reply) in [(SHAPELESS, SHAPELESS_REPLY), (FIRST, FIRST_REPLY)] {
-        for piece in [1, 50, request.len(), request.len() * 2] {
-            room = three_are_answered(&rt, alloc, room, request, piece, reply)?;
-        }
-    }
+    let mut room = Some(opened(&rt, alloc, Vec::new(alloc))?);
+    let shapeless = SHAPELESS.len();
+    assert!(rt; three_are_answered(&rt, alloc, &mut room, SHAPELESS, 1, SHAPELESS_REPLY)?);
+    assert!(rt; three_are_answered(&rt, alloc, &mut room, SHAPELESS, 50, SHAPELESS_REPLY)?);
+    assert!(rt; three_are_answered(&rt, alloc, &mut room, SHAPELESS, shapeless, SHAPELESS_REPLY)?);
+    assert!(rt;
+        three_are_answered(
+            &rt,
+            alloc,
+            &mut room,
+            SHAPELESS,
+            shapeless * 2,
+            SHAPELESS_REPLY
+        )?
+    );
+    let bid = FIRST.len();
+    assert!(rt; three_are_answered(&rt, alloc, &mut room, FIRST, 1, FIRST_REPLY)?);
+    assert!(rt; three_are_answered(&rt, alloc, &mut room, FIRST, 50, FIRST_REPLY)?);
+    assert!(rt; three_are_answered(&rt, alloc, &mut room, FIRST, bid, FIRST_REPLY)?);
+    assert!(rt; three_are_answered(&rt, alloc, &mut room, FIRST, bid * 2, FIRST_REPLY)?);
     Ok(())
 }
 
@@ -169,10 +182,9 @@ const CLOSING: &str = "GET /elsewhere HTTP/1.1\r\nConnection: close\r\n\r\n";
 #[test]
 fn nothing_is_read_behind_the_reply_that_closes(rt: HostRuntime) -> Result<(), Fail> {
     let alloc = rt.alloc();
-    let room = opened(&rt, alloc, Vec::new(alloc))?;
+    let mut room = Some(opened(&rt, alloc, Vec::new(alloc))?);
     let mut link = link_of(&rt, alloc, CLOSING, 2, 1)?;
-    let (_room, ended) = serve(&rt, alloc, room, &mut link)?;
-    assert_eq!(rt; ended, End::Asked);
-    assert_eq!(rt; link.reads, CLOSING.len() as u64);
+    assert!(rt; serve(&rt, alloc, &mut room, &mut link) == End::Asked);
+    assert!(rt; link.reads == CLOSING.len() as u64);
     Ok(())
 }

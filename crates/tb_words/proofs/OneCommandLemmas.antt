@@ -112,6 +112,7 @@ one_spelled (command.Report operator caller asked csv)
     let queries : asked ≡ query = one_query asked query (sym is_one.line.places ∙ is_other.line.places) in
     let switches : csv ≡ switch = one_switch csv switch (sym is_one.line.switch ∙ is_other.line.switch) in
     cc (names, keys, queries, switches)
+one_spelled command.Migrate command.Migrate items named is_one is_other = refl
 one_spelled (command.Trial seed count) (command.Trial start size) items named is_one is_other =
     let same : decimal seed ∷ decimal count ∷ [] ≡ decimal start ∷ decimal size ∷ [] =
     sym is_one.line.places ∙ is_other.line.places in

@@ -59,6 +59,7 @@ name_of (command.Run operator) = codes "run"
 name_of (command.Serve operator port workers links) = codes "serve"
 name_of (command.Import operator caller) = codes "import"
 name_of (command.Report operator caller asked csv) = codes "report"
+name_of command.Migrate = codes "migrate"
 name_of (command.Trial seed count) = codes "trial"
 
 -- what stands behind it
@@ -82,6 +83,7 @@ line_of (command.Report operator caller asked csv) = record {
   options = (codes "--op", operator) ∷ (codes "--key", key_text caller) ∷ [];
   csv = csv;
 }
+line_of command.Migrate = record { places = []; options = []; csv = false }
 line_of (command.Trial seed count) = record { places = decimal seed ∷ decimal count ∷ []; options = []; csv = false }
 
 -- names are names, numbers are in their ranges, and a table is asked for where there is one
@@ -96,6 +98,7 @@ IsInRange (command.Serve operator port workers links) =
 IsInRange (command.Import operator caller) = (is_name operator ≡ true) × IsKey caller
 IsInRange (command.Report operator caller asked csv) =
     (is_name operator ≡ true) × IsKey caller × IsQuery asked × (csv ≡ true → has_table asked ≡ true)
+IsInRange command.Migrate = ⊤
 IsInRange (command.Trial seed count) = (seed < 2 ^ 64) × ((1 ≤ count) × (count ≤ 10 ^ 6))
 
 -- the items behind the command's name are those of the command, whose values are in their ranges

@@ -31,6 +31,7 @@ fn host<'a>(alloc: Global) -> Result<clap::Command<'a>, AllocError> {
         .subcommand(serve(alloc)?)?
         .subcommand(import(alloc)?)?
         .subcommand(report(alloc)?)?
+        .subcommand(clap::Command::new(alloc, "migrate"))?
         .subcommand(trial(alloc)?)
 }
 
@@ -101,6 +102,8 @@ fn said(matches: &ArgMatches<'_>) -> Option<Command> {
         })
     } else if name == "report" {
         said_report(given)
+    } else if name == "migrate" {
+        Some(Command::Migrate)
     } else {
         Some(Command::Trial {
             seed: number(given, "seed", 0, u64::MAX)?,

@@ -32,6 +32,8 @@ pub enum Command {
         query: Query,
         csv: bool,
     },
+    /// Migrates the journal of the first version into the spare.
+    Migrate,
     /// Runs an auction of so many bids that follow from a seed.
     Trial {
         seed: u64,

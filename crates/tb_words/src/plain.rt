@@ -36,6 +36,8 @@ fn read_named(name: &str, words: &[String]) -> Option<Command>
         import(words)
     } else if name == "report" {
         report(words)
+    } else if name == "migrate" {
+        migrate(words)
     } else if name == "trial" {
         trial(words)
     } else {
@@ -108,6 +110,15 @@ fn report(words: &[String]) -> Option<Command>
         query,
         csv: shape.csv,
     })
+}
+
+fn migrate(words: &[String]) -> Option<Command>
+    ensures { IsReadAs (codes "migrate") (map string_bytes words.now) result }
+{
+    match places_alone(words)? {
+        Places::Nothing => Some(Command::Migrate),
+        _ => None,
+    }
 }
 
 fn trial(words: &[String]) -> Option<Command>

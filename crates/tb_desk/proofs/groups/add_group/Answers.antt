@@ -31,14 +31,14 @@ returns-clause-added g c =
     let bytes = c.deref.ensures.value ∙ c.spell.ensures.bytes in
     on_ok_both c.append.result _ _ _ c.append.ensures.adds c.append.ensures.sure
     (λ adds sure history stands legal.
-    (let here : new.gate ≡ old.gate + 5 + length (spellings group) =
-    sure.1 ∙ ap (λ (payload : List ℕ). old.gate + 5 + length payload) bytes in
+    (let here : new.gate ≡ old.gate + 13 + length (spellings group) =
+    sure.1 ∙ ap (λ (payload : List ℕ). old.gate + 13 + length payload) bytes in
     let told : Told (d old.disk) (d new.disk) (Adds (spellings group) old.gate
-    (old.gate + 5 + length (spellings group))) =
+    (old.gate + 13 + length (spellings group))) =
     subst (λ (gate : ℕ). Told (d old.disk) (d new.disk) (Adds (spellings group) old.gate gate)) here
     (subst (λ (payload : List ℕ). Told (d old.disk) (d new.disk) (Adds payload old.gate new.gate)) bytes adds) in
     subst (λ (gate : ℕ). Stands (d new.disk) gate new.doubt (history ++ group) []) (sym here)
-    (subst (λ (next : Option ℕ). Stands (d new.disk) (old.gate + 5 + length (spellings group)) next (history ++ group)
+    (subst (λ (next : Option ℕ). Stands (d new.disk) (old.gate + 13 + length (spellings group)) next (history ++ group)
     [])
     (sym sure.0)
     (Stands-added (d old.disk) (d new.disk) old.gate old.doubt history group stands c.requires.some legal told))))

@@ -47,7 +47,7 @@ returns-in-Err-clause-stands g c =
     subst (λ (gate : ℕ). Stands (d new.disk) gate new.doubt history doubt) (sym c.in-Err.ensures.unsure.1)
     (subst (λ (next : Option ℕ). Stands (d new.disk) old.gate next history doubt) (sym c.in-Err.ensures.unsure.0)
     (Stands-still (d old.disk) (d new.disk) old.gate old.doubt history doubt some c.requires.stands
-    (c.in-Err.ensures.doubts (old.gate + 5 + length (spellings doubt)) is)))
+    (c.in-Err.ensures.doubts (old.gate + 13 + length (spellings doubt)) is)))
 
 pub returns-in-Err-clause-unsure : goal.returns-in-Err-clause-unsure
 returns-in-Err-clause-unsure g c =
@@ -65,7 +65,7 @@ returns-in-Err-clause-crash g c =
     let history = c.args.host.now.history in
     let is = next_is (d old.disk) (d new.disk) old.gate old.doubt history doubt some c.requires.stands in
     crash-settled (d old.disk) (d new.disk) old.gate old.doubt history doubt some c.requires.stands
-    (c.in-Err.ensures.crash (old.gate + 5 + length (spellings doubt)) is)
+    (c.in-Err.ensures.crash (old.gate + 13 + length (spellings doubt)) is)
 
 pub apply_all-requires-clause-legal : goal.apply_all-requires-clause-legal
 apply_all-requires-clause-legal g c = rw (c.as_slice-in-Ok-true.ensures.value) c.requires.stands.accepted
@@ -82,7 +82,7 @@ returns-in-Ok-true-clause-stands g c =
     let some : IsGroup doubt = subst (λ (entries : List Entry). IsGroup entries) c.as_slice.ensures.value
     (c.is_empty.ensures.some c.if-is_empty.false) in
     let history = c.args.host.now.history in
-    let n : ℕ = old.gate + 5 + length (spellings doubt) in
+    let n : ℕ = old.gate + 13 + length (spellings doubt) in
     let is = next_is (d old.disk) (d new.disk) old.gate old.doubt history doubt some c.requires.stands in
     let moves : new.gate ≡ n = c.in-Ok-true.ensures.sure.1 n is
     ∙ ap (λ (b : Bool). cond b n old.gate) c.in-Ok-true.field-0-test in
@@ -130,7 +130,7 @@ returns-in-Ok-true-clause-crash g c =
     let history = c.args.host.now.history in
     let is = next_is (d old.disk) (d new.disk) old.gate old.doubt history doubt some c.requires.stands in
     crash-settled (d old.disk) (d new.disk) old.gate old.doubt history doubt some c.requires.stands
-    (c.in-Ok-true.ensures.crash (old.gate + 5 + length (spellings doubt)) is)
+    (c.in-Ok-true.ensures.crash (old.gate + 13 + length (spellings doubt)) is)
 
 pub returns-in-Ok-false-clause-stands : goal.returns-in-Ok-false-clause-stands
 returns-in-Ok-false-clause-stands g c =
@@ -141,7 +141,7 @@ returns-in-Ok-false-clause-stands g c =
     let some : IsGroup doubt = subst (λ (entries : List Entry). IsGroup entries) c.as_slice.ensures.value
     (c.is_empty.ensures.some c.if-is_empty.false) in
     let history = c.args.host.now.history in
-    let n : ℕ = old.gate + 5 + length (spellings doubt) in
+    let n : ℕ = old.gate + 13 + length (spellings doubt) in
     let is = next_is (d old.disk) (d new.disk) old.gate old.doubt history doubt some c.requires.stands in
     let stays : new.gate ≡ old.gate = c.in-Ok-false.ensures.sure.1 n is
     ∙ ap (λ (b : Bool). cond b n old.gate) c.in-Ok-false.field-0-test in
@@ -177,4 +177,4 @@ returns-in-Ok-false-clause-crash g c =
     let history = c.args.host.now.history in
     let is = next_is (d old.disk) (d new.disk) old.gate old.doubt history doubt some c.requires.stands in
     crash-settled (d old.disk) (d new.disk) old.gate old.doubt history doubt some c.requires.stands
-    (c.in-Ok-false.ensures.crash (old.gate + 5 + length (spellings doubt)) is)
+    (c.in-Ok-false.ensures.crash (old.gate + 13 + length (spellings doubt)) is)

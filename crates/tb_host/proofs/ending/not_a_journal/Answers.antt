@@ -1,5 +1,4 @@
-use Rattle.std.proofs.Common.{[], ◌∷◌, length, ap, arith}
-use Rattle.std.proofs.lemmas.List.{length-append}
+use Rattle.std.proofs.Common.{arith}
 use Rattle.tb_host.proofs.HexLemmas.{length-told}
 use Rattle.tb_host.proofs.ending.not_a_journal.Goals as goal
 
@@ -8,7 +7,7 @@ push-requires c =
     let size = length-told c.args.found.now c.loop-byte.byte-index c.loop-byte.message c.loop-byte.invariant in
     omega (arith, size)
 
-pub push-requires-in-loop-byte : goal.push-requires-in-loop-byte
-push-requires-in-loop-byte c =
+pub push_hexadecimal-requires : goal.push_hexadecimal-requires
+push_hexadecimal-requires c =
     let size = length-told c.args.found.now c.loop-byte.byte-index c.loop-byte.message c.loop-byte.invariant in
-    omega (arith, size, ap length c.push.ensures, length-append c.loop-byte.message (c.hex_digit.result ∷ []))
+    omega (arith, size)

@@ -49,4 +49,5 @@ returns-clause-untouched g c = λ is.
       left.1,
       left.2,
       left.3,
+      left.4,
     )

@@ -1,8 +1,8 @@
 -- The gate is found, or it is said why not.
-use Rattle.std.proofs.Common.{◌≡◌, ◌≤◌, ℕ, arith, ap, sym, ◌∙◌}
+use Rattle.std.proofs.Common.{ℕ, arith, subst, sym, ◌∙◌}
 use Rattle.std.proofs.lemmas.Result.{err_from_is_err_and, MatchResult-weaker}
-use Rattle.tb_journal.specs.declared.fault.JournalFault.{JournalFault}
-use Rattle.tb_journal.proofs.OpeningLemmas.{measuring_fails, find_making_fails, find_made, has_length, find_found, find_refused}
+use Rattle.tb_journal.specs.Journal.{Told}
+use Rattle.tb_journal.proofs.OpeningLemmas.{FindsThem, measuring_fails, find_making_fails, find_made, has_length, find_found, find_refused}
 use Rattle.tb_journal.proofs.opening.find.Goals as goal
 
 pub returns-in_err-size-clause-err : goal.returns-in_err-size-clause-err
@@ -28,7 +28,8 @@ pub returns-clause-ok : goal.returns-clause-ok
 returns-clause-ok g c =
     let d = g.D.Disk.disk in
     MatchResult-weaker c.find_gate.result c.find_gate.ensures.ok
-    (λ gate ends. find_found gate c.in_ok-size.size (d c.args.disk.now) (d c.measure.new.disk) (d c.find_gate.new.disk)
+    (λ found ends. find_found found.0 found.1 c.in_ok-size.size (d c.args.disk.now) (d c.measure.new.disk)
+    (d c.find_gate.new.disk)
     c.find_gate.ensures.kept c.in_ok-size.ensures.ok ends)
     (λ fault h. h)
 
@@ -42,5 +43,6 @@ returns-clause-err g c =
 pub returns-then-size-clause-ok : goal.returns-then-size-clause-ok
 returns-then-size-clause-ok g c =
     let d = g.D.Disk.disk in
-    find_made c.in_ok-size.size (d c.args.disk.now) (d c.measure.new.disk) (d c.make.new.disk)
-    (omega (arith, c.if-size.true)) c.in_ok-size.ensures.ok c.in_ok-make.ensures.ok
+    subst (λ (gate : ℕ). Told (d c.args.disk.now) (d c.make.new.disk) (FindsThem gate 0)) (sym c.first_gate.ensures)
+    (find_made c.in_ok-size.size (d c.args.disk.now) (d c.measure.new.disk) (d c.make.new.disk)
+    (omega (arith, c.if-size.true)) c.in_ok-size.ensures.ok c.in_ok-make.ensures.ok)

@@ -1,5 +1,5 @@
-use Rattle.tb_message.proofs.RecordLaws.{spellings-one}
+use Rattle.tb_message.proofs.RecordLaws.{spellings_in-one}
 use Rattle.tb_message.proofs.laws.one_list.Goals as goal
 
 pub returns : goal.returns
-returns c = spellings-one
+returns c = spellings_in-one

@@ -1,5 +1,5 @@
 -- What is in doubt is settled, or it is in doubt still.
-use Rattle.std.proofs.Common.{◌≡◌, ◌↔◌, ℕ, Option, Some, IfSome, IsTrue, Bool, true, slice_index, ap, subst, sym, ◌∙◌}
+use Rattle.std.proofs.Common.{◌≡◌, ◌↔◌, ◌<◌, ℕ, arith, Option, Some, IfSome, IsTrue, Bool, true, slice_index, ap, subst, sym, ◌∙◌}
 use Rattle.tb_disk.specs.Past.{contents_of}
 use Rattle.tb_journal.specs.Journal.{Told, Settles, LeavesInDoubt}
 use Rattle.tb_journal.specs.Journals.{JournalView}
@@ -14,14 +14,19 @@ pub invariant_of-self : goal.invariant_of-self
 invariant_of-self g c =
     let d = g.D.Disk.disk in
     let inside = c.self.inside in
-    let next = c.unwrap-next.result in
-    let known = subst (λ (doubt : Option ℕ). Knows (d inside.opened.value) (d inside.disk) inside.gate doubt)
+    let next : ℕ = c.unwrap-next.result in
+    let later : inside.gate < next = subst (λ (doubt : Option ℕ). IfSome doubt (λ after. inside.gate < after))
+    c.unwrap-next.ensures c.self.invariant.behind in
+    let known = subst (λ (doubt : Option ℕ). Knows (d inside.opened.value) (d inside.disk) inside.gate inside.ordinal
+    doubt)
     c.unwrap-next.ensures c.self.invariant.since in
     let looks = subst (λ (counts : Bool). Told (d inside.disk) (d c.gate_is_open.new.disk) (Looks inside.gate counts))
     c.in-Ok-true.field-0-test c.in-Ok-true.ensures.ok in
     record {
       room_enough = c.self.invariant.room_enough;
-      since = knows_counts inside.gate next (d inside.opened.value) (d inside.disk)
+      few = omega (arith, c.self.invariant.few, later);
+      behind = tt;
+      since = knows_counts inside.gate next inside.ordinal (d inside.opened.value) (d inside.disk)
           (d c.gate_is_open.new.disk) known looks;
     }
 
@@ -30,13 +35,16 @@ invariant_of-self-in-Ok-false g c =
     let d = g.D.Disk.disk in
     let inside = c.self.inside in
     let next = c.unwrap-next.result in
-    let known = subst (λ (doubt : Option ℕ). Knows (d inside.opened.value) (d inside.disk) inside.gate doubt)
+    let known = subst (λ (doubt : Option ℕ). Knows (d inside.opened.value) (d inside.disk) inside.gate inside.ordinal
+    doubt)
     c.unwrap-next.ensures c.self.invariant.since in
     let looks = subst (λ (counts : Bool). Told (d inside.disk) (d c.gate_is_open.new.disk) (Looks inside.gate counts))
     c.in-Ok-false.field-0-test c.in-Ok-false.ensures.ok in
     record {
       room_enough = c.self.invariant.room_enough;
-      since = knows_counts_not inside.gate next (d inside.opened.value) (d inside.disk)
+      few = c.self.invariant.few;
+      behind = tt;
+      since = knows_counts_not inside.gate next inside.ordinal (d inside.opened.value) (d inside.disk)
           (d c.gate_is_open.new.disk) known looks;
     }
 
@@ -45,13 +53,17 @@ invariant_of-self-in-Err g c =
     let d = g.D.Disk.disk in
     let inside = c.self.inside in
     let next = c.unwrap-next.result in
-    let known = subst (λ (doubt : Option ℕ). Knows (d inside.opened.value) (d inside.disk) inside.gate doubt)
+    let known = subst (λ (doubt : Option ℕ). Knows (d inside.opened.value) (d inside.disk) inside.gate inside.ordinal
+    doubt)
     c.unwrap-next.ensures c.self.invariant.since in
-    let still = knows_still inside.gate next (d inside.opened.value) (d inside.disk)
+    let still = knows_still inside.gate next inside.ordinal (d inside.opened.value) (d inside.disk)
     (d c.gate_is_open.new.disk) known c.in-Err.ensures.err in
     record {
       room_enough = c.self.invariant.room_enough;
-      since = subst (λ (doubt : Option ℕ). Knows (d inside.opened.value) (d c.gate_is_open.new.disk) inside.gate doubt)
+      few = c.self.invariant.few;
+      behind = c.self.invariant.behind;
+      since = subst (λ (doubt : Option ℕ). Knows (d inside.opened.value) (d c.gate_is_open.new.disk) inside.gate
+          inside.ordinal doubt)
           (sym c.unwrap-next.ensures) still;
     }
 
@@ -75,13 +87,14 @@ returns-in-Ok-true-clause-byte g c =
     let d = g.D.Disk.disk in
     let inside = c.self.inside in
     let next = c.unwrap-next.result in
-    let known = subst (λ (doubt : Option ℕ). Knows (d inside.opened.value) (d inside.disk) inside.gate doubt)
+    let known = subst (λ (doubt : Option ℕ). Knows (d inside.opened.value) (d inside.disk) inside.gate inside.ordinal
+    doubt)
     c.unwrap-next.ensures c.self.invariant.since in
     let looks = subst (λ (counts : Bool). Told (d inside.disk) (d c.gate_is_open.new.disk) (Looks inside.gate counts))
     c.in-Ok-true.field-0-test c.in-Ok-true.ensures.ok in
     let Goal : JournalView g.row.D.Denot → Type 0 = λ view. IfSome (d view.disk).past
     (λ past. IsTrue true ↔ (slice_index (contents_of past) view.gate ≡ 1)) in
-    subst Goal c.self.view_is (byte_known inside.gate next true (d inside.opened.value) (d inside.disk)
+    subst Goal c.self.view_is (byte_known inside.gate next inside.ordinal true (d inside.opened.value) (d inside.disk)
     (d c.gate_is_open.new.disk) known looks)
 
 pub returns-in-Ok-true-clause-crash : goal.returns-in-Ok-true-clause-crash
