@@ -8,7 +8,7 @@ use std::test::Fail;
 use std::thread::Threads;
 use tb_desk::Desk;
 use tb_disk::MemoryDisk;
-use tb_gates::{ListClock, ListGate, PairLink};
+use tb_gates::{Link, ListClock, ListGate, PairLink};
 use tb_link::{TextSink, TextSource};
 use tb_lock::TurnLock;
 use tb_message::{Key, Query};
@@ -404,26 +404,38 @@ fn a_link_is_answered_request_by_request(rt: HostRuntime) -> Result<(), Fail> {
     Ok(())
 }
 
-// Serves one link in a room: how it ended, and the link and the room afterwards.
-fn served<R: Wait + Abort>(
+// Serves a link in a room: how it ended, and the room afterwards.
+fn served<R: Wait + Abort, L: Link>(
     rt: &R,
     alloc: Global,
     room: Memory,
-    given: &Given<'_>,
-) -> Result<(End, PairLink, Memory), Fail> {
+    link: &mut L,
+) -> (End, Memory) {
     assert!(rt; !room.desk.unsure());
-    let mut link = link_of(rt, alloc, given)?;
     let Ok((lock, mut pass)) = TurnLock::new(alloc, room) else {
         panic!(rt; "no memory")
     };
-    let end = serve_link(rt, alloc, &lock, &mut pass, &mut link);
+    let end = serve_link(rt, alloc, &lock, &mut pass, link);
     let Ok(after) = lock.close(pass) else {
         panic!(rt; "a turn is out")
     };
-    Ok((end, link, after))
+    (end, after)
 }
 
-/// Serves one link in the room, which serves the next one afterwards. Whether it ends so, and is replied this.
+/// Serves a link in the room, which serves the next one afterwards, and says how it ended.
+pub fn serve_one<R: Wait + Abort, L: Link>(
+    rt: &R,
+    alloc: Global,
+    room: &mut Option<Memory>,
+    link: &mut L,
+) -> End {
+    let found = room.take().expect(rt, "a room");
+    let (end, after) = served(rt, alloc, found, link);
+    *room = Some(after);
+    end
+}
+
+/// The same of a link that is given so: whether it ends so, and is replied this.
 pub fn ends<R: Wait + Abort>(
     rt: &R,
     alloc: Global,
@@ -432,9 +444,8 @@ pub fn ends<R: Wait + Abort>(
     ended: End,
     reply: &str,
 ) -> Result<bool, Fail> {
-    let found = room.take().expect(rt, "a room");
-    let (end, link, after) = served(rt, alloc, found, given)?;
-    *room = Some(after);
+    let mut link = link_of(rt, alloc, given)?;
+    let end = serve_one(rt, alloc, room, &mut link);
     Ok(end == ended && link.sink.bytes() == reply.as_bytes())
 }
 

@@ -1,14 +1,15 @@
 //! A client that sends nothing more before it has its reply: it is answered only by a session that doesn't read on while
 //! a whole request waits.
 
-use crate::tests::{FIRST, FIRST_REPLY, Memory, SHAPELESS, SHAPELESS_REPLY, joined, opened};
+use crate::tests::{
+    FIRST, FIRST_REPLY, Memory, SHAPELESS, SHAPELESS_REPLY, joined, opened, serve_one,
+};
 use std::alloc::Global;
 use std::process::Abort;
 use std::sync::Wait;
 use std::test::Fail;
 use tb_gates::{Link, PairLink};
 use tb_link::{Failed, Faults, Sink, Source, TextSink, TextSource};
-use tb_lock::TurnLock;
 use tb_session::*;
 
 /// A link whose client sends requests of one size. Where it is read while a whole one of them has no reply, this read
@@ -111,26 +112,6 @@ fn link_of(
     })
 }
 
-/// Serves a link in the room, which serves the next one afterwards, and says how it ended.
-fn serve<R: Wait + Abort>(
-    rt: &R,
-    alloc: Global,
-    room: &mut Option<Memory>,
-    link: &mut WaitingLink,
-) -> End {
-    let found = room.take().expect(rt, "a room");
-    assert!(rt; !found.desk.unsure());
-    let Ok((lock, mut pass)) = TurnLock::new(alloc, found) else {
-        panic!(rt; "no memory")
-    };
-    let ended = serve_link(rt, alloc, &lock, &mut pass, link);
-    let Ok(after) = lock.close(pass) else {
-        panic!(rt; "a turn is out")
-    };
-    *room = Some(after);
-    ended
-}
-
 /// Three requests with this text come in pieces of so many bytes. Whether each has this reply, and one read more finds
 /// the end of the input.
 fn three_are_answered<R: Wait + Abort>(
@@ -142,7 +123,7 @@ fn three_are_answered<R: Wait + Abort>(
     reply: &str,
 ) -> Result<bool, Fail> {
     let mut link = link_of(rt, alloc, request, 3, piece)?;
-    let ended = serve(rt, alloc, room, &mut link);
+    let ended = serve_one(rt, alloc, room, &mut link);
     let expected = joined(alloc, &[reply, reply, reply])?;
     let taken = link.pair.sink.bytes();
     Ok(!link.lost && ended == End::EndOfInput && taken == expected.as_bytes())
@@ -184,7 +165,7 @@ fn nothing_is_read_behind_the_reply_that_closes(rt: HostRuntime) -> Result<(), F
     let alloc = rt.alloc();
     let mut room = Some(opened(&rt, alloc, Vec::new(alloc))?);
     let mut link = link_of(&rt, alloc, CLOSING, 2, 1)?;
-    assert!(rt; serve(&rt, alloc, &mut room, &mut link) == End::Asked);
+    assert!(rt; serve_one(&rt, alloc, &mut room, &mut link) == End::Asked);
     assert!(rt; link.reads == CLOSING.len() as u64);
     Ok(())
 }
