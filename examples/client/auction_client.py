@@ -136,6 +136,7 @@ class Results:
     offering: int
     noncompetitive: int
     competitive: Optional[int] = None
+    addon: Optional[int] = None
     total: Optional[int] = None
     high: Optional[Decimal] = None
     allotted: Optional[Decimal] = None
@@ -147,7 +148,7 @@ class Results:
 
 @dataclasses.dataclass(frozen=True)
 class Award:
-    """What one bidder gets, in whole dollars of par, and pays, in dollars with cents."""
+    """What one bidder gets, in whole dollars of par, and pays, in dollars with cents. An add-on has the bidder "+"."""
 
     bidder: str
     amount: int
@@ -295,12 +296,19 @@ class Client:
             maturity=_day(maturity),
         )
 
+    def addon(self, auction: str, holder: str, amount: int) -> Accepted:
+        """Adds so many dollars of par, a multiple of 100, that the Reserve Bank is issued beside the offering.
+
+        holder: the submitter whose account is credited. An auction has one add-on, entered before its competitive closing
+        """
+        return self._send("addon", auction=auction, holder=holder, amount=amount)
+
     def publish(self, auction: str) -> Accepted:
         """Publishes the results, once the competitive closing has come."""
         return self._send("publish", auction=auction)
 
     def settle(self, auction: str) -> Accepted:
-        """Issues the awards of a published auction, once its issue date has begun."""
+        """Issues the awards of a published auction, with its add-on, once its issue date has begun."""
         return self._send("settle", auction=auction)
 
     def redeem(self, cusip: str) -> Accepted:
@@ -348,7 +356,7 @@ class Client:
         return _record(Results, self._ask("results", auction))
 
     def awards(self, auction: str) -> List[Award]:
-        """What the caller's bidders with live bids get and pay, in the order of enrolment."""
+        """What the caller's bidders with live bids get and pay, in the order of enrolment, and then the add-on that it holds."""
         words = map(str.split, self._ask("awards", auction))
         return [Award(bidder, int(amount), Decimal(payment)) for bidder, amount, payment in words]
 

@@ -41,6 +41,7 @@ HasRows-kept room old new keeps has =
       published = has.published;
       settled = has.settled;
       redeemed = has.redeemed;
+      add_ons = has.add_ons;
       places = has.places;
       calendar = has.calendar;
     })
@@ -76,6 +77,7 @@ HasEntered-kept s n m old kept new keeps entered =
       published = same.published;
       settled = same.settled;
       redeemed = same.redeemed;
+      add_ons = same.add_ons;
       shelf = same.shelf;
       calendar = same.calendar;
       scratch = IsTaken-kept old.scratch kept.scratch new.scratch keeps.scratch entered.scratch;
@@ -84,11 +86,12 @@ HasEntered-kept s n m old kept new keeps entered =
 -- where a message takes so many accounts, and enrols a bidder at most, there is room for one message fewer
 accounts_left : (room before after old new : ℕ)
     → after ≤ before + 1
-    → (room + 1) * (before + (room + 1)) ≤ old
+    → (room + 1) * (before + (room + 1) + 1) ≤ old
     → old ≤ new + (before + 1)
-    → room * (after + room) ≤ new
+    → room * (after + room + 1) ≤ new
 accounts_left room before after old new more has left =
-    let step : room * (after + room) ≤ room * (before + 1 + room) = mul-le-mul_left room (omega (arith, more)) in
+    let step : room * (after + room + 1) ≤ room * (before + 1 + room + 1) =
+    mul-le-mul_left room (omega (arith, more)) in
     omega (arith, step, has, left)
 
 -- a message enrols a bidder at most

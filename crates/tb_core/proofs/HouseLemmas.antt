@@ -33,17 +33,17 @@ use Rattle.tb_shelving.proofs.RoomLemmas.{TakesRoom-by, length-behind}
 
 -- so it is in accounts
 room_max : (one other bidders spare : ℕ)
-    → one * (bidders + one) ≤ spare
-    → other * (bidders + other) ≤ spare
-    → max one other * (bidders + max one other) ≤ spare
+    → one * (bidders + one + 1) ≤ spare
+    → other * (bidders + other + 1) ≤ spare
+    → max one other * (bidders + max one other + 1) ≤ spare
 room_max one other bidders spare first second =
     elim (cases_lt one other) [
       | inl less ↦
           let is : other ≡ max one other = omega (arith, less) in
-          subst (λ (n : ℕ). n * (bidders + n) ≤ spare) is second
+          subst (λ (n : ℕ). n * (bidders + n + 1) ≤ spare) is second
       | inr most ↦
           let is : one ≡ max one other = omega (arith, most) in
-          subst (λ (n : ℕ). n * (bidders + n) ≤ spare) is first
+          subst (λ (n : ℕ). n * (bidders + n + 1) ≤ spare) is first
     ]
 
 -- room for one number and for another is room for the greater
@@ -60,6 +60,7 @@ HasRows-max one other tables first second = record {
   published = omega (arith, first.published, second.published);
   settled = omega (arith, first.settled, second.settled);
   redeemed = omega (arith, first.redeemed, second.redeemed);
+  add_ons = omega (arith, first.add_ons, second.add_ons);
   places = omega (arith, first.places, second.places);
   calendar = omega (arith, first.calendar, second.calendar);
 }
@@ -183,6 +184,7 @@ AreSame-both one two three first second = record {
   published = second.published ∙ first.published;
   settled = second.settled ∙ first.settled;
   redeemed = second.redeemed ∙ first.redeemed;
+  add_ons = second.add_ons ∙ first.add_ons;
   shelf = IsKeptShelf-both one.shelf two.shelf three.shelf first.shelf second.shelf;
   lasts = omega (arith, first.lasts, second.lasts);
   calendar = second.calendar ∙ first.calendar;

@@ -1,5 +1,5 @@
 -- The rows of a message on tables that are tied to the history are those on the history.
-use Rattle.std.proofs.Common.{◌≡◌, ℕ, ℤ, Bool, Option, List, refl}
+use Rattle.std.proofs.Common.{◌≡◌, ℕ, ℤ, Bool, Option, is_some, List, refl}
 use Rattle.tb_units.specs.declared.moment.Moment.{Moment}
 use Rattle.tb_units.specs.declared.amount.Dollars.{Dollars}
 use Rattle.tb_units.specs.declared.rate.Rate.{Rate}
@@ -10,9 +10,9 @@ use Rattle.tb_rules.specs.BidRule.{standing_in}
 use Rattle.tb_message.specs.declared.message.Entry.{Entry}
 use Rattle.tb_message.specs.declared.message.Message.TheVariants as message
 use Rattle.tb_history.specs.declared.bids.Bid.{Bid}
-use Rattle.tb_history.specs.Roster.{enrolment_of, is_under, announcement_of, is_named, is_redeemed}
+use Rattle.tb_history.specs.Roster.{add_on_of, enrolment_of, is_under, announcement_of, is_named, is_redeemed, is_registered}
 use Rattle.tb_history.specs.LiveBids.{bid_of, is_cancelled, standing_of}
-use Rattle.tb_history.specs.Tables.{rows_of, announce_rows, bid_rows, cancel_rows, position_rows, publish_rows, settle_rows}
+use Rattle.tb_history.specs.Tables.{rows_of, announce_rows, bid_rows, cancel_rows, position_rows, publish_rows, settle_rows, add_on_rows}
 use Rattle.tb_core.specs.declared.tables.Tables.{Tables}
 use Rattle.tb_tables.specs.Auctions.{announced_in, announcement_in}
 use Rattle.tb_shelving.specs.Standings.{capped}
@@ -94,3 +94,15 @@ pub tied_settle : (h : List Entry) (tables : Tables) → AreTied h tables
     → settle_rows (announcement_in found) published settled moment ≡ rows_of h sender moment (message.Settle auction)
 tied_settle h tables tied sender moment auction found published settled terms named done =
     rw (terms, named, done, tied.auctions_are, tied.published_are, tied.settled_are) refl
+
+-- add-on
+pub tied_add_on : (h : List Entry) (tables : Tables) → AreTied h tables
+    → (sender : List ℕ) (moment : Moment) (auction holder : List ℕ) (amount : Dollars)
+    → (found : Option Terms) (known standing : Bool)
+    → announcement_in found ≡ announcement_of (announced_in tables.auctions.list) auction
+    → known ≡ is_registered tables.submitters.list holder
+    → standing ≡ is_some (add_on_of tables.add_ons.list auction)
+    → add_on_rows (announcement_in found) known standing moment amount.value
+    ≡ rows_of h sender moment (message.AddOn auction holder amount)
+tied_add_on h tables tied sender moment auction holder amount found known standing found_is known_is standing_is =
+    rw (found_is, known_is, standing_is, tied.auctions_are, tied.submitters_are, tied.add_ons_are) refl

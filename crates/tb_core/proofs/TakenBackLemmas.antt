@@ -23,7 +23,7 @@ use Rattle.tb_history.specs.Readings.{place_of}
 use Rattle.tb_history.specs.Legal.{last_of}
 use Rattle.tb_history.proofs.SameLemmas.{is_same-refl}
 use Rattle.tb_history.proofs.HistoryLemmas.{IsLegal-last}
-use Rattle.tb_history.proofs.GrowthLemmas.{registrations-snoc, enrolments-snoc, holidays-snoc, announcements-snoc, publications-snoc, settlements-snoc, redemptions-snoc, bids-snoc, cancels-snoc, reports-snoc}
+use Rattle.tb_history.proofs.GrowthLemmas.{registrations-snoc, enrolments-snoc, holidays-snoc, announcements-snoc, publications-snoc, settlements-snoc, redemptions-snoc, add_ons-snoc, bids-snoc, cancels-snoc, reports-snoc}
 use Rattle.tb_history.proofs.NumberingLemmas.{movements-grow}
 use Rattle.tb_results.specs.Biddings.{book_line_of}
 use Rattle.tb_core.specs.declared.tables.Tables.{Tables}
@@ -129,6 +129,7 @@ tied-back h moment before bid old new tied earlier taken =
       published_are = unchanged _ _ _ tied.published_are (publications-snoc h e);
       settled_are = unchanged _ _ _ tied.settled_are (settlements-snoc h e);
       redeemed_are = unchanged _ _ _ tied.redeemed_are (redemptions-snoc h e);
+      add_ons_are = unchanged _ _ _ tied.add_ons_are (add_ons-snoc h e);
       books_are = record {
         names = changed.names ∙ tied.books_are.names ∙ ap (map (λ (a : Announcement). a.auction)) announced;
         lines = shelved-back h moment bid old.shelf.books new.shelf.books (Follows-next h e last.legal last.follows)
@@ -177,6 +178,7 @@ HasRoom-back before room old new taken has =
         published = has.rows.published;
         settled = has.rows.settled;
         redeemed = has.rows.redeemed;
+        add_ons = has.rows.add_ons;
         places = omega (arith, has.rows.places, taken.places);
         calendar = has.rows.calendar;
       };

@@ -1,5 +1,5 @@
 -- The tables stay tied to the history as it grows.
-use Rattle.std.proofs.Common.{◌≡◌, ℕ, ◌++◌, List, [], ◌∷◌, Option, Some, None, true, false, refl, sym, ap, ◌∙◌, subst, arith}
+use Rattle.std.proofs.Common.{◌≡◌, ℕ, ◌++◌, List, [], ◌∷◌, map, Option, Some, None, true, false, refl, sym, ap, ◌∙◌, subst, arith}
 use Rattle.std.specs.Prelude.{option_to_list}
 use Rattle.std.specs.List.{AllByRecursion}
 use Rattle.tb_terms.specs.declared.checking.TermsFault.{TermsFault}
@@ -8,24 +8,27 @@ use Rattle.tb_units.specs.declared.moment.Moment.{Moment}
 use Rattle.tb_message.specs.declared.message.Entry.{Entry}
 use Rattle.tb_message.specs.declared.message.Message.{Message}
 use Rattle.tb_message.specs.declared.message.Message.TheVariants as message
-use Rattle.tb_history.specs.Roster.{registrations, enrolments, holidays, announcements, publications, settlements, redemptions, announcement_of, bill_of}
+use Rattle.tb_history.specs.Roster.{registrations, enrolments, holidays, announcements, publications, settlements, redemptions, add_ons, add_on_of, announcement_of, bill_of}
 use Rattle.tb_history.specs.LiveBids.{bids, cancels, reports}
 use Rattle.tb_history.specs.Tables.{rows_of, maturity_rows}
 use Rattle.tb_history.specs.Legal.{Empty, Longer, Follows}
 use Rattle.tb_history.proofs.PartLemmas.{AllByRecursion-front}
 use Rattle.tb_history.proofs.AcceptedLemmas.{IsClear, accepted-passes}
 use Rattle.tb_history.proofs.HistoryLemmas.{last_of-push}
-use Rattle.tb_history.proofs.GrowthLemmas.{registrations-snoc, enrolments-snoc, holidays-snoc, announcements-snoc, publications-snoc, settlements-snoc, redemptions-snoc, bids-snoc, cancels-snoc, reports-snoc}
+use Rattle.tb_history.proofs.GrowthLemmas.{registrations-snoc, enrolments-snoc, holidays-snoc, announcements-snoc, publications-snoc, settlements-snoc, redemptions-snoc, add_ons-snoc, bids-snoc, cancels-snoc, reports-snoc}
 use Rattle.tb_core.specs.declared.tables.Tables.{Tables}
 use Rattle.tb_tables.specs.Auctions.{IsInOrder, announced_in}
 use Rattle.tb_history.specs.declared.roster.Enrolment.{Enrolment}
 use Rattle.tb_history.specs.declared.bids.Bid.{Bid}
+use Rattle.tb_history.specs.declared.accounts.AddOn.{AddOn}
+use Rattle.tb_history.specs.Holdings.{awarded_add_on, bidding_in, if_awarded}
+use Rattle.tb_ledger.specs.Credits.{add_on_for}
 use Rattle.tb_shelving.specs.Shelving.{HasShelved}
 use Rattle.tb_units.specs.declared.day.Day.{Day}
-use Rattle.tb_movements.specs.Movements.{Movement}
+use Rattle.tb_movements.specs.Movements.{Movement, Credit, Settled}
 use Rattle.tb_movements.specs.Told.{IsTold}
 use Rattle.tb_history.specs.Entries.{entered_by}
-use Rattle.tb_history.specs.Moves.{Numbering, settled_as, movement_by}
+use Rattle.tb_history.specs.Moves.{Numbering, credit_of, add_on_credits, settled_as, movement_by}
 use Rattle.tb_history.proofs.NumberingLemmas.{movements-grow}
 use Rattle.tb_terms.specs.declared.announcement.Announcement.{Announcement}
 use Rattle.tb_core.specs.Crediting.{settled_in, movement_in}
@@ -62,14 +65,31 @@ pub numbers-tied : (h : List Entry) (tables : Tables)
     → numbers_in tables.submitters.list tables.auctions.list ≡ numbers_of h
 numbers-tied h tables tied = rw (tied.submitters_are, tied.auctions_are) refl
 
+-- and so the holder of an add-on
+add_on_for-numbers : (h : List Entry) (add_on : Option AddOn)
+    → add_on_for (registrations h) add_on ≡ add_on_credits (numbers_of h) add_on
+add_on_for-numbers h None = refl
+add_on_for-numbers h (Some x) = refl
+
 -- what a settlement moves
 settled-tied : (h : List Entry) (tables : Tables) (found : Option Announcement)
     → AreTied h tables
     → settled_in tables found ≡ settled_as (numbers_of h) h found
+unfolding awarded_add_on
 settled-tied h tables None tied = refl
 settled-tied h tables (Some a) tied =
-    rw (tied.submitters_are, tied.auctions_are, tied.bidders_are, tied.bids_are, tied.cancels_are, tied.reports_are)
-    refl
+    rw (
+      tied.submitters_are,
+      tied.auctions_are,
+      tied.bidders_are,
+      tied.bids_are,
+      tied.cancels_are,
+      tied.reports_are,
+      tied.add_ons_are,
+    )
+    (ap (λ (credits : List Credit). Some (Settled ((numbers_of h).security a.cusip.bytes)
+    (map (credit_of (numbers_of h) h a) (enrolments h) ++ credits)))
+    (add_on_for-numbers h (if_awarded (bidding_in h a) (add_on_of (add_ons h) a.auction))))
 
 -- the tables say what the next entry moves
 pub movement-tied : (h : List Entry) (tables : Tables)
@@ -115,6 +135,7 @@ AreTied-push h old new e tied follows told entered last = record {
   published_are = grown _ _ _ _ _ entered.published tied.published_are (publications-snoc h e);
   settled_are = grown _ _ _ _ _ entered.settled tied.settled_are (settlements-snoc h e);
   redeemed_are = grown _ _ _ _ _ entered.redeemed tied.redeemed_are (redemptions-snoc h e);
+  add_ons_are = grown _ _ _ _ _ entered.add_ons tied.add_ons_are (add_ons-snoc h e);
   books_are = AreBooks-push h e old.shelf new.shelf tied.legal follows tied.books_are
       (shelved-tied h old new e tied entered);
   calendar_is = subst (λ (days : List Day). IsCalendar new.calendar.list days) (sym (holidays-snoc h e))
@@ -138,6 +159,7 @@ AreTied-same h old new tied same = record {
   published_are = same.published ∙ tied.published_are;
   settled_are = same.settled ∙ tied.settled_are;
   redeemed_are = same.redeemed ∙ tied.redeemed_are;
+  add_ons_are = same.add_ons ∙ tied.add_ons_are;
   books_are = AreBooks-kept h old.shelf new.shelf tied.books_are same.shelf;
   calendar_is = subst (λ (days : List Day). IsCalendar days (holidays h)) (sym same.calendar) tied.calendar_is;
   accounts_tell = same.accounts (moved_in h) tied.accounts_tell;
@@ -149,12 +171,14 @@ pub AreTied-empty : (tables : Tables)
     × (tables.calendar.list ≡ [])
     → (tables.auctions.list ≡ []) × (tables.published.list ≡ []) × (tables.settled.list ≡ [])
     × (tables.redeemed.list ≡ [])
+    × (tables.add_ons.list ≡ [])
     → (tables.bids.list ≡ []) × (tables.cancels.list ≡ []) × (tables.reports.list ≡ [])
     → (tables.shelf.books ≡ []) × (tables.scratch.lasts ≡ 0)
     → IsTold [] tables.accounts
     → tables.last.seconds ≡ 946702800
     → AreTied [] tables
-unfolding registrations enrolments holidays announcements publications settlements redemptions bids cancels reports
+unfolding registrations enrolments holidays announcements publications settlements redemptions add_ons bids cancels
+    reports
 AreTied-empty tables roster auctions bidding shelf accounts last = record {
   legal = Empty;
   last_is = last;
@@ -168,6 +192,7 @@ AreTied-empty tables roster auctions bidding shelf accounts last = record {
   published_are = auctions.1;
   settled_are = auctions.2;
   redeemed_are = auctions.3;
+  add_ons_are = auctions.4;
   books_are = AreBooks-nil tables.shelf.books shelf.0;
   calendar_is = subst (λ (days : List Day). IsCalendar days []) (sym roster.3)
       (record { same = λ number. refl; few = omega arith });

@@ -4,13 +4,13 @@ use Rattle.tb_terms.specs.declared.announcement.Announcement.{Announcement}
 use Rattle.tb_message.specs.declared.message.Message.{Message}
 use Rattle.tb_message.specs.declared.message.Message.TheVariants as message
 use Rattle.tb_movements.specs.Movements.{Movement, Settled}
-use Rattle.tb_history.specs.Roster.{announcement_of}
+use Rattle.tb_history.specs.Roster.{announcement_of, add_on_of}
 use Rattle.tb_history.specs.Awarded.{Bidding, bidding_of}
 use Rattle.tb_history.specs.Moves.{movement_by}
 use Rattle.tb_core.specs.declared.tables.Tables.{Tables}
 use Rattle.tb_tables.specs.Auctions.{announced_in}
 use Rattle.tb_ledger.specs.Accounting.{numbers_in}
-use Rattle.tb_ledger.specs.Credits.{credits_for}
+use Rattle.tb_ledger.specs.Credits.{settled_for}
 
 -- the bidding of an auction
 abbrev pub bidding_on : Tables → Announcement → Bidding
@@ -21,7 +21,8 @@ abbrev pub settled_in : Tables → Option Announcement → Option Movement
 settled_in tables None = None
 settled_in tables (Some a) =
     Some (Settled ((numbers_in tables.submitters.list tables.auctions.list).security a.cusip.bytes)
-    (credits_for tables.submitters.list (bidding_on tables a) tables.bidders.list))
+    (settled_for tables.submitters.list (bidding_on tables a) tables.bidders.list
+    (add_on_of tables.add_ons.list a.auction)))
 
 -- what the message of a sender under a number moves: no other movement than a settlement's depends on what stands
 -- before it

@@ -7,8 +7,8 @@ use Rattle.tb_shelf.specs.Shelves.{IsChanged, IsLowered, Shelved}
 use Rattle.tb_units.specs.declared.moment.Moment.{Moment}
 use Rattle.tb_history.specs.declared.bids.Bid.{Bid}
 use Rattle.tb_history.specs.Readings.{place_of}
-use Rattle.tb_history.specs.Entries.{registered_by, enrolled_by, entered_by, announced_by, published_by, settled_by, redeemed_by, bid_by, cancelled_by, reported_by}
-use Rattle.tb_history.specs.Roster.{registrations, enrolments, holidays, announcements, publications, settlements, redemptions}
+use Rattle.tb_history.specs.Entries.{registered_by, enrolled_by, entered_by, announced_by, published_by, settled_by, redeemed_by, added_by, bid_by, cancelled_by, reported_by}
+use Rattle.tb_history.specs.Roster.{registrations, enrolments, holidays, announcements, publications, settlements, redemptions, add_ons}
 use Rattle.tb_history.specs.LiveBids.{bids, cancels, reports}
 use Rattle.tb_history.specs.Legal.{IsLegal, last_of}
 use Rattle.tb_movements.specs.Told.{IsTold}
@@ -42,6 +42,7 @@ pub record AreTied (history : List Entry) (tables : Tables) : Type 0 where
   pub published_are : tables.published.list ≡ publications history
   pub settled_are : tables.settled.list ≡ settlements history
   pub redeemed_are : tables.redeemed.list ≡ redemptions history
+  pub add_ons_are : tables.add_ons.list ≡ add_ons history
   pub books_are : AreBooks history tables.shelf.books
   pub calendar_is : IsCalendar tables.calendar.list (holidays history)
   pub accounts_tell : IsTold (moved_in history) tables.accounts
@@ -58,13 +59,14 @@ pub record HasRows (room : ℕ) (tables : Tables) : Type 0 where
   pub published : room ≤ tables.published.spare
   pub settled : room ≤ tables.settled.spare
   pub redeemed : room ≤ tables.redeemed.spare
+  pub add_ons : room ≤ tables.add_ons.spare
   pub places : room ≤ tables.shelf.places
   pub calendar : room ≤ tables.calendar.spare
 
--- so many messages may move par, where there are so many bidders: a settlement may open an account for each, and each
--- message may enrol one more
+-- so many messages may move par, where there are so many bidders: a settlement may open an account for each and one for
+-- the holder of an add-on, and each message may enrol one more
 pub record HasAccountRoom (room bidders : ℕ) (book : Book) : Type 0 where
-  pub accounts : room * (bidders + room) ≤ book.spare_accounts
+  pub accounts : room * (bidders + room + 1) ≤ book.spare_accounts
   pub marks : room ≤ book.spare_marks
   pub redeems : room ≤ book.spare_redeems
 
@@ -99,6 +101,7 @@ pub record HasEntered (submitter : List ℕ) (number : ℕ) (message : Message) 
   pub published : new.published.list ≡ old.published.list ++ published_by message
   pub settled : new.settled.list ≡ old.settled.list ++ settled_by message
   pub redeemed : new.redeemed.list ≡ old.redeemed.list ++ redeemed_by message
+  pub add_ons : new.add_ons.list ≡ old.add_ons.list ++ added_by message
   pub shelf : HasShelved old.bidders.list old.bids.list submitter number message old.shelf new.shelf
   pub scratch : IsTaken old.scratch new.scratch
   pub calendar : AddsDays (entered_by message) old.calendar.list new.calendar.list
@@ -116,6 +119,7 @@ pub record AreSame (old new : Tables) : Type 0 where
   pub published : new.published.list ≡ old.published.list
   pub settled : new.settled.list ≡ old.settled.list
   pub redeemed : new.redeemed.list ≡ old.redeemed.list
+  pub add_ons : new.add_ons.list ≡ old.add_ons.list
   pub shelf : IsKeptShelf old.shelf new.shelf
   pub lasts : old.scratch.lasts ≤ new.scratch.lasts
   pub calendar : new.calendar.list ≡ old.calendar.list

@@ -1,5 +1,5 @@
 //! The host machine.
-ghost use Rattle.std.specs.Prelude.{◌≡◌, ℕ, ℤ, List, ◌+◌, ◌*◌, ◌≤◌, ◌↔◌, true, false, is_some, Some, [], ◌∷◌, ◌++◌, length, IfOk, OnOk};
+ghost use Rattle.std.specs.Prelude.{◌≡◌, ℕ, ℤ, List, ◌+◌, ◌*◌, ◌≤◌, ◌↔◌, true, false, is_some, Some, [], ◌∷◌, ◌++◌, length, slice_get, IfOk, OnOk};
 ghost use Rattle.std.specs.Option.{option_map};
 ghost use Rattle.tb_units.specs.declared.moment.Moment.{Moment};
 ghost use Rattle.tb_message.specs.declared.message.Entry.{Entry};
@@ -7,7 +7,8 @@ ghost use Rattle.tb_message.specs.declared.message.Message.TheVariants as messag
 ghost use Rattle.tb_message.specs.declared.query.Query.TheVariants as query;
 ghost use Rattle.tb_terms.specs.Rows.{refusal_in};
 ghost use Rattle.tb_terms.specs.declared.announcement.Announcement.{Announcement};
-ghost use Rattle.tb_history.specs.Roster.{announcement_of, announcements, registrations, is_caller, is_published, is_registered};
+ghost use Rattle.tb_history.specs.Roster.{add_on_of, add_ons, announcement_of, announcements, publications, registrations};
+ghost use Rattle.tb_history.specs.Roster.{is_caller, is_published, is_registered};
 ghost use Rattle.tb_history.specs.Roster as roster;
 ghost use Rattle.tb_history.specs.Tables.{par_rows, rows_of};
 ghost use Rattle.tb_history.specs.Verdict.{is_permitted, verdict_on};
@@ -38,14 +39,15 @@ use tb_index::Counted;
 use tb_ledger::{find_pledge, free_par, holder_number, open_pledges};
 use tb_message::{Entry, Message, Query, Verdict};
 use tb_refusals::{
-    announce_refusal, auction_refusal, bid_refusal, cancel_refusal, enrol_refusal, holiday_refusal,
-    is_permitted, may_ask, pledge_refusal, position_refusal, publish_refusal, redeem_refusal,
-    redemption_refusal, register_refusal, release_refusal, repeated, settle_refusal,
-    transfer_refusal,
+    add_on_refusal, announce_refusal, auction_refusal, bid_refusal, cancel_refusal, enrol_refusal,
+    holiday_refusal, is_permitted, may_ask, pledge_refusal, position_refusal, publish_refusal,
+    redeem_refusal, redemption_refusal, register_refusal, release_refusal, repeated,
+    settle_refusal, transfer_refusal,
 };
 use tb_tables::{
-    Entries, bill_terms, count_sent, find_bid, find_kept, find_submitter, has_bill, has_cancel,
-    has_name, has_submitter, is_enrolled, is_operator, is_same, terms_of, unsettled_terms,
+    Entries, bill_terms, count_sent, find_add_on, find_bid, find_kept, find_submitter, has_bill,
+    has_cancel, has_name, has_submitter, is_enrolled, is_operator, is_same, terms_of,
+    unsettled_terms,
 };
 use tb_terms::{Announcement, Cusip, EasternDays, Refusal, Terms};
 use tb_units::{Dollars, Ident, Moment, OutOfMemory, Rate};
@@ -237,6 +239,13 @@ impl Host {
         self.entries.rows()
     }
 
+    /// The auction whose results were published when so many had been before: none where there are not more.
+    pub fn published(&self, place: u64) -> Option<Ident>
+        ensures { result ≡ slice_get (publications self.now.history) place }
+    {
+        self.tables.published.rows().get(place as usize).copied()
+    }
+
     /// How many entries the history has.
     pub fn entries(&self) -> u64
         ensures entries { result ≡ length self.now.history }
@@ -396,7 +405,8 @@ impl Host {
         requires { is_some (announcement_of (announcements self.now.history) auction.now) ≡ true }
         ensures { IfOk result
             (λ results. OfAnnounced self.now.history auction.now
-            (λ a. AreResults (bidding_in self.now.history a) results)) }
+            (λ a. AreResults (bidding_in self.now.history a) (add_on_of (add_ons self.now.history) a.auction)
+            results)) }
     {
         let terms = self.announced(auction);
         results_reading(alloc, &self.tables, &terms, self.book(auction))
@@ -405,7 +415,8 @@ impl Host {
     fn awards(&self, alloc: Global, caller: &Ident, auction: &Ident) -> Result<Awards, OutOfMemory>
         requires { is_some (announcement_of (announcements self.now.history) auction.now) ≡ true }
         ensures { IfOk result
-            (λ lines. OfAnnounced self.now.history auction.now (λ a. AreAwards self.now.history a caller.now lines)) }
+            (λ awards. OfAnnounced self.now.history auction.now
+            (λ a. AreAwards self.now.history a caller.now awards)) }
     {
         let terms = self.announced(auction);
         awards_reading(alloc, &self.tables, &terms, self.book(auction), caller)
@@ -518,6 +529,11 @@ impl Host {
                 amount,
             } => self.release(sender, holder, *pledge, *amount),
             Message::Redeem { cusip } => self.redeem(moment, cusip),
+            Message::AddOn {
+                auction,
+                holder,
+                amount,
+            } => self.add_on(moment, auction, holder, *amount),
         }
     }
 
@@ -676,5 +692,22 @@ impl Host {
             unsettled,
             moment,
         )
+    }
+
+    fn add_on(
+        &self,
+        moment: Moment,
+        auction: &Ident,
+        holder: &Ident,
+        amount: Dollars,
+    ) -> Option<Refusal>
+        ensures { (sender : List ℕ)
+            → result ≡ refusal_in
+            (rows_of self.now.history sender moment (message.AddOn auction.now holder.now amount)) }
+    {
+        let terms = terms_of(&self.tables.auctions, auction);
+        let known = has_submitter(&self.tables.submitters, holder);
+        let standing = find_add_on(&self.tables.add_ons, auction).is_some();
+        add_on_refusal(terms, known, standing, moment, amount)
     }
 }

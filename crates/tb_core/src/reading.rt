@@ -1,6 +1,7 @@
 //! What queries are told, by the tables.
 ghost use Rattle.std.specs.Prelude.{◌≡◌, List, map, IfOk};
 ghost use Rattle.tb_message.specs.declared.message.Entry.{Entry};
+ghost use Rattle.tb_history.specs.Roster.{add_ons, add_on_of};
 ghost use Rattle.tb_history.specs.Holdings.{bidding_in};
 ghost use Rattle.tb_history.specs.Readings.{AreAwards, AreResults, bid_line, bid_lines};
 ghost use Rattle.tb_core.specs.Bidden.{IsAuctionOf};
@@ -11,7 +12,7 @@ use tb_book::Book;
 use tb_history::{Awards, Bid, BidLine, Listing, Results};
 use tb_ledger::positions_in;
 use tb_results::{awards, results};
-use tb_tables::{Bids, Cancels, bids_from, is_live};
+use tb_tables::{Bids, Cancels, bids_from, find_add_on, is_live};
 use tb_terms::Terms;
 use tb_units::{Ident, OutOfMemory};
 
@@ -61,14 +62,17 @@ pub fn results_reading(
 ) -> Result<Results, OutOfMemory>
     requires { (history : List Entry) × IsAuctionOf history tables.now terms.now book.now.lines }
     ensures { IfOk result (λ results. (history : List Entry) → IsAuctionOf history tables.now terms.now book.now.lines
-        → AreResults (bidding_in history terms.now.announcement) results) }
+        → AreResults (bidding_in history terms.now.announcement)
+        (add_on_of (add_ons history) terms.now.announcement.auction) results) }
 {
     let auction = terms.announcement.auction;
     let positions = positions_in(alloc, &tables.bidders, &tables.reports, &auction)?;
-    results(alloc, terms, book, &positions)
+    let add_on = find_add_on(&tables.add_ons, &auction);
+    results(alloc, terms, book, &positions, add_on)
 }
 
-/// The awards of the caller's bidders in the auction of these terms, by the book of its live bids.
+/// The awards of the caller's bidders in the auction of these terms, by the book of its live bids, and of the add-on that
+/// the caller holds.
 pub fn awards_reading(
     alloc: Global,
     tables: &Tables,
@@ -77,17 +81,19 @@ pub fn awards_reading(
     caller: &Ident,
 ) -> Result<Awards, OutOfMemory>
     requires { (history : List Entry) × IsAuctionOf history tables.now terms.now book.now.lines }
-    ensures { IfOk result (λ lines. (history : List Entry) → IsAuctionOf history tables.now terms.now book.now.lines
-        → AreAwards history terms.now.announcement caller.now lines) }
+    ensures { IfOk result (λ awards. (history : List Entry) → IsAuctionOf history tables.now terms.now book.now.lines
+        → AreAwards history terms.now.announcement caller.now awards) }
 {
     let auction = terms.announcement.auction;
     let positions = positions_in(alloc, &tables.bidders, &tables.reports, &auction)?;
+    let add_on = find_add_on(&tables.add_ons, &auction);
     awards(
         alloc,
         terms,
         book,
         &positions,
         tables.bidders.rows(),
+        add_on,
         caller,
     )
 }

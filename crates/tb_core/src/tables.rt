@@ -22,10 +22,10 @@ use tb_movements::empty_book;
 use tb_shelf::Shelf;
 use tb_shelving::{count_announced, enter_line, has_settlement, have_places, reserve_places};
 use tb_tables::{
-    Auctions, Bidders, Bids, Bills, Calendar, Cancels, Holidays, Names, Reports, Submitters,
-    enter_auction, enter_bid, enter_bidder, enter_calendar, enter_cancel, enter_holiday,
-    enter_published, enter_redeemed, enter_report, enter_settled, enter_submitter, number_of,
-    terms_of,
+    AddOns, Auctions, Bidders, Bids, Bills, Calendar, Cancels, Holidays, Names, Reports,
+    Submitters, enter_add_on, enter_auction, enter_bid, enter_bidder, enter_calendar, enter_cancel,
+    enter_holiday, enter_published, enter_redeemed, enter_report, enter_settled, enter_submitter,
+    find_add_on, number_of, terms_of,
 };
 use tb_terms::{EasternDays, Terms};
 use tb_units::{Ident, Moment, OutOfMemory};
@@ -45,6 +45,7 @@ pub struct Tables {
     pub published: Names,
     pub settled: Names,
     pub redeemed: Bills,
+    pub add_ons: AddOns,
     pub shelf: Shelf,
     pub scratch: Scratch,
     pub accounts: Accounts,
@@ -57,7 +58,7 @@ impl Tables {
         ensures roster { (result.submitters.list ≡ []) × (result.bidders.list ≡ []) × (result.holidays.list ≡ [])
             × (result.calendar.list ≡ []) }
         ensures auctions { (result.auctions.list ≡ []) × (result.published.list ≡ []) × (result.settled.list ≡ [])
-            × (result.redeemed.list ≡ []) }
+            × (result.redeemed.list ≡ []) × (result.add_ons.list ≡ []) }
         ensures bids { (result.bids.list ≡ []) × (result.cancels.list ≡ []) × (result.reports.list ≡ []) }
         ensures shelf { (result.shelf.books ≡ []) × (result.scratch.lasts ≡ 0) }
         ensures accounts { IsTold [] result.accounts }
@@ -75,6 +76,7 @@ impl Tables {
             published: Keyed::new(alloc),
             settled: Keyed::new(alloc),
             redeemed: Keyed::new(alloc),
+            add_ons: Keyed::new(alloc),
             shelf: Shelf::new(alloc),
             scratch: Scratch::new(alloc),
             accounts: empty_book(alloc),
@@ -102,6 +104,7 @@ impl Tables {
         self.published.reserve(more)?;
         self.settled.reserve(more)?;
         self.redeemed.reserve(more)?;
+        self.add_ons.reserve(more)?;
         reserve_accounts(&mut self.accounts, self.bidders.rows().len(), more)?;
         self.shelf.prepare(0, more as u64)
     }
@@ -173,17 +176,18 @@ impl Tables {
         requires tied { (history : List Entry) × AreTied history self.old
             × (announcement_of (announcements history) terms.now.announcement.auction ≡ Some terms.now.announcement) }
         requires room { HasSettleRoom self.old }
-        requires accounts { length self.old.bidders.list ≤ self.old.accounts.spare_accounts }
+        requires accounts { length self.old.bidders.list + 1 ≤ self.old.accounts.spare_accounts }
         requires numbered { AreFew self.old }
         requires ready { IsReady (settled_in self.old (Some terms.now.announcement)) self.old.accounts }
         ensures keeps { KeepsRows self.old self.new }
         ensures told { TellsNext (settled_in self.old (Some terms.now.announcement))
             self.old.accounts self.new.accounts }
-        ensures room { TakesRoom (length self.old.bidders.list) 0 0 self.old.accounts self.new.accounts }
+        ensures room { TakesRoom (length self.old.bidders.list + 1) 0 0 self.old.accounts self.new.accounts }
     {
         if let Some(book) = self.shelf.book(&terms.announcement.auction) {
             let outcome = cut_auction(&mut self.scratch, &self.bidders, &self.reports, terms, book);
             let security = bill_number(&self.auctions, &terms.announcement.cusip);
+            let add_on = find_add_on(&self.add_ons, &terms.announcement.auction);
             credit_awards(
                 &mut self.accounts,
                 &mut self.scratch,
@@ -192,6 +196,7 @@ impl Tables {
                 security,
                 &outcome,
                 book,
+                &add_on,
             );
         }
     }
@@ -200,7 +205,7 @@ impl Tables {
     fn settle(&mut self, auction: &Ident)
         requires tied { (history : List Entry) × AreTied history self.old }
         requires room { HasSettleRoom self.old }
-        requires accounts { length self.old.bidders.list ≤ self.old.accounts.spare_accounts }
+        requires accounts { length self.old.bidders.list + 1 ≤ self.old.accounts.spare_accounts }
         requires numbered { AreFew self.old }
         requires ready { IsReady
             (settled_in self.old (announcement_of (announced_in self.old.auctions.list) auction.now))
@@ -209,7 +214,7 @@ impl Tables {
         ensures told { TellsNext
             (settled_in self.old (announcement_of (announced_in self.old.auctions.list) auction.now))
             self.old.accounts self.new.accounts }
-        ensures room { TakesRoom (length self.old.bidders.list) 0 0 self.old.accounts self.new.accounts }
+        ensures room { TakesRoom (length self.old.bidders.list + 1) 0 0 self.old.accounts self.new.accounts }
     {
         if let Some(terms) = terms_of(&self.auctions, auction) {
             self.settle_by(&terms);
@@ -279,6 +284,7 @@ impl Tables {
         enter_published(&mut self.published, message);
         enter_settled(&mut self.settled, message);
         enter_redeemed(&mut self.redeemed, message);
+        enter_add_on(&mut self.add_ons, message);
         self.last = moment;
     }
 

@@ -3,4 +3,6 @@
 #![tactic(auto)]
 
 #[cfg(test)]
+mod add_on_tests;
+#[cfg(test)]
 mod tests;

@@ -13,12 +13,12 @@ use tb_terms::{Announcement, Cusip};
 use tb_units::{Day, Dollars, Ident, Moment, OutOfMemory, Rate};
 
 // 4 November 2024, before the closing.
-const MOMENT: Moment = Moment {
+pub(crate) const MOMENT: Moment = Moment {
     seconds: 1_730_700_000,
 };
 
 // The same day at half past eleven, Eastern time: the closing of competitive bids.
-const CLOSING: Moment = Moment {
+pub(crate) const CLOSING: Moment = Moment {
     seconds: 1_730_737_800,
 };
 
@@ -32,20 +32,21 @@ const MATURITY: Moment = Moment {
     seconds: 1_738_818_000,
 };
 
-const BILL: Cusip = Cusip {
+pub(crate) const BILL: Cusip = Cusip {
     bytes: *b"912797AA5",
 };
 
-fn registered() -> Option<Entry>
+pub(crate) fn registered(number: u64, submitter: &str, key: &str) -> Option<Entry>
+    requires { (1 ≤ number) × (number ≤ 10 ^ 9) }
     ensures range { IfSome result IsInRange }
 {
     Some(Entry {
         submitter: Ident::read("operator")?,
-        number: 1,
+        number,
         moment: MOMENT,
         message: Message::Register {
-            submitter: Ident::read("dealer1")?,
-            key: Ident::read("key1")?,
+            submitter: Ident::read(submitter)?,
+            key: Ident::read(key)?,
         },
     })
 }
@@ -65,7 +66,7 @@ fn enrolled(number: u64, bidder: &str) -> Option<Entry>
     })
 }
 
-fn announced() -> Option<Entry>
+pub(crate) fn announced() -> Option<Entry>
     ensures range { IfSome result IsInRange }
 {
     Some(Entry {
@@ -94,7 +95,7 @@ fn announced() -> Option<Entry>
 }
 
 // A noncompetitive bid of whole hundreds.
-fn bid(number: u64, hundreds: u32) -> Option<Entry>
+pub(crate) fn bid(number: u64, hundreds: u32) -> Option<Entry>
     requires some { (1 ≤ number) × (number ≤ 10 ^ 9) }
     requires few { hundreds ≤ 10 ^ 6 }
     ensures range { IfSome result IsInRange }
@@ -133,7 +134,7 @@ fn competitive(number: u64) -> Option<Entry>
     })
 }
 
-fn published() -> Option<Entry>
+pub(crate) fn published() -> Option<Entry>
     ensures range { IfSome result IsInRange }
 {
     Some(Entry {
@@ -146,7 +147,7 @@ fn published() -> Option<Entry>
     })
 }
 
-fn settled() -> Option<Entry>
+pub(crate) fn settled() -> Option<Entry>
     ensures range { IfSome result IsInRange }
 {
     Some(Entry {
@@ -159,7 +160,7 @@ fn settled() -> Option<Entry>
     })
 }
 
-fn redeemed() -> Option<Entry>
+pub(crate) fn redeemed() -> Option<Entry>
     ensures range { IfSome result IsInRange }
 {
     Some(Entry {
@@ -220,7 +221,7 @@ fn take(host: &mut Host, entry: Entry) -> bool
 }
 
 // Takes room for the entry's message and applies it, if it is accepted, and tells whether it was.
-fn submit(host: &mut Host, entry: Option<Entry>) -> Option<bool>
+pub(crate) fn submit(host: &mut Host, entry: Option<Entry>) -> Option<bool>
     requires range { IfSome entry IsInRange }
 {
     let found = entry?;
@@ -230,9 +231,9 @@ fn submit(host: &mut Host, entry: Option<Entry>) -> Option<bool>
 }
 
 // A host with a bidder of a submitter.
-fn with_bidder(alloc: Global) -> Option<Host> {
+pub(crate) fn with_bidder(alloc: Global) -> Option<Host> {
     let mut host = Host::new(alloc).ok()?;
-    submit(&mut host, registered())?;
+    submit(&mut host, registered(1, "dealer1", "key1"))?;
     submit(&mut host, enrolled(2, "fund1"))?;
     Some(host)
 }
@@ -338,7 +339,7 @@ fn with_settled(alloc: Global) -> Option<Host> {
 }
 
 // What a caller reads.
-fn read(host: &Host, alloc: Global, caller: &str, query: &Query) -> Option<Reading> {
+pub(crate) fn read(host: &Host, alloc: Global, caller: &str, query: &Query) -> Option<Reading> {
     host.read(alloc, &Ident::read(caller)?, query).ok()
 }
 
@@ -373,7 +374,8 @@ fn figures(host: &Host, alloc: Global, auction: Ident) -> Option<(u128, u128, u3
 fn awards(host: &Host, alloc: Global, auction: Ident) -> Option<[(u128, u128); 2]> {
     let reading = read(host, alloc, "dealer1", &Query::Awards(auction))?;
     match &reading {
-        Reading::Awards(lines) => {
+        Reading::Awards(awards) => {
+            let lines = &awards.lines;
             if lines.count() != 2 {
                 return None;
             }
@@ -395,9 +397,9 @@ fn bid_count(host: &Host, alloc: Global, auction: Ident) -> Option<u64> {
     }
 }
 
-// What is held of the only bill.
-fn held(host: &Host, alloc: Global) -> Option<u128> {
-    let reading = read(host, alloc, "dealer1", &Query::Holdings)?;
+// What the caller holds of the only bill.
+pub(crate) fn held(host: &Host, alloc: Global, caller: &str) -> Option<u128> {
+    let reading = read(host, alloc, caller, &Query::Holdings)?;
     match &reading {
         Reading::Holdings(lines) => {
             if lines.count() != 1 {
@@ -410,7 +412,7 @@ fn held(host: &Host, alloc: Global) -> Option<u128> {
 }
 
 // What the only holder was paid.
-fn paid(host: &Host, alloc: Global) -> Option<u128> {
+pub(crate) fn paid(host: &Host, alloc: Global) -> Option<u128> {
     let reading = read(host, alloc, "operator", &Query::Redemption(BILL))?;
     match &reading {
         Reading::Redemption(lines) => {
@@ -438,7 +440,7 @@ fn an_auction_is_read_from_its_terms_to_its_redemption(rt: HostRuntime) {
     let awarded = [(10_000_000, 986_526_940), (300_000_000, 29_595_808_200)];
     assert_eq!(rt; awards(&host, alloc, auction), Some(awarded));
     assert_eq!(rt; bid_count(&host, alloc, auction), Some(2));
-    assert_eq!(rt; held(&host, alloc), Some(310_000_000));
+    assert_eq!(rt; held(&host, alloc, "dealer1"), Some(310_000_000));
     assert_eq!(rt; submit(&mut host, redeemed()), Some(true));
     assert_eq!(rt; paid(&host, alloc), Some(310_000_000));
 }

@@ -2,7 +2,7 @@
 use Rattle.std.proofs.Common.{◌≡◌, ◌⊎◌, inl, inr, ℕ, ◌+◌, ◌≤◌, List, [], ◌∷◌, ◌++◌, length, Option, Some, None, refl, sym, subst, arith}
 use Rattle.std.specs.Prelude.{IfSome}
 use Rattle.tb_link.specs.Counts.{Rose, NeverFalls, last_count}
-use Rattle.tb_disk.specs.Past.{Past, contents_of, MayLeave}
+use Rattle.tb_disk.specs.Past.{Past, contents_of, MayLeave, Leaves}
 use Rattle.tb_disk.specs.Disks.{DiskState}
 use Rattle.tb_message.specs.declared.message.Entry.{Entry}
 use Rattle.tb_message.specs.Spelling.{spellings}
@@ -11,8 +11,9 @@ use Rattle.tb_journal.specs.declared.form.Form.TheVariants.{Second}
 use Rattle.tb_journal.proofs.Gates.{doubtful_stands, IsFramedIn-stands}
 use Rattle.tb_desk.specs.Stands.{joined, payloads_of, StandsForEither, HoldsAt, Stands, LeavesEither, CrashesLeave}
 use Rattle.tb_desk.specs.Turn.{Held, Asked, Replies, IsTurn, IsOneOf}
-use Rattle.tb_desk.specs.Desks.{IsDesk, CrashesSince, CountsFault, PlacedGroup, doubted_by}
+use Rattle.tb_desk.specs.Desks.{IsDesk, IsBeginningOr, CrashesSince, CountsFault, PlacedGroup, doubted_by}
 use Rattle.tb_journal.proofs.ToldLemmas.{known_of}
+use Rattle.tb_journal.proofs.OpeningLemmas.{told_kept}
 use Rattle.tb_desk.proofs.StepLemmas.{either_stands, crash-none}
 use Rattle.tb_desk.proofs.CrashLemmas.{CrashesSince-opened, CrashesSince-turn}
 use Rattle.tb_desk.proofs.TurnLemmas.{Grows-turn, length-grows}
@@ -132,4 +133,42 @@ IsDesk-opened disk gate next history recovered stands all = record {
   since = CrashesSince-opened disk history recovered all (crash-none disk gate next history [] stands);
   counted = inl (omega arith);
   limited = omega arith;
+}
+
+-- what was read of a disk leaves the count of faults in its bounds
+counted_read : (opened old new faults : ℕ) → NeverFalls old new → IsCounted opened faults old
+    → IsCounted opened faults new
+counted_read opened old new faults falls (inl within) = inl (omega (arith, falls.never_falls, within))
+counted_read opened old new faults falls (inr last) =
+    inr (omega (arith, falls.never_falls, last, falls.bounded (omega (arith, last))))
+
+-- what holds of every desk holds once its disk was read
+pub IsDesk-read : (opened old new : DiskState) (gate : ℕ) (next : Option ℕ) (history doubt : List Entry)
+    (recovered faults : ℕ) (doubted : List PlacedGroup)
+    → IsDesk old opened gate next history doubt recovered faults doubted
+    → new.past ≡ old.past
+    → NeverFalls old.faults new.faults
+    → IsDesk new opened gate next history doubt recovered faults doubted
+IsDesk-read opened old new gate next history doubt recovered faults doubted desk kept falls = record {
+  stands = record {
+    groups = desk.stands.groups;
+    whole = desk.stands.whole;
+    sizes = desk.stands.sizes;
+    place = desk.stands.place;
+    next_place = desk.stands.next_place;
+    legal = desk.stands.legal;
+    accepted = desk.stands.accepted;
+    told = subst (λ (past : Option Past). IfSome past (HoldsAt (payloads_of desk.stands.groups) doubt gate)) (sym kept)
+        desk.stands.told;
+  };
+  recovers = desk.recovers;
+  since = record {
+    each = desk.since.each;
+    now = desk.since.now;
+    few = desk.since.few;
+    leaves = told_kept (λ before now. Leaves (IsBeginningOr doubted history recovered) before now) opened old new kept
+        desk.since.leaves;
+  };
+  counted = counted_read opened.faults old.faults new.faults faults falls desk.counted;
+  limited = desk.limited;
 }

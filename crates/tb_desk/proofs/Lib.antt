@@ -9,3 +9,5 @@ pub mod AnswerLemmas
 pub mod CrashLemmas
 pub mod GroupAnswerLemmas
 pub mod MigrationLemmas
+pub mod RepeatLemmas
+pub mod WalkingLemmas

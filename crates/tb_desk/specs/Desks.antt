@@ -78,6 +78,16 @@ pub record IsSame {D : Type 0} (old new : DeskView D) : Type 0 where
   pub faults : new.faults ≡ old.faults
   pub doubted : new.doubted ≡ old.doubted
 
+-- but for the disk, nothing has changed
+pub record IsRead {D : Type 0} (old new : DeskView D) : Type 0 where
+  pub opened : new.opened ≡ old.opened
+  pub host : new.host ≡ old.host
+  pub doubt : new.doubt ≡ old.doubt
+  pub gate : new.gate ≡ old.gate
+  pub recovered : new.recovered ≡ old.recovered
+  pub faults : new.faults ≡ old.faults
+  pub doubted : new.doubted ≡ old.doubted
+
 -- the entries are one group: of one submitter at one moment, and no more than share a gate
 pub record IsOneGroup (entries : List Entry) : Type 0 where
   pub submitter : List ℕ

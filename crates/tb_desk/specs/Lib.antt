@@ -4,3 +4,5 @@ pub mod Desks
 pub mod Replay
 pub mod Replaying
 pub mod Migration
+pub mod Repeats
+pub mod Walking

@@ -1,11 +1,11 @@
 //! The desk between its calls.
-ghost use Rattle.std.specs.Prelude.{ℕ, ◌≡◌, ◌≢◌, ◌⊎◌, ◌+◌, ◌*◌, ◌≤◌, ◌++◌, ◌∷◌, [], ◌↔◌, List, None, Some, map, true, false, IsTrue, IfSome, OnOk, OnErr, IfOk, IfErr, Ok, Err, length, vec_capacity};
+ghost use Rattle.std.specs.Prelude.{ℕ, ◌≡◌, ◌≢◌, ◌⊎◌, ◌+◌, ◌*◌, ◌≤◌, ◌++◌, ◌∷◌, [], ◌↔◌, List, None, Some, map, true, false, IsTrue, IfSome, OnOk, OnErr, IfOk, IfErr, IsNone, Ok, Err, length, slice_get, Contains, vec_capacity};
 ghost use Rattle.tb_link.specs.Counts.{Rose, NeverFalls, last_count};
 ghost use Rattle.tb_disk.specs.Past.{contents_of};
 ghost use Rattle.tb_terms.specs.declared.refusal.Refusal.{Refusal};
 ghost use Rattle.tb_message.specs.declared.message.Entry.{Entry};
 ghost use Rattle.tb_message.specs.Spelling.{IsNumbered};
-ghost use Rattle.tb_history.specs.Roster.{registrations, is_published};
+ghost use Rattle.tb_history.specs.Roster.{registrations, publications, is_published};
 ghost use Rattle.tb_history.specs.Legal.{IsLegal, last_of};
 ghost use Rattle.tb_history.specs.OwnPart.{own_part};
 ghost use Rattle.tb_history.specs.Answer.{submitter_of, query_refusal, asks_on};
@@ -15,17 +15,21 @@ ghost use Rattle.tb_core.specs.Rooms.{Fits, KeepsRoom, behind, behind_all};
 ghost use Rattle.tb_disk.specs.Disks.{DiskState};
 ghost use Rattle.tb_journal.specs.Journal.{Told};
 ghost use Rattle.tb_journal.specs.Opening.{Finds, IsHarmless, Opens};
-ghost use Rattle.tb_journal.specs.Places.{StandsAt};
+ghost use Rattle.tb_journal.specs.Places.{StandsAt, StandsBetween};
+ghost use Rattle.tb_journal.specs.Windows.{Shows};
 ghost use Rattle.tb_desk.specs.declared.reply.Reply.TheVariants as reply;
 ghost use Rattle.tb_desk.specs.declared.reply.GroupReply.TheVariants as group;
 ghost use Rattle.tb_desk.specs.declared.fault.OpenFault.TheVariants as fault;
 ghost use Rattle.tb_desk.specs.Stands.{StandsForHistory, StandsForEither, Stands, CrashesLeave, LeavesEither};
 ghost use Rattle.tb_desk.specs.Replay.{IsExact, LeavesRefused};
 ghost use Rattle.tb_desk.specs.Replaying.{IsReplayed, IsReplayFault};
+ghost use Rattle.tb_desk.specs.Repeats.{IsRepeatAt};
+ghost use Rattle.tb_desk.specs.Walking.{IsBehind, GivesGroup};
 ghost use Rattle.tb_desk.specs.Turn.{Turns, Replies, IsOneOf, AreBids, AreNumbered};
-ghost use Rattle.tb_desk.specs.Desks.{held, noted, IsSame, CrashesSince, replies_of, Tells, told_by, CountsFault, doubted_by};
+ghost use Rattle.tb_desk.specs.Desks.{held, noted, IsSame, IsRead, CrashesSince, replies_of, Tells, told_by, CountsFault, doubted_by};
 
 use crate::fault::{OpenFault, lifted};
+use crate::frames::Frames;
 use crate::replay::replay;
 use crate::reply::{GroupReply, Reply};
 use crate::steps::{turn, turn_group};
@@ -36,7 +40,7 @@ use std::snapshot::Snapshot;
 use tb_core::{Host, QueryRefused};
 use tb_disk::Disk;
 use tb_history::Reading;
-use tb_journal::Journal;
+use tb_journal::{DiskFault, Journal, Window};
 use tb_message::{Entry, Message, Query, Verdict};
 use tb_units::{Ident, Moment, OutOfMemory};
 
@@ -202,6 +206,73 @@ impl<D: Disk> Desk<D> {
         ensures leaves { LeavesEither (D.disk self.now.disk) self.now.host.history self.now.doubt }
     {
         self.host.entries()
+    }
+
+    /// The auction whose results were published when so many had been before: none where there are not more.
+    pub fn published(&self, place: u64) -> Option<Ident>
+        ensures { result ≡ slice_get (publications self.now.host.history) place }
+    {
+        self.host.published(place)
+    }
+
+    /// Whether the entry stands in the history.
+    pub fn stands(&self, entry: &Entry) -> bool
+        ensures { IsTrue result ↔ Contains self.now.host.history entry.now }
+    {
+        let verdict = self.host.decide(
+            &entry.submitter,
+            entry.number,
+            entry.moment,
+            &entry.message,
+        );
+        repeats_at(&verdict, entry.moment)
+    }
+
+    /// The place in the journal where the first group stands, or will stand: no entry stands before it.
+    pub fn first_place(&self) -> u64
+        requires sure { self.now.doubt ≡ [] }
+        ensures place { StandsAt (D.disk self.now.disk) self.now.gate result }
+        ensures behind { IfSome (D.disk self.now.disk).past (IsBehind self.now.host.history self.now.gate result 0) }
+    {
+        let _ = &self.journal;
+        Journal::<D>::first_place()
+    }
+
+    /// Reads the payload of the group at a place into the window: the records of its entries, one behind the other. It
+    /// gives the payload's length and the place behind the group; behind the last group there is none. The window shows
+    /// this disk or nothing yet. A fault leaves nothing in doubt, and isn't counted by `faults`.
+    ///
+    /// Where the disk doesn't tell its contents a payload may read otherwise than it was opened. One that reads as none
+    /// is given as no bytes that end at the gate.
+    pub fn next_group(
+        &mut self,
+        place: u64,
+        into: &mut Window,
+    ) -> Result<Option<(usize, u64)>, DiskFault>
+        requires sure { self.old.doubt ≡ [] }
+        requires place { StandsAt (D.disk self.old.disk) self.old.gate place }
+        requires window { Shows (D.disk self.old.disk) into.old }
+        ensures end { IfOk result (λ found. IsNone found ↔ (place ≡ self.old.gate)) }
+        // Behind so many entries stands the group that follows on them, and behind the last group stand all.
+        ensures group { IfOk result (λ found. IfSome found (λ group. IfSome (D.disk self.old.disk).past (λ past.
+            (before : ℕ) → IsBehind self.old.host.history self.old.gate place before past
+            → GivesGroup self.old.host.history self.old.gate before into.new.payload group.1 past))) }
+        ensures all { IfOk result (λ found. IsNone found → IfSome (D.disk self.old.disk).past (λ past.
+            (before : ℕ) → IsBehind self.old.host.history self.old.gate place before past
+            → before ≡ length self.old.host.history)) }
+        ensures size { IfOk result (λ found. IfSome found (λ group. group.0 ≡ length into.new.payload)) }
+        ensures between { IfOk result (λ found. IfSome found
+            (λ group. StandsBetween self.old.gate place group.0 group.1)) }
+        ensures next { IfOk result (λ found. IfSome found
+            (λ group. StandsAt (D.disk self.new.disk) self.new.gate group.1)) }
+        ensures window { Shows (D.disk self.new.disk) into.new }
+        ensures kept { (D.disk self.new.disk).past ≡ (D.disk self.old.disk).past }
+        ensures same { IsRead self.old self.new }
+        ensures fault { OnErr result (Rose (D.disk self.old.disk).faults (D.disk self.new.disk).faults) }
+        ensures no_fault { OnOk result ((D.disk self.new.disk).faults ≡ (D.disk self.old.disk).faults) }
+        ensures count { NeverFalls (D.disk self.old.disk).faults (D.disk self.new.disk).faults }
+    {
+        self.journal.next_frame(place, into)
     }
 
     /// Whether a group is in doubt.
@@ -373,6 +444,16 @@ impl<D: Disk> Desk<D> {
         self.faults = faults_after_group(&reply, self.faults);
         note_group(&reply, &mut self.doubted, &self.host, &self.doubt);
         reply
+    }
+}
+
+// Whether the verdict is a repeat of an entry at this moment.
+fn repeats_at(verdict: &Verdict, moment: Moment) -> bool
+    ensures { IsTrue result ↔ IsRepeatAt verdict.now moment }
+{
+    match verdict {
+        Verdict::Repeat { moment: kept, .. } => *kept == moment,
+        _ => false,
     }
 }
 

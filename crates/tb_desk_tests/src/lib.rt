@@ -8,3 +8,5 @@ mod group_tests;
 mod migrate_tests;
 #[cfg(test)]
 mod tests;
+#[cfg(test)]
+mod walk_tests;

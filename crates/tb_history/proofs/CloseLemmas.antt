@@ -34,9 +34,10 @@ use Rattle.tb_history.specs.Holdings.{bidding_in}
 use Rattle.tb_history.specs.Readings.{AreDistinct, AreRecognisedOf, line_of, lines_of}
 use Rattle.tb_history.proofs.PartLemmas.{AllByRecursion-append, AllByRecursion-filter, AllByRecursion-weaker}
 use Rattle.tb_history.proofs.SameLemmas.{is_same-refl}
-use Rattle.tb_history.proofs.GrowthLemmas.{enrolments-snoc, bids-snoc}
+use Rattle.tb_history.proofs.GrowthLemmas.{enrolments-snoc}
 use Rattle.tb_history.proofs.AcceptedLemmas.{IsClear, accepted-passes}
 use Rattle.tb_history.proofs.LegalLemmas.{by_entries}
+use Rattle.tb_history.proofs.EachLemmas.{IsLegal-each, bids-grow}
 use Rattle.tb_history.proofs.ClosedLemmas.{IsInOrder, IsLegal-in_order, found-in, amounts_of}
 use Rattle.tb_history.proofs.CutFigureLemmas.{HasPar-bidding}
 
@@ -119,27 +120,16 @@ bid_by-hundreds history submitter number moment (message.Bid auction bidder rate
 )
 bid_by-hundreds history submitter number moment other clear = tt
 
--- and stays so with an accepted entry
-hundreds-push : (history : List Entry) (entry : Entry)
-    → IsLegal history
-    → AllByRecursion IsHundreds (bids history)
-    → Follows history entry
-    → AllByRecursion IsHundreds (bids (history ++ entry ∷ []))
-hundreds-push history entry legal hundreds follows =
-    let passed = accepted-passes history entry.submitter entry.number entry.moment entry.message follows.accepted in
-    rw (bids-snoc history entry) (AllByRecursion-append IsHundreds (bids history)
-    (bid_by entry.submitter entry.number entry.message) hundreds
-    (bid_by-hundreds history entry.submitter entry.number entry.moment entry.message passed.rows))
-
--- nothing is bid yet
-hundreds-nil : AllByRecursion IsHundreds (bids [])
-unfolding bids
-hundreds-nil = tt
-
 -- every accepted bid is
 pub IsLegal-hundreds : (history : List Entry) → IsLegal history → AllByRecursion IsHundreds (bids history)
-IsLegal-hundreds history legal =
-    by_entries (λ history. AllByRecursion IsHundreds (bids history)) hundreds-nil hundreds-push history legal
+IsLegal-hundreds =
+    IsLegal-each (λ history. IsHundreds) bids
+    (λ (entry : Entry). bid_by entry.submitter entry.number entry.message) bids-grow
+    (record {
+      begins = λ history entry legal follows passed.
+          bid_by-hundreds history entry.submitter entry.number entry.moment entry.message passed.rows;
+      stays = λ history entry bid is. is;
+    })
 
 -- by recursion or by place
 pub All-from : {X : Type 0} (P : X → Type 0) (xs : List X) → AllByRecursion P xs → All P xs

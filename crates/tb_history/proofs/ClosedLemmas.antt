@@ -32,6 +32,7 @@ use Rattle.tb_history.proofs.SameLemmas.{is_same-equal}
 use Rattle.tb_history.proofs.GrowthLemmas.{announcements-snoc, publications-snoc, find-append}
 use Rattle.tb_history.proofs.AcceptedLemmas.{IsClear, accepted-passes}
 use Rattle.tb_history.proofs.LegalLemmas.{by_entries}
+use Rattle.tb_history.proofs.EachLemmas.{IsLegal-each, announcements-grow}
 use Rattle.tb_history.proofs.HistoryLemmas.{last_of-push}
 
 -- the announcement is in order
@@ -59,27 +60,15 @@ announced_by-in_order history submitter moment (message.Announce a) clear =
     (no_fault (fault_of a) front.1, tt)
 announced_by-in_order history submitter moment other clear = tt
 
--- and stays so with an accepted entry
-IsInOrder-push : (history : List Entry) (entry : Entry)
-    → IsLegal history
-    → AllByRecursion IsInOrder (announcements history)
-    → Follows history entry
-    → AllByRecursion IsInOrder (announcements (history ++ entry ∷ []))
-IsInOrder-push history entry legal so_far follows =
-    let passed = accepted-passes history entry.submitter entry.number entry.moment entry.message follows.accepted in
-    rw (announcements-snoc history entry) (AllByRecursion-append IsInOrder (announcements history)
-    (announced_by entry.message) so_far
-    (announced_by-in_order history entry.submitter entry.moment entry.message passed.rows))
-
--- nothing is announced yet
-IsInOrder-nil : AllByRecursion IsInOrder (announcements [])
-unfolding announcements
-IsInOrder-nil = tt
-
 -- every announcement of a legal history is in order
 pub IsLegal-in_order : (history : List Entry) → IsLegal history → AllByRecursion IsInOrder (announcements history)
-IsLegal-in_order history legal =
-    by_entries (λ history. AllByRecursion IsInOrder (announcements history)) IsInOrder-nil IsInOrder-push history legal
+IsLegal-in_order =
+    IsLegal-each (λ history. IsInOrder) announcements (λ (entry : Entry). announced_by entry.message) announcements-grow
+    (record {
+      begins = λ history entry legal follows passed.
+          announced_by-in_order history entry.submitter entry.moment entry.message passed.rows;
+      stays = λ history entry announcement is. is;
+    })
 
 -- what holds of all holds of what is found
 pub found-in : {X : Type 0} (P : X → Type 0) (test : X → Bool) (xs : List X) (x : X)

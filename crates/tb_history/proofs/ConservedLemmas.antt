@@ -40,7 +40,8 @@ use Rattle.tb_history.proofs.PassLemmas.{IsToldBy, held-told, pledged-told}
 use Rattle.tb_history.proofs.StableLemmas.{or_false}
 use Rattle.tb_history.proofs.HistoryLemmas.{IsLegal-front}
 use Rattle.tb_history.proofs.MovedLemmas.{redeems-message}
-use Rattle.tb_history.proofs.ToldLemmas.{IsLegal-told, registered-append, has_bill-append}
+use Rattle.tb_history.proofs.ToldLemmas.{IsLegal-told, has_bill-append}
+use Rattle.tb_history.proofs.GrowthLemmas.{registered-append}
 
 -- the place of the first element with a name
 abbrev pub place_by : {X : Type 0} → (X → List ℕ) → List X → List ℕ → ℕ

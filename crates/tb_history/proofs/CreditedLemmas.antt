@@ -24,7 +24,8 @@ use Rattle.tb_history.specs.Tables.{rows_of}
 use Rattle.tb_history.specs.Legal.{IsLegal, Follows}
 use Rattle.tb_history.specs.Awarded.{Bidding, rates, recognised_for, stop_of, percent_of, award_at}
 use Rattle.tb_history.specs.Awarded.{awards_under, noncompetitive_of, awarded}
-use Rattle.tb_history.specs.Holdings.{bidding_in, award_in, settled_auctions, awards_of, credited_to, issued}
+use Rattle.tb_history.specs.Holdings.{bidding_in, award_in, settled_auctions, awards_of, awarded_add_on, par_added}
+use Rattle.tb_history.specs.Holdings.{credited_to, issued}
 use Rattle.tb_history.proofs.PartLemmas.{AllByRecursion-weaker, AllByRecursion-filter}
 use Rattle.tb_history.proofs.SameLemmas.{is_same-equal, is_same-sym}
 use Rattle.tb_history.proofs.GrowthLemmas.{enrolments-snoc, announcements-snoc, settlements-snoc}
@@ -81,9 +82,14 @@ awarded-silent bidding bidder silent =
     either true = refl
     either false = refl
 
--- the awards of those bidders that pass a test
-abbrev pub awards_among : (Enrolment → Bool) → List Entry → Announcement → ℕ
-awards_among test h a = awards_of h (filter test (enrolments h)) a
+-- the bidder's submitter passes a test
+abbrev pub is_among : (List ℕ → Bool) → Enrolment → Bool
+is_among test e = test e.submitter
+
+-- the awards of those bidders whose submitters pass a test, and the add-on of such a holder
+abbrev pub awards_among : (List ℕ → Bool) → List Entry → Announcement → ℕ
+awards_among test h a =
+    awards_of h (filter (is_among test) (enrolments h)) a + par_added test (awarded_add_on h a)
 
 -- a bidder that an accepted message enrols has no award in an announced auction
 new-award : (history : List Entry) (announcement : Announcement) (sender : List ℕ) (moment : Moment) (sent : Message)
@@ -101,12 +107,13 @@ new-award history announcement sender moment (message.Enrol bidder submitter) te
 new-award history announcement sender moment other test legal clear = refl
 
 -- awards in a closed auction stay
-awards_among-push : (test : Enrolment → Bool) (history : List Entry) (entry : Entry) (announcement : Announcement)
+bidders_among-push : (test : Enrolment → Bool) (history : List Entry) (entry : Entry) (announcement : Announcement)
     → IsLegal history
     → Follows history entry
     → IsClosed history announcement.auction
-    → awards_among test (history ++ entry ∷ []) announcement ≡ awards_among test history announcement
-awards_among-push test history entry announcement legal follows closed =
+    → awards_of (history ++ entry ∷ []) (filter test (enrolments (history ++ entry ∷ []))) announcement
+    ≡ awards_of history (filter test (enrolments history)) announcement
+bidders_among-push test history entry announcement legal follows closed =
     let passed = accepted-passes history entry.submitter entry.number entry.moment entry.message follows.accepted in
     let steady = IsClosed-steady history entry announcement legal follows closed in
     let now : Enrolment → ℕ =
@@ -119,8 +126,21 @@ awards_among-push test history entry announcement legal follows closed =
     ∙ (sum_by-append before (filter test (enrolments history)) (filter test (enrolled_by entry.message))
     ∙ omega (arith, new-award history announcement entry.submitter entry.moment entry.message test legal passed.rows))))
 
+-- and so does the add-on
+awards_among-push : (test : List ℕ → Bool) (history : List Entry) (entry : Entry) (announcement : Announcement)
+    → IsLegal history
+    → Follows history entry
+    → IsClosed history announcement.auction
+    → awards_among test (history ++ entry ∷ []) announcement ≡ awards_among test history announcement
+awards_among-push test history entry announcement legal follows closed =
+    omega (
+      arith,
+      bidders_among-push (is_among test) history entry announcement legal follows closed,
+      ap (par_added test) (IsClosed-steady history entry announcement legal follows closed).add_on,
+    )
+
 -- what settlements of the bill credit those bidders
-pub par_settled : (Enrolment → Bool) → List Entry → Cusip → ℕ
+pub par_settled : (List ℕ → Bool) → List Entry → Cusip → ℕ
 par_settled test h cusip = sum_by (awards_among test h) (settled_auctions h cusip)
 
 -- a value of what is found, and nothing where nothing is
@@ -129,12 +149,12 @@ value_in value None = 0
 value_in value (Some a) = value a
 
 -- what a settlement of the auction that is found credits them
-abbrev pub newly_of : (Enrolment → Bool) → List Entry → Cusip → Option Announcement → ℕ
+abbrev pub newly_of : (List ℕ → Bool) → List Entry → Cusip → Option Announcement → ℕ
 newly_of test h cusip None = 0
 newly_of test h cusip (Some a) = cond (is_of_bill cusip a) (awards_among test h a) 0
 
 -- what a message settles
-abbrev pub newly_settled : (Enrolment → Bool) → List Entry → Cusip → Message → ℕ
+abbrev pub newly_settled : (List ℕ → Bool) → List Entry → Cusip → Message → ℕ
 newly_settled test h cusip (message.Settle auction) = newly_of test h cusip (announcement_of (announcements h) auction)
 newly_settled test h cusip other = 0
 
@@ -197,11 +217,11 @@ found-sum (a ∷ announced) name value names =
     ]
 
 -- what an accepted settlement adds to an auction that was announced
-abbrev pub part_of : (Enrolment → Bool) → List Entry → Cusip → Announcement → ℕ
+abbrev pub part_of : (List ℕ → Bool) → List Entry → Cusip → Announcement → ℕ
 part_of test h cusip a = cond (is_of_bill cusip a && is_settled h a.auction) (awards_among test h a) 0
 
 -- what an accepted settlement adds to an auction's part
-abbrev pub added_to : (Enrolment → Bool) → List Entry → Cusip → Message → Announcement → ℕ
+abbrev pub added_to : (List ℕ → Bool) → List Entry → Cusip → Message → Announcement → ℕ
 added_to test h cusip m a =
     cond (is_named (settled_by m) a.auction) (cond (is_of_bill cusip a) (awards_among test h a) 0) 0
 
@@ -221,7 +241,7 @@ parts false false true before now apart stays newly = refl
 parts false false false before now apart stays newly = refl
 
 -- so an auction's part grows by what is settled now
-part_of-push : (test : Enrolment → Bool) (history : List Entry) (entry : Entry) (cusip : Cusip)
+part_of-push : (test : List ℕ → Bool) (history : List Entry) (entry : Entry) (cusip : Cusip)
     (announcement : Announcement)
     → IsLegal history
     → Follows history entry
@@ -249,7 +269,7 @@ part_of-push test history entry cusip announcement legal follows =
     (published-closed history announcement.auction legal (both named).0)))
 
 -- a new announcement is of no settled auction
-announced-part : (test : Enrolment → Bool) (history : List Entry) (entry : Entry) (cusip : Cusip) (sent : Message)
+announced-part : (test : List ℕ → Bool) (history : List Entry) (entry : Entry) (cusip : Cusip) (sent : Message)
     → IsLegal history
     → Follows history entry
     → AllByRecursion IsClear (rows_of history entry.submitter entry.moment sent)
@@ -279,7 +299,7 @@ announced-part test history entry cusip (message.Announce a) legal follows clear
 announced-part test history entry cusip other legal follows clear same = refl
 
 -- what was newly settled is the part that was added
-newly-sum : (test : Enrolment → Bool) (history : List Entry) (cusip : Cusip) (sent : Message)
+newly-sum : (test : List ℕ → Bool) (history : List Entry) (cusip : Cusip) (sent : Message)
     → IsLegal history
     → sum_by (added_to test history cusip sent) (announcements history) ≡ newly_settled test history cusip sent
 newly-sum test history cusip (message.Settle auction) legal =
@@ -309,7 +329,7 @@ newly-sum test history cusip other legal = sum_by_nothing (announcements history
     sum_by_nothing (x ∷ xs) = omega (arith, sum_by-cons (λ (announcement : Announcement). 0) x xs, sum_by_nothing xs)
 
 -- what settlements credit grows by what the next entry settles
-pub par_settled-push : (test : Enrolment → Bool) (history : List Entry) (entry : Entry) (cusip : Cusip)
+pub par_settled-push : (test : List ℕ → Bool) (history : List Entry) (entry : Entry) (cusip : Cusip)
     → IsLegal history
     → Follows history entry
     → par_settled test (history ++ entry ∷ []) cusip
@@ -350,7 +370,7 @@ par_settled-push test history entry cusip legal follows =
 -- what a participant was credited, and what was issued, are such parts
 pub credited_to-settled : (history : List Entry) (participant : List ℕ) (cusip : Cusip)
     → credited_to history participant cusip
-    ≡ par_settled (λ (enrolment : Enrolment). is_same enrolment.submitter participant) history cusip
+    ≡ par_settled (λ name. is_same name participant) history cusip
 unfolding credited_to par_settled
 credited_to-settled history participant cusip = refl
 
@@ -361,8 +381,9 @@ filter-all (x ∷ xs) = ap (λ ys. x ∷ ys) (filter-all xs)
 
 -- what was issued is the part of all bidders
 pub issued-settled : (history : List Entry) (cusip : Cusip)
-    → issued history cusip ≡ par_settled (λ (enrolment : Enrolment). true) history cusip
+    → issued history cusip ≡ par_settled (λ name. true) history cusip
 unfolding issued par_settled
 issued-settled history cusip =
-    ap (λ (xs : List Enrolment). sum_by (awards_of history xs) (settled_auctions history cusip))
+    ap (λ (xs : List Enrolment). sum_by (λ (a : Announcement). awards_of history xs a
+    + par_added (λ name. true) (awarded_add_on history a)) (settled_auctions history cusip))
     (sym (filter-all (enrolments history)))

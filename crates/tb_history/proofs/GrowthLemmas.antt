@@ -2,16 +2,18 @@
 use Rattle.std.proofs.Common.{refl, ◌≡◌, ℕ, Bool, true, Some, inl, inr, List, []}
 use Rattle.std.proofs.Common.{◌∷◌, ◌++◌, ap, ◌∙◌, append-nil, is_some}
 use Rattle.std.specs.List.{find, flat_map}
-use Rattle.std.proofs.lemmas.Bool.{cases_Bool}
+use Rattle.std.proofs.lemmas.Bool.{cases_Bool, or_left}
 use Rattle.std.proofs.lemmas.Grind.{flat_map-append}
+use Rattle.std.proofs.lemmas.List.Folds.{list_any-append}
 use Rattle.tb_terms.specs.declared.announcement.Announcement.{Announcement}
 use Rattle.tb_message.specs.declared.message.Entry.{Entry}
 use Rattle.tb_history.specs.declared.roster.Enrolment.{Enrolment}
+use Rattle.tb_history.specs.declared.roster.Registration.{Registration}
 use Rattle.tb_history.specs.Entries.{is_same, registered_by, enrolled_by, entered_by, announced_by}
 use Rattle.tb_history.specs.Entries.{published_by, settled_by, redeemed_by, bid_by, cancelled_by, reported_by}
-use Rattle.tb_history.specs.Entries.{transferred_by, pledged_by, released_by}
+use Rattle.tb_history.specs.Entries.{transferred_by, pledged_by, released_by, added_by}
 use Rattle.tb_history.specs.Roster.{registrations, enrolments, holidays, announcements, publications, settlements}
-use Rattle.tb_history.specs.Roster.{redemptions, is_under, is_enrolled, announcement_of}
+use Rattle.tb_history.specs.Roster.{redemptions, add_ons, is_under, is_enrolled, is_registered, announcement_of}
 use Rattle.tb_history.specs.LiveBids.{bids, cancels, reports}
 use Rattle.tb_history.specs.Holdings.{transfers, marks, releases}
 
@@ -106,6 +108,21 @@ pub releases-snoc : (history : List Entry) (next_entry : Entry)
     → releases (history ++ next_entry ∷ []) ≡ releases history ++ released_by next_entry.message
 unfolding releases
 releases-snoc history next_entry = flat_map-snoc (λ (entry : Entry). released_by entry.message) history next_entry
+
+-- an add-on
+pub add_ons-snoc : (history : List Entry) (next_entry : Entry)
+    → add_ons (history ++ next_entry ∷ []) ≡ add_ons history ++ added_by next_entry.message
+unfolding add_ons
+add_ons-snoc history next_entry =
+    flat_map-snoc (λ (entry : Entry). added_by entry.message) history next_entry
+
+-- who is registered stays so among more
+pub registered-append : (one other : List Registration) (name : List ℕ)
+    → is_registered one name ≡ true
+    → is_registered (one ++ other) name ≡ true
+registered-append one other name known =
+    rw (list_any-append (λ (registration : Registration). is_same registration.submitter name) one other)
+    (or_left (is_registered one name) (is_registered other name) known)
 
 -- what is found stays found among more
 pub find-append : {X : Type 0} (test : X → Bool) (xs ys : List X) (x : X)

@@ -27,7 +27,7 @@ use Rattle.tb_history.specs.Values.{first_from, rounded_up}
 use Rattle.tb_history.specs.Awarded.{Bidding, rates, bid_at, limit_for, recognised_under, recognised_for, par_under}
 use Rattle.tb_history.specs.Awarded.{par_in_all, wanted_in, stop_of, par_at_stop, percent_of, prorated, award_at}
 use Rattle.tb_history.specs.Awarded.{awards_under, noncompetitive_of, awarded}
-use Rattle.tb_history.specs.Holdings.{bidding_in, award_in, awards_of, issued}
+use Rattle.tb_history.specs.Holdings.{bidding_in, award_in, awards_of, issued_in, issued}
 use Rattle.tb_history.specs.Legal.{IsLegal}
 use Rattle.tb_history.proofs.SameLemmas.{is_same-equal}
 use Rattle.tb_history.proofs.LengthLemmas.{sum_by_plus, IsLegal-enrolments, IsLegal-announcements}
@@ -35,6 +35,7 @@ use Rattle.tb_history.proofs.ClosedLemmas.{IsInOrder, IsLegal-in_order, offering
 use Rattle.tb_history.proofs.CloseLemmas.{IsLegal-distinct}
 use Rattle.tb_history.proofs.SettledLemmas.{IsLegal-names}
 use Rattle.tb_history.proofs.ParLemmas.{IsLegal-bid_par}
+use Rattle.tb_history.proofs.AddOnLemmas.{added-most}
 
 -- where some number passes, the first one does
 first_from-passes : (passes : ℕ → Bool) (from more number : ℕ)
@@ -305,6 +306,16 @@ awards_of-most history announcement legal offered =
       noncompetitive-most history announcement legal,
     )
 
+-- and what is issued in it
+issued_in-most : (history : List Entry) (announcement : Announcement)
+    → IsLegal history
+    → announcement.offering.value ≤ 10 ^ 12
+    → issued_in history announcement
+    ≤ 350000000100 * 16384 + 10 ^ 12
+    + par_of (filter (λ (bid : Bid). is_same bid.auction announcement.auction) (bids history))
+issued_in-most history announcement legal offered =
+    omega (arith, awards_of-most history announcement legal offered, added-most history announcement legal)
+
 -- of some elements no more than of all, where each is in order
 some-most : {X : Type 0} (P : X → Type 0) (f g : X → ℕ) (test : X → Bool) (xs : List X)
     → AllByRecursion P xs
@@ -332,14 +343,14 @@ IsLegal-issued history cusip legal =
     let names = IsLegal-names history legal in
     omega (
       arith,
-      some-most IsInOrder (awards_of history (enrolments history))
-          (λ (announcement : Announcement). 350000000100 * 16384 + bid_in announcement)
+      some-most IsInOrder (issued_in history)
+          (λ (announcement : Announcement). 350000000100 * 16384 + 10 ^ 12 + bid_in announcement)
           (λ (announcement : Announcement). is_of_bill cusip announcement && is_settled history announcement.auction)
           (announcements history)
           (IsLegal-in_order history legal)
-          (λ announcement in_order. awards_of-most history announcement legal (offering_of announcement in_order)),
-      sum_by_plus (λ (announcement : Announcement). 350000000100 * 16384) bid_in (announcements history),
-      sum_by_each (350000000100 * 16384) (announcements history),
+          (λ announcement in_order. issued_in-most history announcement legal (offering_of announcement in_order)),
+      sum_by_plus (λ (announcement : Announcement). 350000000100 * 16384 + 10 ^ 12) bid_in (announcements history),
+      sum_by_each (350000000100 * 16384 + 10 ^ 12) (announcements history),
       IsLegal-announcements history legal,
       claims_most inside amount (announcements history) (bids history)
           (λ bid i j d before within same.

@@ -10,7 +10,7 @@ use Rattle.tb_history.specs.declared.bids.Bid.{Bid}
 use Rattle.tb_history.specs.declared.bids.Cancel.{Cancel}
 use Rattle.tb_history.specs.declared.bids.Report.{Report}
 use Rattle.tb_history.specs.Entries.{registered_by, enrolled_by, entered_by, announced_by, published_by}
-use Rattle.tb_history.specs.Entries.{settled_by, redeemed_by, bid_by, cancelled_by, reported_by}
+use Rattle.tb_history.specs.Entries.{settled_by, redeemed_by, added_by, bid_by, cancelled_by, reported_by}
 
 -- a choice of two things that are one
 cond_same : {X : Type 0} {x : X} (b : Bool) → x ≡ cond b x x
@@ -55,6 +55,11 @@ settled_by-others other not = refl
 pub redeemed_by-others : (sent : Message) → ¬ (IsOperators sent) → redeemed_by sent ≡ []
 redeemed_by-others (message.Redeem cusip) not = absurd (not refl)
 redeemed_by-others other not = refl
+
+-- only the operator adds on
+pub added_by-others : (sent : Message) → ¬ (IsOperators sent) → added_by sent ≡ []
+added_by-others (message.AddOn auction holder amount) not = absurd (not refl)
+added_by-others other not = refl
 
 -- a part of the entries that is chosen by their submitters has the bids of those submitters
 pub bid_by-part : (among : List ℕ → Bool) (submitter : List ℕ) (number : ℕ) (sent : Message)

@@ -21,6 +21,8 @@ pub mod SettledLemmas
 pub mod CreditedLemmas
 pub mod MovedLemmas
 pub mod PassLemmas
+pub mod EachLemmas
+pub mod AddOnLemmas
 pub mod ToldLemmas
 pub mod NumberingLemmas
 pub mod ConservedLemmas

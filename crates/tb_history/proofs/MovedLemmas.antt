@@ -18,17 +18,23 @@ use Rattle.tb_message.specs.declared.message.Message.TheVariants as message
 use Rattle.tb_history.specs.declared.roster.Enrolment.{Enrolment}
 use Rattle.tb_history.specs.declared.accounts.Transfer.{Transfer}
 use Rattle.tb_history.specs.declared.accounts.Release.{Release}
+use Rattle.tb_history.specs.declared.accounts.AddOn.{AddOn}
 use Rattle.tb_history.specs.Entries.{is_same, redeemed_by, transferred_by, pledged_by, released_by}
 use Rattle.tb_history.specs.Roster.{enrolments, announcements, announcement_of, is_redeemed}
-use Rattle.tb_history.specs.Holdings.{award_in, awards_of, transfers, received_by, sent_from}
-use Rattle.tb_history.specs.Moves.{Numbering, credit_of, settled_as, movement_by, IsNumbered, IsBillNumbered, as_moved}
+use Rattle.tb_history.specs.Holdings.{award_in, awards_of, awarded_add_on, par_added, transfers, received_by, sent_from}
+use Rattle.tb_history.specs.Moves.{Numbering, credit_of, add_on_credits, credits_of, settled_as, movement_by}
+use Rattle.tb_history.specs.Moves.{IsNumbered, IsBillNumbered, as_moved}
 use Rattle.tb_history.proofs.GrowthLemmas.{transfers-snoc}
-use Rattle.tb_history.proofs.CreditedLemmas.{newly_of, newly_settled}
+use Rattle.tb_history.proofs.CreditedLemmas.{awards_among, newly_of, newly_settled}
 
 -- an amount, where a test passes
 one_kept : {X : Type 0} (f : X → ℕ) (b : Bool) (x : X) → 0 + cond b (f x) 0 ≡ sum_by f (cond b (x ∷ []) [])
 one_kept f true x = refl
 one_kept f false x = refl
+
+-- nothing and a number is the number
+before_none : (x : ℕ) → x ≡ 0 + x
+before_none x = omega arith
 
 -- the par of a transfer, a pledge or a release
 abbrev pub transferred : Transfer → ℕ
@@ -122,6 +128,58 @@ credits-all numbers history announcement (e ∷ enrolled) =
     let right = sum_by-cons award e (filter (λ (enrolment : Enrolment). true) enrolled) in
     left ∙ (ap (λ enrolment. award e + enrolment) (credits-all numbers history announcement enrolled) ∙ sym right)
 
+-- the credit of an add-on is its par, for its holder
+add_on-own : (numbers : Numbering) (found : Option AddOn) (participant : List ℕ)
+    → IsNumbered numbers participant
+    → credit_sum (numbers.holder participant) (add_on_credits numbers found)
+    ≡ par_added (λ name. is_same name participant) found
+add_on-own numbers None participant own = refl
+add_on-own numbers (Some x) participant own =
+    rw (own x.holder)
+    (sym (one_kept (λ (credit : Credit). credit.par) (is_same x.holder participant)
+    (record { holder = numbers.holder x.holder; par = x.amount.value }))
+    ∙ sym (before_none _))
+
+-- and in all its par
+add_on-all : (numbers : Numbering) (found : Option AddOn)
+    → credited_in_all (add_on_credits numbers found) ≡ par_added (λ name. true) found
+add_on-all numbers None = refl
+add_on-all numbers (Some x) = omega arith
+
+-- credits behind others
+credit_sum-append : (holder : ℕ) (one other : List Credit)
+    → credit_sum holder (one ++ other) ≡ credit_sum holder one + credit_sum holder other
+credit_sum-append holder one other =
+    let theirs : Credit → Bool = λ (credit : Credit). holder == credit.holder in
+    ap (sum_by (λ (credit : Credit). credit.par)) (filter-append theirs one other)
+    ∙ sum_by-append (λ (credit : Credit). credit.par) (filter theirs one) (filter theirs other)
+
+-- a settlement credits a participant with its awards and its add-on
+settled-own : (numbers : Numbering) (history : List Entry) (a : Announcement) (participant : List ℕ)
+    → IsNumbered numbers participant
+    → credit_sum (numbers.holder participant) (credits_of numbers history a)
+    ≡ awards_among (λ name. is_same name participant) history a
+settled-own numbers history a participant own =
+    omega (
+      arith,
+      credit_sum-append (numbers.holder participant) (map (credit_of numbers history a) (enrolments history))
+          (add_on_credits numbers (awarded_add_on history a)),
+      credits-own numbers history a participant (enrolments history) own,
+      add_on-own numbers (awarded_add_on history a) participant own,
+    )
+
+-- and all of them with all
+settled-all : (numbers : Numbering) (history : List Entry) (a : Announcement)
+    → credited_in_all (credits_of numbers history a) ≡ awards_among (λ name. true) history a
+settled-all numbers history a =
+    omega (
+      arith,
+      sum_by-append (λ (credit : Credit). credit.par) (map (credit_of numbers history a) (enrolments history))
+          (add_on_credits numbers (awarded_add_on history a)),
+      credits-all numbers history a (enrolments history),
+      add_on-all numbers (awarded_add_on history a),
+    )
+
 -- a movement of a message brings what the message settles and transfers
 settled-brings : (numbers : Numbering) (history : List Entry) (found : Option Announcement) (participant : List ℕ)
     (cusip : Cusip)
@@ -129,10 +187,10 @@ settled-brings : (numbers : Numbering) (history : List Entry) (found : Option An
     → IsBillNumbered numbers cusip.bytes
     → sum_by (brought (numbers.holder participant) (numbers.security cusip.bytes))
     (option_to_list (settled_as numbers history found))
-    ≡ newly_of (λ (enrolment : Enrolment). is_same enrolment.submitter participant) history cusip found + 0
+    ≡ newly_of (λ name. is_same name participant) history cusip found + 0
 settled-brings numbers history None participant cusip own bills = refl
 settled-brings numbers history (Some a) participant cusip own bills =
-    rw (bills a.cusip.bytes, credits-own numbers history a participant (enrolments history) own) (omega arith)
+    rw (bills a.cusip.bytes, settled-own numbers history a participant own) (omega arith)
 
 -- whatever the message is
 pub brought-message : (numbers : Numbering) (history : List Entry) (submitter : List ℕ) (number : ℕ) (sent : Message)
@@ -141,17 +199,13 @@ pub brought-message : (numbers : Numbering) (history : List Entry) (submitter : 
     → IsBillNumbered numbers cusip.bytes
     → sum_by (brought (numbers.holder participant) (numbers.security cusip.bytes))
     (option_to_list (movement_by numbers history submitter number sent))
-    ≡ newly_settled (λ (enrolment : Enrolment). is_same enrolment.submitter participant) history cusip sent
+    ≡ newly_settled (λ name. is_same name participant) history cusip sent
     + sum_by transferred (filter (goes_to participant cusip) (transferred_by submitter sent))
 brought-message numbers history submitter number (message.Transfer bill to amount) participant cusip own bills =
     rw (own to, bills bill.bytes)
     (one_kept transferred (is_same to participant && is_same bill.bytes cusip.bytes)
     (record { from = submitter; to = to; cusip = bill; amount = amount })
-    ∙ zero_before _)
-  where
-    -- nothing and a number is the number
-    zero_before : (x : ℕ) → x ≡ 0 + x
-    zero_before x = omega arith
+    ∙ before_none _)
 brought-message numbers history submitter number (message.Settle auction) participant cusip own bills =
     settled-brings numbers history (announcement_of (announcements history) auction) participant cusip own bills
 brought-message numbers history submitter number other participant cusip own bills = refl
@@ -160,10 +214,10 @@ brought-message numbers history submitter number other participant cusip own bil
 settled-issues : (numbers : Numbering) (history : List Entry) (found : Option Announcement) (cusip : Cusip)
     → IsBillNumbered numbers cusip.bytes
     → sum_by (issues (numbers.security cusip.bytes)) (option_to_list (settled_as numbers history found))
-    ≡ newly_of (λ (enrolment : Enrolment). true) history cusip found
+    ≡ newly_of (λ name. true) history cusip found
 settled-issues numbers history None cusip bills = refl
 settled-issues numbers history (Some a) cusip bills =
-    rw (bills a.cusip.bytes, credits-all numbers history a (enrolments history)) (omega arith)
+    rw (bills a.cusip.bytes, settled-all numbers history a) (omega arith)
 
 -- whatever the message is
 pub issues-message : (numbers : Numbering) (history : List Entry) (submitter : List ℕ) (number : ℕ) (sent : Message)
@@ -171,7 +225,7 @@ pub issues-message : (numbers : Numbering) (history : List Entry) (submitter : L
     → IsBillNumbered numbers cusip.bytes
     → sum_by (issues (numbers.security cusip.bytes)) (option_to_list
     (movement_by numbers history submitter number sent))
-    ≡ newly_settled (λ (enrolment : Enrolment). true) history cusip sent
+    ≡ newly_settled (λ name. true) history cusip sent
 issues-message numbers history submitter number (message.Settle auction) cusip bills =
     settled-issues numbers history (announcement_of (announcements history) auction) cusip bills
 issues-message numbers history submitter number other cusip bills = refl

@@ -15,21 +15,24 @@ use Rattle.tb_message.specs.declared.message.Message.TheVariants as message
 use Rattle.tb_history.specs.declared.roster.Registration.{Registration}
 use Rattle.tb_history.specs.declared.roster.Enrolment.{Enrolment}
 use Rattle.tb_history.specs.declared.accounts.Mark.{Mark}
+use Rattle.tb_history.specs.declared.accounts.AddOn.{AddOn}
 use Rattle.tb_history.specs.Entries.{is_same, registered_by, announced_by, pledged_by}
 use Rattle.tb_history.specs.Roster.{registrations, enrolments, announcements, announcement_of, bill_of, is_registered}
-use Rattle.tb_history.specs.Holdings.{award_in, marks, mark_of}
+use Rattle.tb_history.specs.Holdings.{award_in, awarded_add_on, marks, mark_of}
 use Rattle.tb_history.specs.Tables.{mark_rows, left_in, par_rows}
 use Rattle.tb_history.specs.Legal.{IsLegal, Follows}
-use Rattle.tb_history.specs.Moves.{Numbering, numbering_of, credit_of, settled_as, movement_by}
+use Rattle.tb_history.specs.Moves.{Numbering, numbering_of, credit_of, add_on_credits, settled_as, movement_by}
 use Rattle.tb_history.specs.Moves.{movements_by, meaning_by, has_bill}
-use Rattle.tb_history.proofs.PartLemmas.{AllByRecursion-append, AllByRecursion-weaker, AllByRecursion-front}
+use Rattle.tb_history.proofs.PartLemmas.{AllByRecursion-front}
 use Rattle.tb_history.proofs.SameLemmas.{is_same-equal}
-use Rattle.tb_history.proofs.GrowthLemmas.{registrations-snoc, announcements-snoc, marks-snoc}
+use Rattle.tb_history.proofs.GrowthLemmas.{registrations-snoc, announcements-snoc, registered-append}
 use Rattle.tb_history.proofs.AcceptedLemmas.{IsClear, Passes, accepted-passes}
 use Rattle.tb_history.proofs.LegalLemmas.{by_entries}
+use Rattle.tb_history.proofs.EachLemmas.{IsLegal-each, marks-grow}
 use Rattle.tb_history.proofs.ClosedLemmas.{found-in}
-use Rattle.tb_history.proofs.ToldLemmas.{registered-append, has_bill-append, sender-registered, transfer_rows-clear}
+use Rattle.tb_history.proofs.ToldLemmas.{has_bill-append, sender-registered, transfer_rows-clear}
 use Rattle.tb_history.proofs.ToldLemmas.{IsLegal-enrolled, bill-found, redeem-bill}
+use Rattle.tb_history.proofs.AddOnLemmas.{awarded-known}
 
 -- the place of what is there stays behind which more comes
 place-append : {X : Type 0} (test : X → Bool) (xs ys : List X)
@@ -84,35 +87,19 @@ holders-message history submitter number moment (message.Pledge cusip to amount)
     (sender-registered history submitter (message.Pledge cusip to amount) passed.caller passed.permitted refl, tt)
 holders-message history submitter number moment other passed = tt
 
--- and stays so with an accepted entry
-holders-push : (history : List Entry) (entry : Entry)
-    → IsLegal history
-    → AllByRecursion (λ (mark : Mark). is_registered (registrations history) mark.holder ≡ true) (marks history)
-    → Follows history entry
-    → AllByRecursion (λ (mark : Mark). is_registered (registrations (history ++ entry ∷ [])) mark.holder ≡ true)
-    (marks (history ++ entry ∷ []))
-holders-push history entry legal so_far follows =
-    let passed = accepted-passes history entry.submitter entry.number entry.moment entry.message follows.accepted in
-    let all = AllByRecursion-append _ (marks history) (pledged_by entry.submitter entry.number entry.message) so_far
-    (holders-message history entry.submitter entry.number entry.moment entry.message passed) in
-    rw (marks-snoc history entry)
-    (AllByRecursion-weaker _ _ (λ mark known. rw (registrations-snoc history entry)
-    (registered-append (registrations history) (registered_by entry.message) mark.holder known))
-    (marks history ++ pledged_by entry.submitter entry.number entry.message) all)
-
--- nothing is pledged yet
-holders-nil : AllByRecursion (λ (mark : Mark). is_registered (registrations []) mark.holder ≡ true) (marks [])
-unfolding marks
-holders-nil = tt
-
 -- so it is in every legal history
 IsLegal-holders : (history : List Entry)
     → IsLegal history
     → AllByRecursion (λ (mark : Mark). is_registered (registrations history) mark.holder ≡ true) (marks history)
-IsLegal-holders history legal =
-    by_entries (λ history. AllByRecursion (λ (mark : Mark). is_registered (registrations history) mark.holder ≡ true)
-    (marks history))
-    holders-nil holders-push history legal
+IsLegal-holders =
+    IsLegal-each (λ history (mark : Mark). is_registered (registrations history) mark.holder ≡ true) marks
+    (λ (entry : Entry). pledged_by entry.submitter entry.number entry.message) marks-grow
+    (record {
+      begins = λ history entry legal follows passed.
+          holders-message history entry.submitter entry.number entry.moment entry.message passed;
+      stays = λ history entry mark known. rw (registrations-snoc history entry)
+          (registered-append (registrations history) (registered_by entry.message) mark.holder known);
+    })
 
 -- who made a pledge that is found is registered
 mark-holder : (history : List Entry) (submitter holder : List ℕ) (pledge amount : ℕ) (found : Option Mark)
@@ -163,7 +150,14 @@ settled-agree one other history auction (Some a) legal agree is =
     let bill : one.security a.cusip.bytes ≡ other.security a.cusip.bytes =
     agree.bills a.cusip.bytes (bill-found (announcements history) a auction is) in
     let credits = credits-agree one other history a (enrolments history) agree (IsLegal-enrolled history legal) in
-    rw (bill, credits) refl
+    rw (bill, credits, add_on-agree (awarded_add_on history a) refl) refl
+  where
+    -- and the credit of the add-on
+    add_on-agree : (x : Option AddOn)
+        → awarded_add_on history a ≡ x
+        → add_on_credits one x ≡ add_on_credits other x
+    add_on-agree None same = refl
+    add_on-agree (Some x) same = rw (agree.holders x.holder (awarded-known history a x legal same).holder) refl
 
 -- what an accepted message moves is the same by numberings that agree
 movement-agree : (one other : Numbering) (history : List Entry) (submitter : List ℕ) (number : ℕ) (moment : Moment)

@@ -11,9 +11,9 @@ use Rattle.tb_history.specs.declared.bids.Bid.{Bid}
 use Rattle.tb_history.specs.declared.bids.Cancel.{Cancel}
 use Rattle.tb_history.specs.declared.bids.Report.{Report}
 use Rattle.tb_history.specs.Entries.{is_same, operator, registered_by, enrolled_by, entered_by}
-use Rattle.tb_history.specs.Entries.{announced_by, published_by, settled_by, redeemed_by}
+use Rattle.tb_history.specs.Entries.{announced_by, published_by, settled_by, redeemed_by, added_by}
 use Rattle.tb_history.specs.Roster.{registrations, enrolments, holidays, announcements, publications, settlements}
-use Rattle.tb_history.specs.Roster.{redemptions, enrolment_of, is_under, is_enrolled, kept, sent_by}
+use Rattle.tb_history.specs.Roster.{redemptions, add_ons, enrolment_of, is_under, is_enrolled, kept, sent_by}
 use Rattle.tb_history.specs.LiveBids.{bids, cancels, reports, is_cancelled, is_live, is_of}
 use Rattle.tb_history.specs.LiveBids.{bids_of, standing_of, has_report, bid_of}
 use Rattle.tb_history.specs.OwnPart.{is_own, own_part}
@@ -22,7 +22,8 @@ use Rattle.tb_history.proofs.PartLemmas.{find-filter, filter-agree, AllByRecursi
 use Rattle.tb_history.proofs.PartLemmas.{AllByRecursion-filter}
 use Rattle.tb_history.proofs.KindLemmas.{IsOperators, registered_by-others, enrolled_by-others, entered_by-others}
 use Rattle.tb_history.proofs.KindLemmas.{announced_by-others, published_by-others, settled_by-others}
-use Rattle.tb_history.proofs.KindLemmas.{redeemed_by-others, bid_by-part, cancelled_by-part, reported_by-part}
+use Rattle.tb_history.proofs.KindLemmas.{redeemed_by-others, added_by-others, bid_by-part, cancelled_by-part}
+use Rattle.tb_history.proofs.KindLemmas.{reported_by-part}
 use Rattle.tb_history.proofs.SameLemmas.{is_same-equal}
 use Rattle.tb_history.proofs.LegalLemmas.{IsOrderly, permitted-operators}
 
@@ -95,6 +96,13 @@ pub redemptions-own : (submitter : List ℕ) (history : List Entry)
     → redemptions (own_part submitter history) ≡ redemptions history
 unfolding redemptions
 redemptions-own submitter history orderly = operators redeemed_by redeemed_by-others submitter history orderly
+
+-- the add-ons
+pub add_ons-own : (submitter : List ℕ) (history : List Entry)
+    → IsOrderly history
+    → add_ons (own_part submitter history) ≡ add_ons history
+unfolding add_ons
+add_ons-own submitter history orderly = operators added_by added_by-others submitter history orderly
 
 -- a submitter's messages are in its own part
 pub kept-own : (submitter : List ℕ) (number : ℕ) (history : List Entry)

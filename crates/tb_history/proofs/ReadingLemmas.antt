@@ -2,7 +2,7 @@
 use Rattle.std.proofs.Common.{◌≡◌, ◌≢◌, ℕ, ◌*◌, ◌^◌, ◌≤◌, ◌==◌, nat_le, Option, Some, None, inl, inr}
 use Rattle.std.proofs.Common.{List, [], ◌∷◌, length, refl, sym, ap, ◌∙◌, subst, arith}
 use Rattle.std.proofs.Math.Bridge.{le_prop}
-use Rattle.std.proofs.lemmas.Bool.{cases_Bool, both_ways, eqb-true, eq-eqb, leb-true, leb-false}
+use Rattle.std.proofs.lemmas.Bool.{cases_Bool, both_ways, eqb-true, eq-eqb, leb-true, leb-false, false≢true}
 use mathlib.Core.HLevel.{is_prop→PathP}
 use Rattle.tb_units.specs.declared.percent.Percent.{Percent}
 use Rattle.tb_units.specs.declared.price.Price.{Price}
@@ -31,15 +31,19 @@ use Rattle.tb_history.specs.declared.roster.Registration.{Registration}
 use Rattle.tb_history.specs.declared.readings.Results.{Results}
 use Rattle.tb_history.specs.declared.readings.Figures.{Figures}
 use Rattle.tb_history.specs.declared.readings.AwardLine.{AwardLine}
+use Rattle.tb_history.specs.declared.readings.AddOnLine.{AddOnLine}
+use Rattle.tb_history.specs.declared.reading.Awards.{Awards}
+use Rattle.tb_history.specs.declared.accounts.AddOn.{AddOn}
 use Rattle.tb_history.specs.declared.readings.HoldingLine.{HoldingLine}
 use Rattle.tb_history.specs.declared.readings.PaidLine.{PaidLine}
 use Rattle.tb_history.specs.declared.reading.Reading.{Reading}
 use Rattle.tb_history.specs.declared.reading.Reading.TheVariants as reading
-use Rattle.tb_history.specs.Roster.{announcements, announcement_of}
+use Rattle.tb_history.specs.Roster.{announcements, announcement_of, add_ons, add_on_of}
 use Rattle.tb_history.specs.Awarded.{Bidding, sought_in, stop_of, awarded}
 use Rattle.tb_history.specs.Holdings.{bidding_in}
 use Rattle.tb_history.specs.Readings.{days_of, AreRecognisedOf, HasFigures, AreFigures, AreResults, IsRateOver}
 use Rattle.tb_history.specs.Readings.{IsInvestment, IsAwardLine, AreAwardLines, AreAwards, bidders_in, IsReading}
+use Rattle.tb_history.specs.Readings.{IsPaid, IsAddOnLine, AreAddOn}
 use Rattle.tb_history.specs.Readings.{IsHoldingLine, AreHoldingLines, IsPaidLine, ArePaidLines}
 
 -- percentages of one number of hundredths are one
@@ -184,19 +188,29 @@ AreFigures-one bidding (Some one) None are are' = absurd (none_or_some bidding o
 AreFigures-one bidding (Some one) (Some other) are are' = ap Some (HasFigures-one bidding one other are are')
 
 -- so are the results
-pub AreResults-one : (bidding : Bidding) (one other : Results)
-    → AreResults bidding one
-    → AreResults bidding other
+pub AreResults-one : (bidding : Bidding) (add_on : Option AddOn) (one other : Results)
+    → AreResults bidding add_on one
+    → AreResults bidding add_on other
     → one ≡ other
-AreResults-one bidding one other are are' =
+AreResults-one bidding add_on one other are are' =
     let terms : one.terms ≡ other.terms = are.terms ∙ sym are'.terms in
     let figures = AreFigures-one bidding one.figures other.figures are.figures are'.figures in
     λ i. record {
       terms = terms i;
       noncompetitive =
           same_dollars one.noncompetitive other.noncompetitive (are.noncompetitive ∙ sym are'.noncompetitive) i;
+      addon = same_dollars one.addon other.addon (are.addon ∙ sym are'.addon) i;
       figures = figures i;
     }
+
+-- one award has one payment
+IsPaid-one : (bidding : Bidding) (award one other : ℕ) → IsPaid bidding award one → IsPaid bidding award other → one ≡ other
+IsPaid-one bidding award one other paid paid' =
+    let price : paid'.millionths ≡ paid.millionths =
+    IsPrice-one (stop_of bidding) (days_of bidding.announcement)
+    paid'.millionths paid.millionths paid'.price paid.price in
+    IsPayment-one award paid.millionths one other paid.payment
+    (subst (λ (p : ℕ). IsPayment award p other) price paid'.payment)
 
 -- a bidder's line of awards
 IsAwardLine-one : (bidding : Bidding) (bidder : List ℕ) (one other : AwardLine)
@@ -204,14 +218,8 @@ IsAwardLine-one : (bidding : Bidding) (bidder : List ℕ) (one other : AwardLine
     → IsAwardLine bidding bidder other
     → one ≡ other
 IsAwardLine-one bidding bidder one other is is' =
-    let paid = is.payment in
-    let paid' = is'.payment in
-    let price : paid'.millionths ≡ paid.millionths =
-    IsPrice-one (stop_of bidding) (days_of bidding.announcement)
-    paid'.millionths paid.millionths paid'.price paid.price in
     let cents : one.payment.value ≡ other.payment.value =
-    IsPayment-one (awarded bidding bidder) paid.millionths one.payment.value other.payment.value paid.payment
-    (subst (λ (p : ℕ). IsPayment (awarded bidding bidder) p other.payment.value) price paid'.payment) in
+    IsPaid-one bidding (awarded bidding bidder) one.payment.value other.payment.value is.payment is'.payment in
     let bidders : one.bidder ≡ other.bidder = is.whose ∙ sym is'.whose in
     λ i. record {
       bidder = bidders i;
@@ -236,6 +244,40 @@ AreAwardLines-one bidding (e ∷ bidders) (line ∷ lines) [] are are' = absurd 
 AreAwardLines-one bidding (e ∷ bidders) (x ∷ xs) (y ∷ ys) are are' =
     same_lists x y xs ys (IsAwardLine-one bidding e.bidder x y are.0 are'.0)
     (AreAwardLines-one bidding bidders xs ys are.1 are'.1)
+
+-- a line of an add-on
+IsAddOnLine-one : (bidding : Bidding) (award : ℕ) (one other : AddOnLine)
+    → IsAddOnLine bidding award one
+    → IsAddOnLine bidding award other
+    → one ≡ other
+IsAddOnLine-one bidding award one other is is' =
+    let cents = IsPaid-one bidding award one.payment.value other.payment.value is.payment is'.payment in
+    λ i. record {
+      amount = same_dollars one.amount other.amount (is.amount ∙ sym is'.amount) i;
+      payment = same_cents one.payment other.payment cents i;
+    }
+
+-- or none
+AreAddOn-one : (bidding : Bidding) (add_on : Option AddOn) (caller : List ℕ) (one other : Option AddOnLine)
+    → AreAddOn bidding add_on caller one
+    → AreAddOn bidding add_on caller other
+    → one ≡ other
+AreAddOn-one bidding add_on caller None None is is' = refl
+AreAddOn-one bidding add_on caller (Some one) (Some other) is is' =
+    ap Some (IsAddOnLine-one bidding _ one other is.1 is'.1)
+AreAddOn-one bidding add_on caller None (Some other) is is' = absurd (false≢true (sym is ∙ is'.0))
+AreAddOn-one bidding add_on caller (Some one) None is is' = absurd (false≢true (sym is' ∙ is.0))
+
+-- so the awards of a caller are one
+pub AreAwards-told : (history : List Entry) (a : Announcement) (caller : List ℕ) (one other : Awards)
+    → AreAwards history a caller one
+    → AreAwards history a caller other
+    → one ≡ other
+AreAwards-told history a caller one other are are' =
+    let lines = AreAwardLines-one (bidding_in history a) (bidders_in history a caller) one.lines other.lines are.lines
+    are'.lines in
+    let addon = AreAddOn-one (bidding_in history a) _ caller one.addon other.addon are.addon are'.addon in
+    λ i. record { lines = lines i; addon = addon i }
 
 -- a line of holdings
 IsHoldingLine-one : (history : List Entry) (participant : List ℕ) (cusip : Cusip) (one other : HoldingLine)
@@ -305,11 +347,12 @@ IsReading-one history caller (query.Terms auction) (reading.Terms one) (reading.
     ap reading.Terms (announced-one (announcement_of (announcements history) auction) one other is is')
 IsReading-one history caller (query.Results auction) (reading.Results one) (reading.Results other) is is' =
     let same = announced-one (announcement_of (announcements history) auction) is'.0 is.0 is'.1 is.1 in
-    ap reading.Results (AreResults-one (bidding_in history is.0) one other is.2
-    (subst (λ (announcement : Announcement). AreResults (bidding_in history announcement) other) same is'.2))
+    ap reading.Results (AreResults-one (bidding_in history is.0) (add_on_of (add_ons history) is.0.auction) one other is.2
+    (subst (λ (announcement : Announcement). AreResults (bidding_in history announcement)
+    (add_on_of (add_ons history) announcement.auction) other) same is'.2))
 IsReading-one history caller (query.Awards auction) (reading.Awards one) (reading.Awards other) is is' =
     let same = announced-one (announcement_of (announcements history) auction) is'.0 is.0 is'.1 is.1 in
-    ap reading.Awards (AreAwardLines-one (bidding_in history is.0) (bidders_in history is.0 caller) one other is.2
+    ap reading.Awards (AreAwards-told history is.0 caller one other is.2
     (subst (λ (announcement : Announcement). AreAwards history announcement caller other) same is'.2))
 IsReading-one history caller (query.Bids auction) (reading.Bids one) (reading.Bids other) is is' =
     ap reading.Bids (is ∙ sym is')

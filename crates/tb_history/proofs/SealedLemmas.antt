@@ -21,7 +21,7 @@ use Rattle.tb_history.specs.OwnPart.{own_part, moves_par}
 use Rattle.tb_history.specs.Legal.{IsLegal}
 use Rattle.tb_history.proofs.LegalLemmas.{IsOrderly, IsLegal-orderly}
 use Rattle.tb_history.proofs.OwnLemmas.{registrations-own, enrolments-own, announcements-own, publications-own}
-use Rattle.tb_history.proofs.OwnLemmas.{holidays-own, settlements-own, redemptions-own, kept-own, sent_by-own}
+use Rattle.tb_history.proofs.OwnLemmas.{holidays-own, settlements-own, redemptions-own, add_ons-own, kept-own, sent_by-own}
 use Rattle.tb_history.proofs.OwnLemmas.{bid_of-own, is_cancelled-own, is_party-same, standing_of-own}
 use Rattle.tb_history.proofs.SameLemmas.{is_same-refl}
 
@@ -88,6 +88,12 @@ rows_of-own sender history orderly moment (message.Redeem cusip) last still =
       settlements-own sender history orderly,
       redemptions-own sender history orderly,
       holidays-own sender history orderly,
+    ) refl
+rows_of-own sender history orderly moment (message.AddOn auction holder amount) last still =
+    rw (
+      announcements-own sender history orderly,
+      registrations-own sender history orderly,
+      add_ons-own sender history orderly,
     ) refl
 rows_of-own sender history orderly moment (message.Transfer cusip to amount) last still = cc
 rows_of-own sender history orderly moment (message.Pledge cusip to amount) last still = cc

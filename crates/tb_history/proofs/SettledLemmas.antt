@@ -26,6 +26,7 @@ use Rattle.tb_history.proofs.SameLemmas.{is_same-equal, is_same-refl, is_same-sy
 use Rattle.tb_history.proofs.GrowthLemmas.{announcements-snoc, publications-snoc, settlements-snoc, redemptions-snoc}
 use Rattle.tb_history.proofs.AcceptedLemmas.{IsClear, accepted-passes}
 use Rattle.tb_history.proofs.LegalLemmas.{by_entries}
+use Rattle.tb_history.proofs.EachLemmas.{IsLegal-each, settlements-grow}
 use Rattle.tb_history.proofs.ClosedLemmas.{IsClosed, published-closed, named-in, found-in}
 
 -- no two announcements have one name
@@ -121,36 +122,27 @@ settled_by-published history submitter moment (message.Settle auction) clear = (
 )
 settled_by-published history submitter moment other clear = tt
 
--- and stays so with an accepted entry
-settled-push : (history : List Entry) (entry : Entry)
+-- every settled auction is published
+IsLegal-settled : (history : List Entry)
     → IsLegal history
     → AllByRecursion (λ name. is_published history name ≡ true) (settlements history)
-    → Follows history entry
-    → AllByRecursion (λ name. is_published (history ++ entry ∷ []) name ≡ true) (settlements (history ++ entry ∷ []))
-settled-push history entry legal so_far follows =
-    let passed = accepted-passes history entry.submitter entry.number entry.moment entry.message follows.accepted in
-    let now = settled_by-published history entry.submitter entry.moment entry.message passed.rows in
-    rw (settlements-snoc history entry)
-    (AllByRecursion-append _ (settlements history) (settled_by entry.message)
-    (AllByRecursion-weaker _ _ (λ name published. published-push history entry name published)
-    (settlements history) so_far)
-    (AllByRecursion-weaker _ _ (λ name both. published-push history entry name both.0) (settled_by entry.message) now))
+IsLegal-settled =
+    IsLegal-each (λ history name. is_published history name ≡ true) settlements
+    (λ (entry : Entry). settled_by entry.message) settlements-grow
+    (record {
+      begins = λ history entry legal follows passed.
+          AllByRecursion-weaker _ _ (λ name both. both.0) (settled_by entry.message)
+          (settled_by-published history entry.submitter entry.moment entry.message passed.rows);
+      stays = λ history entry name published. published-push history entry name published;
+    })
 
--- nothing is settled yet
-settled-nil : AllByRecursion (λ name. is_published [] name ≡ true) (settlements [])
-unfolding settlements
-settled-nil = tt
-
--- a settled auction is published, and so it is closed
+-- so one that is settled is published, and so it is closed
 pub settled-published : (history : List Entry) (name : List ℕ)
     → IsLegal history
     → is_settled history name ≡ true
     → is_published history name ≡ true
 settled-published history name legal settled =
-    named-in (λ n. is_published history n ≡ true) (settlements history) name
-    (by_entries (λ history. AllByRecursion (λ n. is_published history n ≡ true) (settlements history)) settled-nil
-    settled-push history legal)
-    settled
+    named-in (λ n. is_published history n ≡ true) (settlements history) name (IsLegal-settled history legal) settled
 
 -- so its closing has come
 pub settled-closed : (history : List Entry) (name : List ℕ)

@@ -2,7 +2,8 @@
 use Rattle.std.proofs.Common.{◌≡◌, ℕ, suc, zero, ◌≤◌, ◌==◌, ◌&&◌, ◌||◌, Bool, true, false, not, nat_le}
 use Rattle.std.proofs.Common.{Option, Some, None, is_some, List, [], ◌∷◌, ◌++◌, sum_by, refl, sym}
 use Rattle.std.proofs.Common.{ap, ◌∙◌, subst, arith, append_assoc, append-nil}
-use Rattle.std.specs.List.{filter, list_any, AllByRecursion}
+use Rattle.std.specs.Prelude.{if◌then◌else◌}
+use Rattle.std.specs.List.{find, filter, list_any, AllByRecursion}
 use Rattle.std.proofs.lemmas.Bool.{leb-false, false_from_ne_true}
 use Rattle.std.proofs.lemmas.List.Elements.{filter-append}
 use Rattle.std.proofs.lemmas.List.Folds.{list_any-append}
@@ -22,26 +23,28 @@ use Rattle.tb_history.specs.declared.roster.Enrolment.{Enrolment}
 use Rattle.tb_history.specs.declared.bids.Bid.{Bid}
 use Rattle.tb_history.specs.declared.bids.Cancel.{Cancel}
 use Rattle.tb_history.specs.declared.bids.Report.{Report}
-use Rattle.tb_history.specs.Entries.{is_same, enrolled_by, bid_by, cancelled_by, reported_by}
+use Rattle.tb_history.specs.declared.accounts.AddOn.{AddOn}
+use Rattle.tb_history.specs.Entries.{is_same, enrolled_by, bid_by, cancelled_by, reported_by, added_by}
 use Rattle.tb_history.specs.Roster.{enrolments, announcements, enrolment_of, is_under}
-use Rattle.tb_history.specs.Roster.{is_enrolled, announcement_of, is_published}
+use Rattle.tb_history.specs.Roster.{is_enrolled, announcement_of, is_published, registrations, is_registered}
+use Rattle.tb_history.specs.Roster.{add_ons, add_on_of}
 use Rattle.tb_history.specs.LiveBids.{bids, cancels, reports, is_cancelled, is_live, live_bids_in, bid_of, standing_of}
-use Rattle.tb_history.specs.Tables.{rows_of, bid_rows, cancel_rows, position_rows}
+use Rattle.tb_history.specs.Tables.{rows_of, bid_rows, cancel_rows, position_rows, add_on_rows}
 use Rattle.tb_history.specs.Legal.{IsLegal, Follows, last_of}
 use Rattle.tb_history.specs.Awarded.{Bidding, rates, bid_at, recognised_under, par_under, par_in_all, sought_in}
 use Rattle.tb_history.specs.Awarded.{wanted_in, stop_of, percent_of, award_at, awards_under, awarded}
-use Rattle.tb_history.specs.Holdings.{bidding_in, award_in}
+use Rattle.tb_history.specs.Holdings.{bidding_in, award_in, awarded_add_on}
 use Rattle.tb_history.proofs.PartLemmas.{filter-agree, AllByRecursion-filter, AllByRecursion-from}
 use Rattle.tb_history.proofs.PartLemmas.{AllByRecursion-weaker}
 use Rattle.tb_history.proofs.SameLemmas.{is_same-equal}
-use Rattle.tb_history.proofs.GrowthLemmas.{enrolments-snoc, bids-snoc, cancels-snoc, reports-snoc}
+use Rattle.tb_history.proofs.GrowthLemmas.{enrolments-snoc, bids-snoc, cancels-snoc, reports-snoc, add_ons-snoc}
 use Rattle.tb_history.proofs.AcceptedLemmas.{IsClear, accepted-passes}
 use Rattle.tb_history.proofs.LegalLemmas.{IsLegal-orderly, IsPlaced}
 use Rattle.tb_history.proofs.HistoryLemmas.{IsLegal-front, IsLegal-last}
 use Rattle.tb_history.proofs.ClosedLemmas.{IsInOrder, IsLegal-in_order, found-in, closing_for-le}
 use Rattle.tb_history.proofs.ClosedLemmas.{IsClosed, IsClosed-push, published-closed}
 
--- the entry bids, cancels and reports nothing in the auction
+-- the entry bids, cancels, reports and adds on nothing in the auction
 pub record IsQuiet (auction : List ℕ) (entry : Entry) : Type 0 where
   pub bid : AllByRecursion (λ (b : Bid). is_same b.auction auction ≡ false)
       (bid_by entry.submitter entry.number entry.message)
@@ -49,6 +52,7 @@ pub record IsQuiet (auction : List ℕ) (entry : Entry) : Type 0 where
       (cancelled_by entry.submitter entry.message)
   pub report : AllByRecursion (λ (r : Report). is_same r.auction auction ≡ false)
       (reported_by entry.submitter entry.message)
+  pub add_on : AllByRecursion (λ (x : AddOn). is_same x.auction auction ≡ false) (added_by entry.message)
 
 -- the moment comes at or after the last closing of an announcement that is in order
 record IsPastClosing (announcement : Announcement) (moment : Moment) : Type 0 where
@@ -89,6 +93,14 @@ position_rows-late : (announcement : Announcement) (enrolled : Bool) (moment : M
 position_rows-late announcement enrolled moment late clear =
     is_late (c_closing announcement).seconds moment.seconds late.past clear.1.0
 
+-- nor is an add-on
+add_on_rows-late : (announcement : Announcement) (known standing : Bool) (moment : Moment) (amount : ℕ)
+    → IsPastClosing announcement moment
+    → AllByRecursion IsClear (add_on_rows (Some announcement) known standing moment amount)
+    → ⊥
+add_on_rows-late announcement known standing moment amount late clear =
+    is_late (c_closing announcement).seconds moment.seconds late.past clear.1.1.1.0
+
 -- two tests of one name
 other_name : (name auction : List ℕ) → (is_same name auction ≡ true → ⊥) → is_same name auction ≡ false
 other_name name auction apart = false_from_ne_true (is_same name auction) apart
@@ -101,6 +113,7 @@ quiet_message : (history : List Entry) (auction : List ℕ) (closed : IsClosed h
     → AllByRecursion (λ (b : Bid). is_same b.auction auction ≡ false) (bid_by submitter number sent)
     × AllByRecursion (λ (cancel : Cancel). is_same cancel.auction auction ≡ false) (cancelled_by submitter sent)
     × AllByRecursion (λ (report : Report). is_same report.auction auction ≡ false) (reported_by submitter sent)
+    × AllByRecursion (λ (x : AddOn). is_same x.auction auction ≡ false) (added_by sent)
 quiet_message history auction closed submitter number moment
     (message.Bid name bidder rate amount) late clear =
     let standing = standing_of (bids history) (cancels history) (reports history) name bidder in
@@ -110,7 +123,7 @@ quiet_message history auction closed submitter number moment
     (sym (is_same-equal name auction same)) closed.announced in
     bid_rows-late closed.a (is_enrolled history bidder submitter) standing moment rate amount.value late
     (rw found at clear) in
-    ((other_name name auction apart, tt), tt, tt)
+    ((other_name name auction apart, tt), tt, tt, tt)
 quiet_message history auction closed submitter number moment (message.Cancel name bid) late clear =
     let apart : is_same name auction ≡ true → ⊥ = λ same.
     let found : announcement_of (announcements history) name ≡ Some closed.a =
@@ -118,7 +131,7 @@ quiet_message history auction closed submitter number moment (message.Cancel nam
     (sym (is_same-equal name auction same)) closed.announced in
     cancel_rows-late closed.a (bid_of (bids history) submitter name bid)
     (is_cancelled (cancels history) submitter name bid) moment late (rw found at clear) in
-    (tt, (other_name name auction apart, tt), tt)
+    (tt, (other_name name auction apart, tt), tt, tt)
 quiet_message history auction closed submitter number moment
     (message.Position name bidder position) late clear =
     let apart : is_same name auction ≡ true → ⊥ = λ same.
@@ -126,8 +139,16 @@ quiet_message history auction closed submitter number moment
     subst (λ (x : List ℕ). announcement_of (announcements history) x ≡ Some closed.a)
     (sym (is_same-equal name auction same)) closed.announced in
     position_rows-late closed.a (is_enrolled history bidder submitter) moment late (rw found at clear) in
-    (tt, tt, (other_name name auction apart, tt))
-quiet_message history auction closed submitter number moment other late clear = (tt, tt, tt)
+    (tt, tt, (other_name name auction apart, tt), tt)
+quiet_message history auction closed submitter number moment (message.AddOn name holder amount) late clear =
+    let apart : is_same name auction ≡ true → ⊥ = λ same.
+    let found : announcement_of (announcements history) name ≡ Some closed.a =
+    subst (λ (x : List ℕ). announcement_of (announcements history) x ≡ Some closed.a)
+    (sym (is_same-equal name auction same)) closed.announced in
+    add_on_rows-late closed.a (is_registered (registrations history) holder)
+    (is_some (add_on_of (add_ons history) name)) moment amount.value late (rw found at clear) in
+    (tt, tt, tt, (other_name name auction apart, tt))
+quiet_message history auction closed submitter number moment other late clear = (tt, tt, tt, tt)
 
 -- an accepted entry is quiet in a closed auction
 pub IsQuiet-closed : (history : List Entry) (entry : Entry) (auction : List ℕ)
@@ -145,7 +166,7 @@ IsQuiet-closed history entry auction legal follows closed =
     } in
     let quiet =
     quiet_message history auction closed entry.submitter entry.number entry.moment entry.message late passed.rows in
-    record { bid = quiet.0; cancel = quiet.1; report = quiet.2 }
+    record { bid = quiet.0; cancel = quiet.1; report = quiet.2; add_on = quiet.3 }
 
 -- nothing is kept where nothing passes
 pub filter-none : {X : Type 0} (test : X → Bool) (xs : List X)
@@ -381,12 +402,30 @@ silent-unknown history announcement bidder legal unknown =
     (AllByRecursion-filter _ (λ (b : Bid). is_same b.auction announcement.auction) (bids history)
     (AllByRecursion-weaker _ _ (λ b is own. is) (bids history) none)))
 
+-- nothing more is found where nothing passes
+find-quiet : {X : Type 0} (test : X → Bool) (xs ys : List X)
+    → AllByRecursion (λ x. test x ≡ false) ys
+    → find test (xs ++ ys) ≡ find test xs
+find-quiet test [] [] none = refl
+find-quiet test [] (y ∷ ys) none = rw none.0 (find-quiet test [] ys none.1)
+find-quiet {X} test (x ∷ xs) ys none =
+    ap (λ (found : Option X). if test x then Some x else found) (find-quiet test xs ys none)
+
+-- the auction's add-on stays
+add_on-quiet : (history : List Entry) (entry : Entry) (auction : List ℕ)
+    → IsQuiet auction entry
+    → add_on_of (add_ons (history ++ entry ∷ [])) auction ≡ add_on_of (add_ons history) auction
+add_on-quiet history entry auction quiet =
+    ap (λ (added : List AddOn). add_on_of added auction) (add_ons-snoc history entry)
+    ∙ find-quiet (λ (x : AddOn). is_same x.auction auction) (add_ons history) (added_by entry.message) quiet.add_on
+
 -- the figures after one more entry that is quiet in the auction are those before
 pub record AreSteady (history : List Entry) (entry : Entry) (announcement : Announcement) : Type 0 where
   pub alike : AreAlike (bidding_in (history ++ entry ∷ []) announcement) (bidding_in history announcement)
   pub live : (bidding_in (history ++ entry ∷ []) announcement).live ≡ (bidding_in history announcement).live
   pub awards : (bidder : List ℕ)
       → award_in (history ++ entry ∷ []) announcement bidder ≡ award_in history announcement bidder
+  pub add_on : awarded_add_on (history ++ entry ∷ []) announcement ≡ awarded_add_on history announcement
 
 -- with no bidder more
 steady-none : (history : List Entry) (announcement : Announcement)
@@ -413,6 +452,18 @@ steady-message history announcement sender moment (message.Enrol bidder submitte
     (silent-unknown history announcement bidder legal clear.1.0)
 steady-message history announcement sender moment other legal clear = steady-none history announcement
 
+-- so the add-on that is awarded stays
+awarded-quiet : (history : List Entry) (entry : Entry) (announcement : Announcement)
+    → AreAlike (bidding_in (history ++ entry ∷ []) announcement) (bidding_in history announcement)
+    → IsQuiet announcement.auction entry
+    → awarded_add_on (history ++ entry ∷ []) announcement ≡ awarded_add_on history announcement
+unfolding awarded_add_on
+awarded-quiet history entry announcement alike quiet =
+    rw (
+      par_in_all-alike (bidding_in (history ++ entry ∷ []) announcement) (bidding_in history announcement) alike,
+      add_on-quiet history entry announcement.auction quiet,
+    ) refl
+
 -- so the figures of a closed auction stay after an accepted entry
 pub IsClosed-steady : (history : List Entry) (entry : Entry) (announcement : Announcement)
     → IsLegal history
@@ -432,6 +483,8 @@ IsClosed-steady history entry announcement legal follows closed =
       awards =
           λ bidder. ap (λ (b : Bidding). awarded b bidder) now
           ∙ awarded-among (bidding_in history announcement) more bidder alike;
+      add_on = awarded-quiet history entry announcement
+          (subst (λ (b : Bidding). AreAlike b (bidding_in history announcement)) (sym now) alike) quiet;
     }
 
 -- the figures of an auction on one history are those on another
@@ -439,6 +492,7 @@ pub record AreSame (later history : List Entry) (announcement : Announcement) : 
   pub alike : AreAlike (bidding_in later announcement) (bidding_in history announcement)
   pub live : (bidding_in later announcement).live ≡ (bidding_in history announcement).live
   pub awards : (bidder : List ℕ) → award_in later announcement bidder ≡ award_in history announcement bidder
+  pub add_on : awarded_add_on later announcement ≡ awarded_add_on history announcement
 
 -- whatever comes later
 pub AreSame-more : (more history : List Entry) (announcement : Announcement)
@@ -447,7 +501,7 @@ pub AreSame-more : (more history : List Entry) (announcement : Announcement)
     → AreSame (history ++ more) history announcement
 AreSame-more [] history announcement legal closed =
     subst (λ (x : List Entry). AreSame x history announcement) (sym (append-nil history))
-    (record { alike = (refl, refl); live = refl; awards = λ bidder. refl })
+    (record { alike = (refl, refl); live = refl; awards = λ bidder. refl; add_on = refl })
 AreSame-more (e ∷ more) history announcement legal closed =
     let whole : IsLegal ((history ++ e ∷ []) ++ more) =
     subst IsLegal (sym (append_assoc history (e ∷ []) more)) legal in
@@ -459,6 +513,7 @@ AreSame-more (e ∷ more) history announcement legal closed =
       alike = (rest.alike.0 ∙ step.alike.0, rest.alike.1 ∙ step.alike.1);
       live = rest.live ∙ step.live;
       awards = λ bidder. rest.awards bidder ∙ step.awards bidder;
+      add_on = rest.add_on ∙ step.add_on;
     } in
     subst (λ (x : List Entry). AreSame x history announcement) (append_assoc history (e ∷ []) more) both
 

@@ -26,27 +26,28 @@ use Rattle.tb_message.specs.declared.message.Message.TheVariants as message
 use Rattle.tb_message.specs.Kinds as party
 use Rattle.tb_message.specs.Kinds.{party_of}
 use Rattle.tb_message.specs.Messages.{kind_of}
-use Rattle.tb_history.specs.declared.roster.Registration.{Registration}
 use Rattle.tb_history.specs.declared.roster.Enrolment.{Enrolment}
 use Rattle.tb_history.specs.declared.accounts.Mark.{Mark}
 use Rattle.tb_history.specs.declared.accounts.Release.{Release}
+use Rattle.tb_history.specs.declared.accounts.AddOn.{AddOn}
 use Rattle.tb_history.specs.Entries.{is_same, operator, registered_by, enrolled_by}
 use Rattle.tb_history.specs.Entries.{announced_by, redeemed_by, pledged_by, released_by}
 use Rattle.tb_history.specs.Roster.{registrations, enrolments, announcements, redemptions, announcement_of, bill_of}
 use Rattle.tb_history.specs.Roster.{is_of_bill, is_caller, is_registered, is_redeemed, is_settled, kept}
-use Rattle.tb_history.specs.Holdings.{transfers, marks, releases, credited_to, issued}
+use Rattle.tb_history.specs.Holdings.{transfers, marks, releases, awarded_add_on, credited_to, issued}
 use Rattle.tb_history.specs.Holdings.{mark_of, left_of, free_of, open_marks}
 use Rattle.tb_history.specs.Tables.{rows_of, transfer_rows, par_rows, mark_rows, left_in}
 use Rattle.tb_history.specs.Verdict.{is_permitted}
 use Rattle.tb_history.specs.Legal.{IsLegal, Follows}
-use Rattle.tb_history.specs.Moves.{Numbering, credit_of, settled_as, movement_by, movements_by, meaning_by}
-use Rattle.tb_history.specs.Moves.{IsNumbered, as_moved, has_bill, AreNumbered}
-use Rattle.tb_history.proofs.PartLemmas.{AllByRecursion-append, AllByRecursion-weaker, AllByRecursion-front}
+use Rattle.tb_history.specs.Moves.{Numbering, credit_of, add_on_credits, settled_as, movement_by, movements_by}
+use Rattle.tb_history.specs.Moves.{meaning_by, IsNumbered, as_moved, has_bill, AreNumbered}
+use Rattle.tb_history.proofs.PartLemmas.{AllByRecursion-append, AllByRecursion-front}
 use Rattle.tb_history.proofs.SameLemmas.{is_same-equal, is_same-refl}
-use Rattle.tb_history.proofs.GrowthLemmas.{registrations-snoc, enrolments-snoc, announcements-snoc}
-use Rattle.tb_history.proofs.GrowthLemmas.{redemptions-snoc, marks-snoc, releases-snoc}
+use Rattle.tb_history.proofs.GrowthLemmas.{registrations-snoc, announcements-snoc}
+use Rattle.tb_history.proofs.GrowthLemmas.{redemptions-snoc, marks-snoc, releases-snoc, registered-append}
 use Rattle.tb_history.proofs.AcceptedLemmas.{IsClear, Passes, accepted-passes}
 use Rattle.tb_history.proofs.LegalLemmas.{by_entries}
+use Rattle.tb_history.proofs.EachLemmas.{IsLegal-each, enrolments-grow}
 use Rattle.tb_history.proofs.ClosedLemmas.{found-in}
 use Rattle.tb_history.proofs.CloseLemmas.{All-from}
 use Rattle.tb_history.proofs.SettledLemmas.{settled_by-published, redeem-clear, unsettled-live}
@@ -54,16 +55,9 @@ use Rattle.tb_history.proofs.CreditedLemmas.{par_settled-push, credited_to-settl
 use Rattle.tb_history.proofs.MovedLemmas.{sent-push, received-push, taken-message, brought-message, issues-message}
 use Rattle.tb_history.proofs.MovedLemmas.{redeems-message, marks-message, is_release_of, releases-message}
 use Rattle.tb_history.proofs.PassLemmas.{found_any, IsKnown, AreTold, IsToldBy, free-told, left-told, mark-told}
+use Rattle.tb_history.proofs.AddOnLemmas.{awarded-known}
 
--- who is registered stays so among more
-pub registered-append : (one other : List Registration) (name : List ℕ)
-    → is_registered one name ≡ true
-    → is_registered (one ++ other) name ≡ true
-registered-append one other name known =
-    rw (list_any-append (λ (registration : Registration). is_same registration.submitter name) one other)
-    (or_left (is_registered one name) (is_registered other name) known)
-
--- and so does a bill
+-- a bill that is announced stays so among more
 pub has_bill-append : (one other : List Announcement) (bytes : List ℕ)
     → has_bill one bytes ≡ true
     → has_bill (one ++ other) bytes ≡ true
@@ -294,39 +288,20 @@ enrolled-message history sender moment (message.Enrol bidder submitter) clear =
     (not-false (is_registered (registrations history) submitter) clear.1.1.0, tt)
 enrolled-message history sender moment other clear = tt
 
--- and stays so with an accepted entry
-enrolled-push : (history : List Entry) (entry : Entry)
-    → IsLegal history
-    → AllByRecursion (λ (enrolment : Enrolment). is_registered (registrations history) enrolment.submitter ≡ true)
-    (enrolments history)
-    → Follows history entry
-    → AllByRecursion (λ (enrolment : Enrolment). is_registered
-    (registrations (history ++ entry ∷ [])) enrolment.submitter ≡ true)
-    (enrolments (history ++ entry ∷ []))
-enrolled-push history entry legal so_far follows =
-    let passed = accepted-passes history entry.submitter entry.number entry.moment entry.message follows.accepted in
-    let all = AllByRecursion-append _ (enrolments history) (enrolled_by entry.message) so_far
-    (enrolled-message history entry.submitter entry.moment entry.message passed.rows) in
-    rw (enrolments-snoc history entry)
-    (AllByRecursion-weaker _ _ (λ x known. rw (registrations-snoc history entry)
-    (registered-append (registrations history) (registered_by entry.message) x.submitter known))
-    (enrolments history ++ enrolled_by entry.message) all)
-
--- nobody is enrolled yet
-enrolled-nil : AllByRecursion (λ (enrolment : Enrolment). is_registered (registrations []) enrolment.submitter ≡ true)
-    (enrolments [])
-unfolding enrolments
-enrolled-nil = tt
-
 -- so it is in every legal history
 pub IsLegal-enrolled : (history : List Entry)
     → IsLegal history
     → AllByRecursion (λ (enrolment : Enrolment). is_registered (registrations history) enrolment.submitter ≡ true)
     (enrolments history)
-IsLegal-enrolled history legal =
-    by_entries (λ history. AllByRecursion
-    (λ (enrolment : Enrolment). is_registered (registrations history) enrolment.submitter ≡ true)
-    (enrolments history)) enrolled-nil enrolled-push history legal
+IsLegal-enrolled =
+    IsLegal-each (λ history (enrolment : Enrolment). is_registered (registrations history) enrolment.submitter ≡ true)
+    enrolments (λ (entry : Entry). enrolled_by entry.message) enrolments-grow
+    (record {
+      begins = λ history entry legal follows passed.
+          enrolled-message history entry.submitter entry.moment entry.message passed.rows;
+      stays = λ history entry enrolment known. rw (registrations-snoc history entry)
+          (registered-append (registrations history) (registered_by entry.message) enrolment.submitter known);
+    })
 
 -- a movement reaches participants
 credits-reach : (numbers : Numbering) (participants : List ℕ) (history : List Entry) (announcement : Announcement)
@@ -348,7 +323,16 @@ reaches-settled : (numbers : Numbering) (participants : List ℕ) (history : Lis
 reaches-settled numbers participants history None are legal = tt
 reaches-settled numbers participants history (Some a) are legal =
     All-from (λ (credit : Credit). Contains participants credit.holder) _
+    (AllByRecursion-append (λ (credit : Credit). Contains participants credit.holder) _ _
     (credits-reach numbers participants history a (enrolments history) are (IsLegal-enrolled history legal))
+    (add_on-reaches (awarded_add_on history a) refl))
+  where
+    -- and the add-on's holder
+    add_on-reaches : (found : Option AddOn)
+        → awarded_add_on history a ≡ found
+        → AllByRecursion (λ (credit : Credit). Contains participants credit.holder) (add_on_credits numbers found)
+    add_on-reaches None is = tt
+    add_on-reaches (Some x) is = (are.listed x.holder (awarded-known history a x legal is).holder, tt)
 
 -- so does what a message moves
 reaches-message : (numbers : Numbering) (participants : List ℕ) (history : List Entry) (submitter : List ℕ) (number : ℕ)
@@ -441,7 +425,7 @@ AreTold-push numbers participants history entry tells follows =
             received-push history entry participant cusip,
             credited_to-settled history participant cusip,
             credited_to-settled (history ++ entry ∷ []) participant cusip,
-            par_settled-push (λ (enrolment : Enrolment). is_same enrolment.submitter participant) history entry cusip
+            par_settled-push (λ name. is_same name participant) history entry cusip
                 tells.legal follows,
           );
       takes = λ participant cusip own bills.
@@ -460,7 +444,7 @@ AreTold-push numbers participants history entry tells follows =
             issues-message numbers history entry.submitter entry.number entry.message cusip bills,
             issued-settled history cusip,
             issued-settled (history ++ entry ∷ []) cusip,
-            par_settled-push (λ (enrolment : Enrolment). true) history entry cusip tells.legal follows,
+            par_settled-push (λ name. true) history entry cusip tells.legal follows,
           );
       redeemed = λ cusip bills.
           ap (list_any (redeems (numbers.security cusip.bytes))) grown

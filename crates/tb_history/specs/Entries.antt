@@ -17,6 +17,7 @@ use Rattle.tb_history.specs.declared.bids.Report.{Report}
 use Rattle.tb_history.specs.declared.accounts.Transfer.{Transfer}
 use Rattle.tb_history.specs.declared.accounts.Mark.{Mark}
 use Rattle.tb_history.specs.declared.accounts.Release.{Release}
+use Rattle.tb_history.specs.declared.accounts.AddOn.{AddOn}
 
 -- two names, or two CUSIPs, are one
 abbrev pub is_same : List ℕ → List ℕ → Bool
@@ -96,6 +97,11 @@ pledged_by submitter number other = []
 abbrev pub released_by : Message → List Release
 released_by (message.Release holder pledge amount) = record { holder = holder; pledge = pledge; amount = amount } ∷ []
 released_by other = []
+
+-- an add-on of an auction
+abbrev pub added_by : Message → List AddOn
+added_by (message.AddOn auction holder amount) = record { auction = auction; holder = holder; amount = amount } ∷ []
+added_by other = []
 
 -- a sender is of the party
 abbrev pub is_of_party : Party → List ℕ → Bool

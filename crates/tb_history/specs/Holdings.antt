@@ -1,7 +1,7 @@
 -- What participants hold of a bill, and what of it is pledged (31 CFR Part 357, Subpart B; that pledged par stays the
 -- holder's is our choice).
 use Rattle.std.specs.Prelude.{ℕ, ◌+◌, ◌-◌, ◌==◌, ◌&&◌, Bool, not, nat_lt, if◌then◌else◌}
-use Rattle.std.specs.Prelude.{Option, List, length, sum_by, take_while}
+use Rattle.std.specs.Prelude.{Option, Some, None, true, List, length, sum_by, take_while}
 use Rattle.std.specs.List.{find, filter, flat_map}
 use Rattle.tb_terms.specs.declared.announcement.Announcement.{Announcement}
 use Rattle.tb_terms.specs.declared.cusip.Cusip.{Cusip}
@@ -11,10 +11,12 @@ use Rattle.tb_history.specs.declared.roster.Enrolment.{Enrolment}
 use Rattle.tb_history.specs.declared.accounts.Transfer.{Transfer}
 use Rattle.tb_history.specs.declared.accounts.Mark.{Mark}
 use Rattle.tb_history.specs.declared.accounts.Release.{Release}
+use Rattle.tb_history.specs.declared.accounts.AddOn.{AddOn}
 use Rattle.tb_history.specs.Entries.{is_same, transferred_by, pledged_by, released_by, redeemed_by}
 use Rattle.tb_history.specs.Roster.{enrolments, announcements, redemptions, is_of_bill, is_settled, is_redeemed}
+use Rattle.tb_history.specs.Roster.{add_ons, add_on_of}
 use Rattle.tb_history.specs.LiveBids.{bids, cancels, reports}
-use Rattle.tb_history.specs.Awarded.{Bidding, bidding_of, awarded}
+use Rattle.tb_history.specs.Awarded.{Bidding, bidding_of, awarded, par_in_all}
 
 -- all accepted transfers
 unfoldable pub transfers : List Entry → List Transfer
@@ -49,14 +51,37 @@ awards_of history bidders a = sum_by (λ (e : Enrolment). award_in history a e.b
 abbrev pub bidders_of : List Entry → List ℕ → List Enrolment
 bidders_of history participant = filter (λ (e : Enrolment). is_same e.submitter participant) (enrolments history)
 
--- the awards of the participant's bidders in the settled auctions of the bill
-unfoldable pub credited_to : List Entry → List ℕ → Cusip → ℕ
-credited_to history participant cusip =
-    sum_by (awards_of history (bidders_of history participant)) (settled_auctions history cusip)
+-- an add-on is awarded in full where anything is awarded in its auction (our choice)
+abbrev pub if_awarded : Bidding → Option AddOn → Option AddOn
+if_awarded bidding add_on = if par_in_all bidding == 0 then None else add_on
 
--- what was issued of the bill: all awards in its settled auctions
+-- the add-on that is awarded in an auction
+unfoldable pub awarded_add_on : List Entry → Announcement → Option AddOn
+awarded_add_on history a = if_awarded (bidding_in history a) (add_on_of (add_ons history) a.auction)
+
+-- the par of an add-on, if its holder passes a test
+abbrev pub par_added : (List ℕ → Bool) → Option AddOn → ℕ
+par_added test None = 0
+par_added test (Some x) = if test x.holder then x.amount.value else 0
+
+-- what the participant is issued in an auction: the awards of its bidders, and the add-on of which it is the holder
+abbrev pub issued_to : List Entry → List ℕ → Announcement → ℕ
+issued_to history participant a =
+    awards_of history (bidders_of history participant) a
+    + par_added (λ name. is_same name participant) (awarded_add_on history a)
+
+-- and in the settled auctions of the bill
+unfoldable pub credited_to : List Entry → List ℕ → Cusip → ℕ
+credited_to history participant cusip = sum_by (issued_to history participant) (settled_auctions history cusip)
+
+-- what is issued in an auction: all awards, and the add-on
+abbrev pub issued_in : List Entry → Announcement → ℕ
+issued_in history a =
+    awards_of history (enrolments history) a + par_added (λ name. true) (awarded_add_on history a)
+
+-- what was issued of the bill: in its settled auctions
 unfoldable pub issued : List Entry → Cusip → ℕ
-issued history cusip = sum_by (awards_of history (enrolments history)) (settled_auctions history cusip)
+issued history cusip = sum_by (issued_in history) (settled_auctions history cusip)
 
 -- transfers of the bill to the participant
 abbrev pub received_by : List Entry → List ℕ → Cusip → ℕ

@@ -1,6 +1,6 @@
 -- What the entries of a history move, as a list of movements in numbers: the working form of holdings. Participants and
 -- bills go by numbers that a numbering gives.
-use Rattle.std.specs.Prelude.{◌≡◌, ℕ, ◌==◌, Bool, true, Option, Some, None, List, map, Contains}
+use Rattle.std.specs.Prelude.{◌≡◌, ℕ, ◌==◌, Bool, true, Option, Some, None, List, [], ◌∷◌, ◌++◌, map, Contains}
 use Rattle.std.specs.List.{list_any, position_or_len}
 use Rattle.tb_terms.specs.declared.announcement.Announcement.{Announcement}
 use Rattle.tb_movements.specs.Movements.{Movement, Credit, Settled, Transferred, Pledged, Released, Redeemed}
@@ -12,9 +12,10 @@ use Rattle.tb_message.specs.declared.message.Message.TheVariants as message
 use Rattle.tb_history.specs.declared.roster.Registration.{Registration}
 use Rattle.tb_history.specs.declared.roster.Enrolment.{Enrolment}
 use Rattle.tb_history.specs.declared.accounts.Mark.{Mark}
+use Rattle.tb_history.specs.declared.accounts.AddOn.{AddOn}
 use Rattle.tb_history.specs.Entries.{is_same}
 use Rattle.tb_history.specs.Roster.{registrations, enrolments, announcements, is_registered, announcement_of}
-use Rattle.tb_history.specs.Holdings.{award_in}
+use Rattle.tb_history.specs.Holdings.{award_in, awarded_add_on}
 
 -- numbers of participants by their names, and of bills by their CUSIPs
 pub record Numbering : Type 0 where
@@ -32,9 +33,15 @@ numbering_of registered announced = record {
 abbrev pub credit_of : Numbering → List Entry → Announcement → Enrolment → Credit
 credit_of numbers before a e = record { holder = numbers.holder e.submitter; par = award_in before a e.bidder }
 
--- a settlement credits each bidder's participant with the bidder's award
+-- an add-on, for its holder
+abbrev pub add_on_credits : Numbering → Option AddOn → List Credit
+add_on_credits numbers None = []
+add_on_credits numbers (Some x) = record { holder = numbers.holder x.holder; par = x.amount.value } ∷ []
+
+-- a settlement credits each bidder's participant with the bidder's award, and the add-on's holder with the add-on
 abbrev pub credits_of : Numbering → List Entry → Announcement → List Credit
-credits_of numbers before a = map (credit_of numbers before a) (enrolments before)
+credits_of numbers before a =
+    map (credit_of numbers before a) (enrolments before) ++ add_on_credits numbers (awarded_add_on before a)
 
 -- what a settlement of the auction that is found moves
 abbrev pub settled_as : Numbering → List Entry → Option Announcement → Option Movement

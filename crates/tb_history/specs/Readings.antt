@@ -1,5 +1,5 @@
 -- What queries are told.
-use Rattle.std.specs.Prelude.{◌≡◌, ◌≢◌, ℕ, ℤ, ◌-◌, ◌*◌, ◌<◌, ◌≤◌, ◌&&◌, Bool, false, nat_lt, Option}
+use Rattle.std.specs.Prelude.{◌≡◌, ◌≢◌, ℕ, ℤ, ◌-◌, ◌*◌, ◌<◌, ◌≤◌, ◌&&◌, Bool, true, false, nat_lt, Option}
 use Rattle.std.specs.Prelude.{Some, None, List, [], ◌∷◌, length, map, slice_index_or}
 use Rattle.std.specs.List.{AllPairs, filter, flat_map, list_any, position_or_len}
 use Rattle.tb_units.specs.declared.rate.Rate.{Rate}
@@ -23,16 +23,20 @@ use Rattle.tb_history.specs.declared.bids.Cancel.{Cancel}
 use Rattle.tb_history.specs.declared.readings.Results.{Results}
 use Rattle.tb_history.specs.declared.readings.Figures.{Figures}
 use Rattle.tb_history.specs.declared.readings.AwardLine.{AwardLine}
+use Rattle.tb_history.specs.declared.readings.AddOnLine.{AddOnLine}
+use Rattle.tb_history.specs.declared.reading.Awards.{Awards}
+use Rattle.tb_history.specs.declared.accounts.AddOn.{AddOn}
 use Rattle.tb_history.specs.declared.readings.BidLine.{BidLine}
 use Rattle.tb_history.specs.declared.readings.HoldingLine.{HoldingLine}
 use Rattle.tb_history.specs.declared.readings.PaidLine.{PaidLine}
 use Rattle.tb_history.specs.declared.reading.Reading.{Reading}
 use Rattle.tb_history.specs.declared.reading.Reading.TheVariants as reading
 use Rattle.tb_history.specs.Entries.{is_same}
-use Rattle.tb_history.specs.Roster.{registrations, announcements, announcement_of, bill_of}
+use Rattle.tb_history.specs.Roster.{registrations, announcements, announcement_of, bill_of, add_ons, add_on_of}
 use Rattle.tb_history.specs.LiveBids.{bids, cancels, is_live, par_of, noncompetitive_in, position_of}
 use Rattle.tb_history.specs.Awarded.{Bidding, stop_of, sought_in, awarded}
-use Rattle.tb_history.specs.Holdings.{bidding_in, bidders_of, held_of, pledged_of, free_of, paid_to}
+use Rattle.tb_history.specs.Holdings.{bidding_in, bidders_of, if_awarded, par_added, held_of, pledged_of, free_of}
+use Rattle.tb_history.specs.Holdings.{paid_to}
 
 -- a bid as its submitter reads it
 abbrev pub bid_line : List Cancel → Bid → BidLine
@@ -114,10 +118,11 @@ abbrev pub AreFigures : Bidding → Option Figures → Type 0
 AreFigures bidding None = AreRecognisedOf bidding []
 AreFigures bidding (Some figures) = HasFigures bidding figures
 
--- the results of an auction
-pub record AreResults (bidding : Bidding) (results : Results) : Type 0 where
+-- the results of an auction, with its add-on
+pub record AreResults (bidding : Bidding) (add_on : Option AddOn) (results : Results) : Type 0 where
   pub terms : results.terms ≡ bidding.announcement
   pub noncompetitive : results.noncompetitive.value ≡ par_of (noncompetitive_in bidding.live)
+  pub addon : results.addon.value ≡ par_added (λ name. true) add_on
   pub figures : AreFigures bidding results.figures
 
 -- what is paid for an award: its par at the price of the stop-out rate (where nothing is recognised, nothing is
@@ -149,9 +154,26 @@ has_bid bidding e = list_any (λ (bid : Bid). is_same bid.bidder e.bidder) biddi
 abbrev pub bidders_in : List Entry → Announcement → List ℕ → List Enrolment
 bidders_in history a caller = filter (has_bid (bidding_in history a)) (bidders_of history caller)
 
--- the awards of a caller's bidders
-abbrev pub AreAwards : List Entry → Announcement → List ℕ → List AwardLine → Type 0
-AreAwards history a caller lines = AreAwardLines (bidding_in history a) (bidders_in history a caller) lines
+-- the add-on's holder is the caller
+abbrev pub is_holder : List ℕ → Option AddOn → Bool
+is_holder caller None = false
+is_holder caller (Some x) = is_same x.holder caller
+
+-- the add-on's award and payment
+pub record IsAddOnLine (bidding : Bidding) (award : ℕ) (line : AddOnLine) : Type 0 where
+  pub amount : line.amount.value ≡ award
+  pub payment : IsPaid bidding award line.payment.value
+
+-- a line of the auction's add-on, just where the caller is its holder
+abbrev pub AreAddOn : Bidding → Option AddOn → List ℕ → Option AddOnLine → Type 0
+AreAddOn bidding add_on caller None = is_holder caller add_on ≡ false
+AreAddOn bidding add_on caller (Some line) =
+    (is_holder caller add_on ≡ true) × IsAddOnLine bidding (par_added (λ name. true) (if_awarded bidding add_on)) line
+
+-- the awards of a caller's bidders, and of the add-on that it holds
+pub record AreAwards (history : List Entry) (a : Announcement) (caller : List ℕ) (awards : Awards) : Type 0 where
+  pub lines : AreAwardLines (bidding_in history a) (bidders_in history a caller) awards.lines
+  pub addon : AreAddOn (bidding_in history a) (add_on_of (add_ons history) a.auction) caller awards.addon
 
 -- of all auctions of its bill the announcement is the first
 abbrev pub is_first : Option Announcement → Announcement → Bool
@@ -214,9 +236,9 @@ abbrev pub IsReading : List Entry → List ℕ → Query → Reading → Type 0
 IsReading history caller (query.Terms auction) (reading.Terms terms) =
     announcement_of (announcements history) auction ≡ Some terms
 IsReading history caller (query.Results auction) (reading.Results results) =
-    OfAnnounced history auction (λ a. AreResults (bidding_in history a) results)
-IsReading history caller (query.Awards auction) (reading.Awards lines) =
-    OfAnnounced history auction (λ a. AreAwards history a caller lines)
+    OfAnnounced history auction (λ a. AreResults (bidding_in history a) (add_on_of (add_ons history) a.auction) results)
+IsReading history caller (query.Awards auction) (reading.Awards awards) =
+    OfAnnounced history auction (λ a. AreAwards history a caller awards)
 IsReading history caller (query.Bids auction) (reading.Bids lines) =
     lines ≡ bid_lines (bids history) (cancels history) caller auction
 IsReading history caller query.Holdings (reading.Holdings lines) = AreHoldings history caller lines

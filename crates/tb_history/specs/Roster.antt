@@ -7,8 +7,9 @@ use Rattle.tb_terms.specs.declared.cusip.Cusip.{Cusip}
 use Rattle.tb_message.specs.declared.message.Entry.{Entry}
 use Rattle.tb_history.specs.declared.roster.Registration.{Registration}
 use Rattle.tb_history.specs.declared.roster.Enrolment.{Enrolment}
+use Rattle.tb_history.specs.declared.accounts.AddOn.{AddOn}
 use Rattle.tb_history.specs.Entries.{is_same, operator, registered_by, enrolled_by, entered_by}
-use Rattle.tb_history.specs.Entries.{announced_by, published_by, settled_by, redeemed_by}
+use Rattle.tb_history.specs.Entries.{announced_by, published_by, settled_by, redeemed_by, added_by}
 
 -- the submitters with their keys, in the order of registration
 unfoldable pub registrations : List Entry → List Registration
@@ -37,6 +38,14 @@ settlements history = flat_map (λ (entry : Entry). settled_by entry.message) hi
 -- the bills that are redeemed
 unfoldable pub redemptions : List Entry → List Cusip
 redemptions history = flat_map (λ (entry : Entry). redeemed_by entry.message) history
+
+-- the add-ons, in their order
+unfoldable pub add_ons : List Entry → List AddOn
+add_ons history = flat_map (λ (entry : Entry). added_by entry.message) history
+
+-- the add-on of the auction
+abbrev pub add_on_of : List AddOn → List ℕ → Option AddOn
+add_on_of added auction = find (λ (x : AddOn). is_same x.auction auction) added
 
 -- a submitter of this name is registered
 abbrev pub is_registered : List Registration → List ℕ → Bool

@@ -27,7 +27,7 @@ use Rattle.tb_history.specs.Values.{day_of, first_from}
 use Rattle.tb_history.specs.Entries.{is_same, operator}
 use Rattle.tb_history.specs.Roster.{registrations, enrolments, holidays, announcements, settlements, redemptions}
 use Rattle.tb_history.specs.Roster.{is_registered, enrolment_of, is_under, is_enrolled, is_entered, announcement_of}
-use Rattle.tb_history.specs.Roster.{bill_of, is_published, is_settled, is_redeemed, unsettled_of}
+use Rattle.tb_history.specs.Roster.{bill_of, is_published, is_settled, is_redeemed, unsettled_of, add_ons, add_on_of}
 use Rattle.tb_history.specs.LiveBids.{bids, cancels, reports, bid_of, is_cancelled, standing_of}
 use Rattle.tb_history.specs.Holdings.{free_of, open_marks, mark_of, left_of}
 
@@ -179,6 +179,16 @@ par_rows history sender moment cusip to amount =
     transfer_rows (bill_of (announcements history) cusip) (is_registered (registrations history) to) (is_same to sender)
     (is_redeemed (redemptions history) cusip) (free_of history sender cusip) moment amount
 
+-- add-on: the auction's announcement, whether the holder is registered, and whether an add-on of the auction stands
+abbrev pub add_on_rows : Option Announcement → Bool → Bool → Moment → ℕ → List Row
+add_on_rows None known standing moment amount = (refusal.UnknownAuction, true) ∷ []
+add_on_rows (Some a) known standing moment amount =
+    (refusal.UnknownParticipant, not known)
+    ∷ (refusal.NotMultiple, is_no_par amount)
+    ∷ (refusal.AddOnExists, standing)
+    ∷ late moment (c_closing a)
+    ∷ []
+
 -- the rows of a message of a sender at a moment
 abbrev pub rows_of : List Entry → List ℕ → Moment → Message → List Row
 rows_of history sender moment (message.Register submitter key) = register_rows (registrations history) submitter key
@@ -208,3 +218,6 @@ rows_of history sender moment (message.Release holder pledge amount) =
 rows_of history sender moment (message.Redeem cusip) =
     redeem_rows (bill_of (announcements history) cusip) (is_redeemed (redemptions history) cusip)
     (unsettled_of (announcements history) (settlements history) cusip) (holidays history) moment
+rows_of history sender moment (message.AddOn auction holder amount) =
+    add_on_rows (announcement_of (announcements history) auction) (is_registered (registrations history) holder)
+    (is_some (add_on_of (add_ons history) auction)) moment amount.value

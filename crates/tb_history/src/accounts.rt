@@ -1,4 +1,4 @@
-//! Transfers, pledges and releases of par.
+//! Transfers, pledges and releases of par, and add-ons of auctions.
 use tb_terms::Cusip;
 use tb_units::{Dollars, Ident};
 
@@ -26,5 +26,13 @@ pub struct Mark {
 pub struct Release {
     pub holder: Ident,
     pub pledge: u64,
+    pub amount: Dollars,
+}
+
+/// An accepted add-on: par that the holder is issued beside the offering of the auction.
+#[derive(Clone, Copy, Debug, PartialEq, Eq)]
+pub struct AddOn {
+    pub auction: Ident,
+    pub holder: Ident,
     pub amount: Dollars,
 }

@@ -15,13 +15,15 @@ mod sealed;
 mod sound;
 mod stable;
 
-pub use accounts::{Mark, Release, Transfer};
+pub use accounts::{AddOn, Mark, Release, Transfer};
 pub use bids::{Bid, Cancel, Report};
 pub use conserved::{movements_tell_holdings, par_is_conserved};
 pub use figures::{awards_come_close, figures_are_the_circulars};
 pub use histories::{histories_grow, payment_days_are_first, same_messages_are_equal};
 pub use reading::{Awards, Bids, Holdings, Listing, Reading, Redemption};
-pub use readings::{AwardLine, BidLine, Figures, HoldingLine, PaidLine, Results, readings_are_one};
+pub use readings::{
+    AddOnLine, AwardLine, BidLine, Figures, HoldingLine, PaidLine, Results, readings_are_one,
+};
 pub use roster::{Enrolment, Registration};
 pub use sealed::replies_are_sealed;
 pub use sound::sound_bids_are_accepted;

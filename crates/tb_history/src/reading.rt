@@ -1,7 +1,7 @@
 //! What a query is answered, whole: terms, results, or a list of lines.
 ghost use Rattle.std.specs.Prelude.{◌≡◌, ◌<◌, [], ◌∷◌, ◌++◌, length, slice_get, Some, OnOk, OnErr};
 
-use crate::readings::{AwardLine, BidLine, HoldingLine, PaidLine, Results};
+use crate::readings::{AddOnLine, AwardLine, BidLine, HoldingLine, PaidLine, Results};
 use std::alloc::Global;
 use std::marker::Model;
 use tb_terms::Announcement;
@@ -18,8 +18,13 @@ pub enum Reading {
     Redemption(Redemption),
 }
 
-/// A submitter's bidders with a live bid in an auction, in the order of enrolment.
-pub type Awards = Listing<AwardLine>;
+/// A submitter's bidders with a live bid in an auction, in the order of enrolment, and the add-on, where it is the
+/// holder.
+#[derive(Debug, Drop)]
+pub struct Awards {
+    pub lines: Listing<AwardLine>,
+    pub addon: Option<AddOnLine>,
+}
 
 /// A submitter's bids in an auction, in the order of acceptance.
 pub type Bids = Listing<BidLine>;

@@ -1,8 +1,10 @@
 //! What queries are answered, line by line.
-ghost use Rattle.std.specs.Prelude.{◌≡◌, ℕ, List};
+ghost use Rattle.std.specs.Prelude.{◌≡◌, ℕ, List, Option};
 ghost use Rattle.tb_message.specs.declared.message.Entry.{Entry};
 ghost use Rattle.tb_message.specs.declared.query.Query.{Query};
 ghost use Rattle.tb_history.specs.declared.reading.Reading.{Reading};
+ghost use Rattle.tb_history.specs.declared.reading.Awards.{Awards};
+ghost use Rattle.tb_history.specs.declared.accounts.AddOn.{AddOn};
 ghost use Rattle.tb_history.specs.Awarded.{Bidding};
 ghost use Rattle.tb_history.specs.Readings.{AreResults, AreAwards, AreHoldings, IsReading, IsRedemption};
 
@@ -16,6 +18,8 @@ use tb_units::{Cents, Dollars, Ident, Rate};
 pub struct Results {
     pub terms: Announcement,
     pub noncompetitive: Dollars,
+    /// 0 where no add-on stands.
+    pub addon: Dollars,
     pub figures: Option<Figures>,
 }
 
@@ -33,6 +37,13 @@ pub struct Figures {
 #[derive(Clone, Copy, Debug, PartialEq, Eq)]
 pub struct AwardLine {
     pub bidder: Ident,
+    pub amount: Dollars,
+    pub payment: Cents,
+}
+
+/// What the holder of an auction's add-on was awarded, and what it pays.
+#[derive(Clone, Copy, Debug, PartialEq, Eq)]
+pub struct AddOnLine {
     pub amount: Dollars,
     pub payment: Cents,
 }
@@ -65,11 +76,11 @@ pub struct PaidLine {
 
 /// There is one reading of each query on a legal history. It does nothing.
 pub fn readings_are_one()
-    ensures results { (bidding : Bidding) (one other : Results)
-        → AreResults bidding one
-        → AreResults bidding other
+    ensures results { (bidding : Bidding) (add_on : Option AddOn) (one other : Results)
+        → AreResults bidding add_on one
+        → AreResults bidding add_on other
         → one ≡ other }
-    ensures awards { (history : List Entry) (a : Announcement) (caller : List ℕ) (one other : List AwardLine)
+    ensures awards { (history : List Entry) (a : Announcement) (caller : List ℕ) (one other : Awards)
         → AreAwards history a caller one
         → AreAwards history a caller other
         → one ≡ other }

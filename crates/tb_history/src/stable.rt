@@ -5,7 +5,7 @@ ghost use Rattle.tb_terms.specs.declared.announcement.Announcement.{Announcement
 ghost use Rattle.tb_message.specs.declared.message.Entry.{Entry};
 ghost use Rattle.tb_history.specs.Roster.{announcements, announcement_of, is_published};
 ghost use Rattle.tb_history.specs.Awarded.{stop_of, percent_of, par_in_all};
-ghost use Rattle.tb_history.specs.Holdings.{award_in, bidding_in};
+ghost use Rattle.tb_history.specs.Holdings.{award_in, awarded_add_on, bidding_in};
 ghost use Rattle.tb_history.specs.Legal.{IsLegal, last_of};
 
 /// Holds of every legal history. It does nothing.
@@ -25,6 +25,11 @@ pub fn awards_are_final()
         → is_published history auction ≡ true
         → announcement_of (announcements history) auction ≡ Some a
         → award_in (history ++ more) a bidder ≡ award_in history a bidder }
+    ensures add_on { (history more : List Entry) (auction : List ℕ) (a : Announcement)
+        → IsLegal (history ++ more)
+        → is_published history auction ≡ true
+        → announcement_of (announcements history) auction ≡ Some a
+        → awarded_add_on (history ++ more) a ≡ awarded_add_on history a }
     ensures cut { (history more : List Entry) (auction : List ℕ) (a : Announcement)
         → IsLegal (history ++ more)
         → is_published history auction ≡ true

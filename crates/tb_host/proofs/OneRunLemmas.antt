@@ -31,7 +31,7 @@ use Rattle.tb_history.specs.Holdings.{bidding_in}
 use Rattle.tb_history.specs.Roster.{registrations}
 use Rattle.tb_history.specs.declared.reading.Reading.{Reading}
 use Rattle.tb_history.specs.declared.reading.Reading.TheVariants as reading
-use Rattle.tb_history.proofs.ReadingLemmas.{AreResults-one, AreAwardLines-one, AreHoldingLines-one, ArePaidLines-one}
+use Rattle.tb_history.proofs.ReadingLemmas.{IsReading-one}
 use Rattle.std.specs.List.{after_first, before_first}
 use Rattle.tb_host.specs.Fields.{is_blank}
 use Rattle.tb_host.specs.Replies.{Asks, IsAnswered, IsReply, IsTold, asked_by, reading_text, refusal_of}
@@ -121,89 +121,6 @@ asks-one json (Ok one) (Err why) is is' = absurd (no_request json one is'.0 why 
 asks-one json (Err why) (Ok other) is is' = absurd (no_request json other is.0 why is' is.1 is.2)
 asks-one json (Err why) (Err why') is is' = ap Err (reasons_one json is.0 is'.0 why why' is.1 is'.1 is.2 is'.2)
 
--- an auction has one announcement
-announced_one : (found : Option Announcement) (one other : Announcement)
-    → found ≡ Some one
-    → found ≡ Some other
-    → one ≡ other
-announced_one found one other is is' = let same : Some one ≡ Some other = sym is ∙ is' in cc
-
--- an auction's terms are one
-terms_one : (history : List Entry) (caller auction : List ℕ) (one other : Reading)
-    → IsReading history caller (query.Terms auction) one
-    → IsReading history caller (query.Terms auction) other
-    → one ≡ other
-terms_one history caller auction (reading.Terms one) (reading.Terms other) is is' =
-    ap reading.Terms (announced_one _ one other is is')
-terms_one history caller auction (reading.Terms one) other is is' = absurd is'
-terms_one history caller auction one other is is' = absurd is
-
--- so are its results
-results_one : (history : List Entry) (caller auction : List ℕ) (one other : Reading)
-    → IsReading history caller (query.Results auction) one
-    → IsReading history caller (query.Results auction) other
-    → one ≡ other
-results_one history caller auction (reading.Results one) (reading.Results other) is is' =
-    let same : is.0 ≡ is'.0 = announced_one _ is.0 is'.0 is.1 is'.1 in
-    ap reading.Results
-    (AreResults-one (bidding_in history is'.0) one other
-    (subst (λ (a : Announcement). AreResults (bidding_in history a) one) same is.2) is'.2)
-results_one history caller auction (reading.Results one) other is is' = absurd is'
-results_one history caller auction one other is is' = absurd is
-
--- so are the caller's awards
-awards_one : (history : List Entry) (caller auction : List ℕ) (one other : Reading)
-    → IsReading history caller (query.Awards auction) one
-    → IsReading history caller (query.Awards auction) other
-    → one ≡ other
-awards_one history caller auction (reading.Awards one) (reading.Awards other) is is' =
-    let same : is.0 ≡ is'.0 = announced_one _ is.0 is'.0 is.1 is'.1 in
-    ap reading.Awards
-    (AreAwardLines-one _ _ one other (subst (λ (a : Announcement). AreAwards history a caller one) same is.2) is'.2)
-awards_one history caller auction (reading.Awards one) other is is' = absurd is'
-awards_one history caller auction one other is is' = absurd is
-
--- so are its bids
-bids_one : (history : List Entry) (caller auction : List ℕ) (one other : Reading)
-    → IsReading history caller (query.Bids auction) one
-    → IsReading history caller (query.Bids auction) other
-    → one ≡ other
-bids_one history caller auction (reading.Bids one) (reading.Bids other) is is' = ap reading.Bids (is ∙ sym is')
-bids_one history caller auction (reading.Bids one) other is is' = absurd is'
-bids_one history caller auction one other is is' = absurd is
-
--- so are its holdings
-holdings_one : (history : List Entry) (caller : List ℕ) (one other : Reading)
-    → IsReading history caller query.Holdings one
-    → IsReading history caller query.Holdings other
-    → one ≡ other
-holdings_one history caller (reading.Holdings one) (reading.Holdings other) is is' =
-    ap reading.Holdings (AreHoldingLines-one history caller _ one other is is')
-holdings_one history caller (reading.Holdings one) other is is' = absurd is'
-holdings_one history caller one other is is' = absurd is
-
--- so is the redemption of a bill
-redemption_one : (history : List Entry) (caller : List ℕ) (bill : Cusip) (one other : Reading)
-    → IsReading history caller (query.Redemption bill) one
-    → IsReading history caller (query.Redemption bill) other
-    → one ≡ other
-redemption_one history caller bill (reading.Redemption one) (reading.Redemption other) is is' =
-    ap reading.Redemption (ArePaidLines-one history bill _ one other is is')
-redemption_one history caller bill (reading.Redemption one) other is is' = absurd is'
-redemption_one history caller bill one other is is' = absurd is
-
--- a query has one reading
-reading-one : (history : List Entry) (caller : List ℕ) (asked : Query) (one other : Reading)
-    → IsReading history caller asked one
-    → IsReading history caller asked other
-    → one ≡ other
-reading-one history caller (query.Terms auction) one other = terms_one history caller auction one other
-reading-one history caller (query.Results auction) one other = results_one history caller auction one other
-reading-one history caller (query.Awards auction) one other = awards_one history caller auction one other
-reading-one history caller (query.Bids auction) one other = bids_one history caller auction one other
-reading-one history caller query.Holdings one other = holdings_one history caller one other
-reading-one history caller (query.Redemption bill) one other = redemption_one history caller bill one other
-
 -- a query is told one text
 told-one : (history : List Entry) (caller : List ℕ) (asked : Query) (why : Option Refusal) (one other : List ℕ)
     → IsTold history caller asked why one
@@ -211,7 +128,7 @@ told-one : (history : List Entry) (caller : List ℕ) (asked : Query) (why : Opt
     → one ≡ other
 told-one history caller asked (Some why) one other is is' = is ∙ sym is'
 told-one history caller asked None one other is is' =
-    is.2 ∙ (ap reading_text (reading-one history caller asked is.0 is'.0 is.1 is'.1) ∙ sym is'.2)
+    is.2 ∙ (ap reading_text (IsReading-one history caller asked is.0 is'.0 is.1 is'.1) ∙ sym is'.2)
 
 -- the reply, and where the script stands then
 pub record SameReply (one other : List ℕ) (new new' : Standing) : Type 0 where

@@ -32,13 +32,13 @@ accepted 1 1730737799
 refused 17 Late 1730737800 1730737800
 accepted 1 1730737799
 refused 3 NumberReused
-lines 16
+lines 17
 ";
 
 const SECOND_AWARDS: &str = "accepted 4 1730737800
 lines 1
 fund1 20000000000 19784127800.00
-lines 16
+lines 17
 ";
 
 /// The messages of the ordinary auction that are accepted, and the replies to them.

@@ -9,6 +9,7 @@ days 91
 offering 76000000000
 noncompetitive 0
 competitive 20000000000
+addon 0
 total 20000000000
 high 4.270
 allotted 100.00

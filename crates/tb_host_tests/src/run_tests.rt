@@ -37,7 +37,7 @@ refused 62 NotPublished
 accepted 4 1730737800
 lines 1
 fund1 20000000000 19784127800.00
-lines 16
+lines 17
 ";
 
 /// The operator's messages in front of the bids below.
@@ -149,6 +149,88 @@ const READINGS: [(&str, &str); 8] = [
     ),
 ];
 
+/// Each auction has one add-on, which the operator sends before the closing of competitive bids. It is told beside the
+/// offering, and paid at the price of the bids.
+const ADD_ONS: [(&str, &str); 13] = [
+    (
+        r#"1730700000 op:root {"number":4,"kind":"register","submitter":"dealer2","key":"k2"}"#,
+        "accepted 4 1730700000",
+    ),
+    (
+        r#"1730700000 op:root {"number":5,"kind":"announce","auction":"bill14","cusip":"912797AB3","offering":1000000,"minimum":100,"ceiling":1000000,"floor":1000000,"threshold":1000000,"date":"2024-11-04","nc_close":"11:00","c_close":"11:30","issue":"2024-11-07","maturity":"2025-02-15"}"#,
+        "accepted 5 1730700000",
+    ),
+    (
+        r#"1730700000 op:root {"number":6,"kind":"addon","auction":"bill13","holder":"dealer2","amount":5000000000}"#,
+        "accepted 6 1730700000",
+    ),
+    (
+        r#"1730700000 op:root {"number":7,"kind":"addon","auction":"bill13","holder":"dealer1","amount":100}"#,
+        "refused 46 AddOnExists",
+    ),
+    (
+        r#"1730700000 k1 {"number":1,"kind":"addon","auction":"bill14","holder":"dealer1","amount":100}"#,
+        "refused 2 NotPermitted",
+    ),
+    (
+        r#"1730737799 k1 {"number":1,"kind":"bid","auction":"bill13","bidder":"fund1","rate":"4.27","amount":20000000000}"#,
+        "accepted 1 1730737799",
+    ),
+    (
+        r#"1730737800 op:root {"number":7,"kind":"addon","auction":"bill14","holder":"dealer2","amount":100}"#,
+        "refused 17 Late 1730737800 1730737800",
+    ),
+    (
+        r#"1730737800 op:root {"number":7,"kind":"publish","auction":"bill13"}"#,
+        "accepted 7 1730737800",
+    ),
+    (
+        r#"1730737800 k1 {"kind":"results","auction":"bill13"}"#,
+        "lines 17
+auction bill13
+cusip 912797AA5
+issue 2024-11-07
+maturity 2025-02-06
+days 91
+offering 76000000000
+noncompetitive 0
+competitive 20000000000
+addon 5000000000
+total 25000000000
+high 4.270
+allotted 100.00
+median 4.270
+low 4.270
+price 98.920639
+investment 4.377
+bids at lower rates were accepted in full",
+    ),
+    (
+        r#"1730737800 k1 {"kind":"awards","auction":"bill13"}"#,
+        "lines 1\nfund1 20000000000 19784127800.00",
+    ),
+    (
+        r#"1730737800 k2 {"kind":"awards","auction":"bill13"}"#,
+        "lines 1\n+ 5000000000 4946031950.00",
+    ),
+    (
+        r#"1730955600 op:root {"number":8,"kind":"settle","auction":"bill13"}"#,
+        "accepted 8 1730955600",
+    ),
+    (
+        r#"1730955600 k2 {"kind":"holdings"}"#,
+        "lines 1\n912797AA5 5000000000 0 5000000000",
+    ),
+];
+
+/// What stands in front of them: a dealer, its fund and the announcement of a bill.
+const ANNOUNCED: &str = opened!("\n");
+
+const ANNOUNCED_REPLIES: &str = "accepted 1 1730700000
+accepted 2 1730700000
+accepted 3 1730700000
+";
+
 /// Announcements with one fault each.
 const ANNOUNCEMENTS: [(&str, &str); 6] = [
     (
@@ -243,6 +325,7 @@ fn each_line_has_its_reply(rt: HostRuntime) -> Result<(), Fail> {
     assert!(rt; are_replied(&host, OPENED, OPENED_REPLIES, &CLOSINGS)?);
     assert!(rt; are_replied(&host, OPENED, OPENED_REPLIES, &READINGS)?);
     assert!(rt; are_replied(&host, OPENED, OPENED_REPLIES, &ANNOUNCEMENTS)?);
+    assert!(rt; are_replied(&host, ANNOUNCED, ANNOUNCED_REPLIES, &ADD_ONS)?);
     Ok(())
 }
 

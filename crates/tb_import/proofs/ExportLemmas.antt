@@ -1,7 +1,7 @@
 -- What is exported needs no quotes, and what one record more adds to a text.
 use Rattle.std.proofs.Common.{◌≡◌, ℕ, ◌+◌, ◌≤◌, ◌<◌, ◌/◌, ◌%◌, ◌^◌, List, [], ◌∷◌, ◌++◌, true, false, refl}
 use Rattle.std.proofs.Common.{ap, ◌∙◌, sym, arith, append_assoc, get_or, length, map, take}
-use Rattle.std.specs.Prelude.{Result, Ok, Err, IfOk}
+use Rattle.std.specs.Prelude.{Result, Ok, Err, IfOk, codes}
 use Rattle.std.specs.List.{list_all, list_any, AllByRecursion}
 use Rattle.std.specs.Fmt.{decimal}
 use Rattle.std.proofs.lemmas.Bool.Decides.{nat_tests}
@@ -12,9 +12,10 @@ use Rattle.tb_units.specs.Decimals.{cents_text}
 use Rattle.tb_units.specs.Names.{is_name, is_name_byte}
 use Rattle.tb_terms.specs.Cusips.{is_cusip, is_cusip_byte}
 use Rattle.tb_history.specs.declared.readings.AwardLine.{AwardLine}
+use Rattle.tb_history.specs.declared.readings.AddOnLine.{AddOnLine}
 use Rattle.tb_history.specs.declared.readings.HoldingLine.{HoldingLine}
 use Rattle.tb_import.specs.Rows.{Text, Fields}
-use Rattle.tb_import.specs.Exports.{award_fields, holding_fields, plain_text}
+use Rattle.tb_import.specs.Exports.{fields_of_award, award_fields, add_on_fields, holding_fields, plain_text}
 
 -- all bytes are behind the comma, the quote mark and the ends of lines
 abbrev AllHigh : Text → Type 0
@@ -79,37 +80,54 @@ high_cusip_bytes (byte ∷ bytes) all =
 high_cusip : (bytes : Text) → is_cusip bytes ≡ true → AllHigh bytes
 high_cusip bytes is = high_cusip_bytes bytes (grind (arith, is))
 
--- fields that are high stand as they are, behind a first one
+-- fields that are high stand as they are, behind a first one that does
 plain_fields : (field : Text) (fields : Fields)
-    → AllHigh field
+    → field_text default_writer field ≡ field
     → AllByRecursion AllHigh fields
     → (field_text default_writer field ++ fields_text default_writer fields) ++ 10 ∷ [] ≡ plain_text (field ∷ fields)
 unfolding fields_text
-plain_fields field [] high all = rw (plain_field field high, append-nil field) refl
-plain_fields field (next ∷ fields) high all =
+plain_fields field [] plain all = rw (plain, append-nil field) refl
+plain_fields field (next ∷ fields) plain all =
     let rest : Text = field_text default_writer next ++ fields_text default_writer fields in
-    rw (plain_field field high) (append_assoc field (44 ∷ rest) (10 ∷ [])
-    ∙ ap (λ (t : Text). field ++ 44 ∷ t) (plain_fields next fields all.0 all.1))
+    rw plain (append_assoc field (44 ∷ rest) (10 ∷ [])
+    ∙ ap (λ (t : Text). field ++ 44 ∷ t) (plain_fields next fields (plain_field next all.0) all.1))
 
 -- a record of two such fields or more stands as it is
 plain_record : (field next : Text) (fields : Fields)
-    → AllHigh field
+    → field_text default_writer field ≡ field
     → AllHigh next
     → AllByRecursion AllHigh fields
     → row_text default_writer (field ∷ next ∷ fields) ≡ plain_text (field ∷ next ∷ fields)
 unfolding is_blank
-plain_record field next fields high more all = plain_fields field (next ∷ fields) high (more, all)
+plain_record field next fields plain more all = plain_fields field (next ∷ fields) plain (more, all)
 
--- the record of an award stands as it is
+-- the record of an award stands as it is, where the name of whose it is does
+plain_whose : (whose : Text) (amount payment : ℕ)
+    → field_text default_writer whose ≡ whose
+    → amount < 2 ^ 128
+    → payment < 2 ^ 128
+    → row_text default_writer (fields_of_award whose amount payment) ≡ plain_text (fields_of_award whose amount payment)
+plain_whose whose amount payment plain few cents =
+    plain_record whose (decimal amount) (cents_text payment ∷ []) plain
+    (high_decimal amount (omega (arith, few))) (high_cents payment cents, tt)
+
+-- the record of a bidder's award stands as it is
 pub plain_award : (line : AwardLine)
     → is_name line.bidder ≡ true
     → line.amount.value < 2 ^ 128
     → line.payment.value < 2 ^ 128
     → row_text default_writer (award_fields line) ≡ plain_text (award_fields line)
 plain_award line named amount payment =
-    plain_record line.bidder (decimal line.amount.value) (cents_text line.payment.value ∷ [])
-    (high_name line.bidder named) (high_decimal line.amount.value (omega (arith, amount)))
-    (high_cents line.payment.value payment, tt)
+    plain_whose line.bidder line.amount.value line.payment.value (plain_field line.bidder (high_name line.bidder named))
+    amount payment
+
+-- so does that of an add-on
+pub plain_add_on : (line : AddOnLine)
+    → line.amount.value < 2 ^ 128
+    → line.payment.value < 2 ^ 128
+    → row_text default_writer (add_on_fields line) ≡ plain_text (add_on_fields line)
+plain_add_on line amount payment =
+    plain_whose (codes "+") line.amount.value line.payment.value refl amount payment
 
 -- so does that of a holding
 pub plain_holding : (line : HoldingLine)
@@ -120,7 +138,8 @@ pub plain_holding : (line : HoldingLine)
     → row_text default_writer (holding_fields line) ≡ plain_text (holding_fields line)
 plain_holding line checked held pledged free =
     plain_record line.cusip.bytes (decimal line.held.value) (decimal line.pledged.value ∷ decimal line.free.value ∷ [])
-    (high_cusip line.cusip.bytes checked) (high_decimal line.held.value (omega (arith, held)))
+    (plain_field line.cusip.bytes (high_cusip line.cusip.bytes checked))
+    (high_decimal line.held.value (omega (arith, held)))
     (high_decimal line.pledged.value (omega (arith, pledged)), (high_decimal line.free.value (omega (arith, free)), tt))
 
 -- one line more of a table

@@ -4,10 +4,11 @@ ghost use Rattle.csv.specs.Writing.{default_writer, row_text};
 ghost use Rattle.tb_units.specs.Names.{is_name};
 ghost use Rattle.tb_terms.specs.Cusips.{is_cusip};
 ghost use Rattle.tb_history.specs.declared.readings.AwardLine.{AwardLine};
+ghost use Rattle.tb_history.specs.declared.readings.AddOnLine.{AddOnLine};
 ghost use Rattle.tb_history.specs.declared.readings.HoldingLine.{HoldingLine};
 ghost use Rattle.tb_message.specs.declared.message.Message.{Message};
 ghost use Rattle.tb_import.specs.Tables.{IsFirstBad, IsTable};
-ghost use Rattle.tb_import.specs.Exports.{award_fields, holding_fields, plain_text};
+ghost use Rattle.tb_import.specs.Exports.{award_fields, add_on_fields, holding_fields, plain_text};
 
 /// Bytes are one table or have one first bad record, and never both.
 pub fn one_table_or_bad_record()
@@ -24,13 +25,18 @@ pub fn one_table_or_bad_record()
         → ¬ (IsFirstBad bytes place) }
 {}
 
-/// An award, and a holding in a bill with a CUSIP that was checked, are exported as their fields with commas between.
+/// An award, an add-on, and a holding in a bill with a CUSIP that was checked, are exported as their fields with commas
+/// between.
 pub fn exports_are_plain()
     ensures awards { (line : AwardLine)
         → is_name line.bidder ≡ true
         → line.amount.value < 2 ^ 128
         → line.payment.value < 2 ^ 128
         → row_text default_writer (award_fields line) ≡ plain_text (award_fields line) }
+    ensures add_ons { (line : AddOnLine)
+        → line.amount.value < 2 ^ 128
+        → line.payment.value < 2 ^ 128
+        → row_text default_writer (add_on_fields line) ≡ plain_text (add_on_fields line) }
     ensures holdings { (line : HoldingLine)
         → is_cusip line.cusip.bytes ≡ true
         → line.held.value < 2 ^ 128

@@ -2,7 +2,7 @@
 use std::alloc::{AllocError, Global};
 use std::process::Abort;
 use std::test::Fail;
-use tb_history::{AwardLine, Awards, HoldingLine, Holdings};
+use tb_history::{AddOnLine, AwardLine, Awards, HoldingLine, Holdings, Listing};
 use tb_import::{ImportFault, export_awards, export_holdings, read_bids};
 use tb_message::Message;
 use tb_terms::Cusip;
@@ -143,7 +143,7 @@ fn a_table_has_at_most_134217728_bytes(rt: HostRuntime) -> Result<(), Fail> {
 // Adds what a bidder is awarded, and what it pays.
 fn add_award(
     rt: &impl Abort,
-    awards: &mut Awards,
+    awards: &mut Listing<AwardLine>,
     bidder: &str,
     amount: u64,
     payment: u64,
@@ -162,15 +162,51 @@ fn add_award(
 
 #[test]
 fn awards_are_exported(rt: HostRuntime) -> Result<(), Fail> {
-    let mut awards = Awards::new(rt.alloc());
-    let bytes = export_awards(rt.alloc(), &awards).expect(&rt, "memory");
-    assert!(rt; bytes.as_slice() == b"bidder,amount,payment\n".as_slice());
-    add_award(&rt, &mut awards, "fund1", 20_000_000_000, 1_978_412_778_000)?;
-    add_award(&rt, &mut awards, "fund2", 0, 0)?;
-    let bytes = export_awards(rt.alloc(), &awards).expect(&rt, "memory");
-    let wanted = b"bidder,amount,payment\nfund1,20000000000,19784127780.00\nfund2,0,0.00\n";
-    assert!(rt; bytes.as_slice() == wanted.as_slice());
+    assert!(rt;
+        exports_awards(
+            &rt,
+            Listing::new(rt.alloc()),
+            None,
+            "bidder,amount,payment\n"
+        )
+    );
+    let mut lines = Listing::new(rt.alloc());
+    add_award(&rt, &mut lines, "fund1", 20_000_000_000, 1_978_412_778_000)?;
+    add_award(&rt, &mut lines, "fund2", 0, 0)?;
+    let wanted = "bidder,amount,payment\nfund1,20000000000,19784127780.00\nfund2,0,0.00\n";
+    assert!(rt; exports_awards(&rt, lines, None, wanted));
     Ok(())
+}
+
+#[test]
+fn an_add_on_is_exported_last(rt: HostRuntime) -> Result<(), Fail> {
+    let addon = AddOnLine {
+        amount: Dollars {
+            value: 5_000_000_000,
+        },
+        payment: Cents {
+            value: 494_603_195_000,
+        },
+    };
+    let alone = "bidder,amount,payment\n+,5000000000,4946031950.00\n";
+    assert!(rt; exports_awards(&rt, Listing::new(rt.alloc()), Some(addon), alone));
+    let mut lines = Listing::new(rt.alloc());
+    add_award(&rt, &mut lines, "fund2", 0, 0)?;
+    let wanted = "bidder,amount,payment\nfund2,0,0.00\n+,5000000000,4946031950.00\n";
+    assert!(rt; exports_awards(&rt, lines, Some(addon), wanted));
+    Ok(())
+}
+
+// Whether the table of awards is this text.
+fn exports_awards<R: AllocGlobal + Abort>(
+    rt: &R,
+    lines: Listing<AwardLine>,
+    addon: Option<AddOnLine>,
+    wanted: &str,
+) -> bool {
+    let awards = Awards { lines, addon };
+    let bytes = export_awards(rt.alloc(), &awards).expect(rt, "memory");
+    bytes.as_slice() == wanted.as_bytes()
 }
 
 // Adds 200 dollars of a security, all of it pledged.

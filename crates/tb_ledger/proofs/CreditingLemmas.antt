@@ -1,15 +1,22 @@
 -- The credits of a settlement, one after another.
-use Rattle.std.proofs.Common.{◌≡◌, ℕ, ◌+◌, ◌<◌, ◌≤◌, ◌==◌, List, [], ◌∷◌, ◌++◌, length, get_or, take, sum_by, refl, sym, ap, ◌∙◌, arith, eq-eqb}
+use Rattle.std.proofs.Common.{◌≡◌, ℕ, ◌+◌, ◌<◌, ◌≤◌, ◌==◌, Bool, true, false, Option, Some, None, List, [], ◌∷◌, ◌++◌}
+use Rattle.std.proofs.Common.{length, get_or, take, sum_by, refl, sym, ap, ◌∙◌, arith, eq-eqb}
+use Rattle.std.specs.Prelude.{if◌then◌else◌}
 use Rattle.std.proofs.lemmas.Bool.{cond-true}
 use Rattle.std.proofs.lemmas.List.{map_more}
-use Rattle.std.proofs.lemmas.List.Sums.{sum_by-cons, sum_by_more_le}
+use Rattle.std.proofs.lemmas.List.Sums.{sum_by-append, sum_by-cons, sum_by_more_le}
 use Rattle.tb_holdings.specs.Book.{Book, total_of, most_held}
 use Rattle.tb_movements.specs.Movements.{Credit, credited_in_all}
 use Rattle.tb_movements.specs.Credits.{CreditsBook}
 use Rattle.tb_history.specs.declared.roster.Registration.{Registration}
 use Rattle.tb_history.specs.declared.roster.Enrolment.{Enrolment}
-use Rattle.tb_history.specs.Awarded.{Bidding, awarded}
-use Rattle.tb_ledger.specs.Credits.{credit_for, credits_for}
+use Rattle.tb_history.specs.declared.accounts.AddOn.{AddOn}
+use Rattle.tb_history.specs.Awarded.{Bidding, awarded, par_in_all}
+use Rattle.tb_history.specs.Holdings.{if_awarded}
+use Rattle.tb_award.specs.declared.outcome.Cut.{Cut}
+use Rattle.tb_award.specs.declared.outcome.Outcome.{Outcome}
+use Rattle.tb_award.specs.declared.outcome.Outcome.TheVariants as outcome
+use Rattle.tb_ledger.specs.Credits.{add_on_credit, add_on_for, credit_for, credits_for}
 
 -- the credits so far, and one more
 pub credits_more : (submitters : List Registration) (bidding : Bidding) (bidders : List Enrolment)
@@ -56,3 +63,39 @@ next_fits submitters bidding bidders place e security par first now short is awa
       award,
       limit,
     )
+
+-- what isn't cut has no awards
+pub none-cut : (answer : Outcome) → ((cut : Cut) → answer ≡ outcome.Cut cut → ⊥) → answer ≡ outcome.NoAwards
+none-cut outcome.NoAwards apart = refl
+none-cut (outcome.Cut cut) apart = absurd (apart cut refl)
+
+-- no add-on is credited where nothing is awarded
+pub add_on_for-nothing : (submitters : List Registration) (bidding : Bidding) (add_on : Option AddOn)
+    → par_in_all bidding ≡ 0
+    → add_on_for submitters (if_awarded bidding add_on) ≡ []
+add_on_for-nothing submitters bidding add_on none = rw (eq-eqb (par_in_all bidding) 0 none) refl
+
+-- nor where there is none
+pub add_on_for-none : (submitters : List Registration) (bidding : Bidding)
+    → add_on_for submitters (if_awarded bidding None) ≡ []
+add_on_for-none submitters bidding = by_test (par_in_all bidding == 0)
+  where
+    -- whether anything is awarded or not
+    by_test : (nothing : Bool) → add_on_for submitters (if nothing then None else None) ≡ []
+    by_test true = refl
+    by_test false = refl
+
+-- and else it is credited to its holder
+pub add_on_for-awarded : (submitters : List Registration) (bidding : Bidding) (x : AddOn)
+    → (par_in_all bidding == 0) ≡ false
+    → add_on_for submitters (if_awarded bidding (Some x)) ≡ add_on_credit submitters x ∷ []
+add_on_for-awarded submitters bidding x some = rw some refl
+
+-- one credit comes to its par
+pub credited-one : (credit : Credit) → credited_in_all (credit ∷ []) ≡ credit.par
+credited-one credit = omega arith
+
+-- credits behind others come to both sums
+pub credited-joined : (one other : List Credit)
+    → credited_in_all (one ++ other) ≡ credited_in_all one + credited_in_all other
+credited-joined one other = sum_by-append (λ (credit : Credit). credit.par) one other

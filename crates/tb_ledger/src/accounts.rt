@@ -19,13 +19,13 @@ use tb_terms::Cusip;
 use tb_units::{Dollars, Ident, OutOfMemory};
 
 /// Makes it sure that so many messages can be entered, where so many bidders are enrolled. A settlement may open an
-/// account for each bidder, and each message may enrol one more.
+/// account for each bidder and one for the holder of an add-on, and each message may enrol one more.
 pub fn reserve_accounts(
     accounts: &mut Accounts,
     bidders: usize,
     more: usize,
 ) -> Result<(), OutOfMemory>
-    ensures accounts { OnOk result (more * (bidders + more) ≤ accounts.new.spare_accounts) }
+    ensures accounts { OnOk result (more * (bidders + more + 1) ≤ accounts.new.spare_accounts) }
     ensures marks { OnOk result (more ≤ accounts.new.spare_marks) }
     ensures redeems { OnOk result (more ≤ accounts.new.spare_redeems) }
     // The book stays, and no room is lost, whatever the result.
@@ -33,6 +33,7 @@ pub fn reserve_accounts(
     ensures room { TakesRoom 0 0 0 accounts.old accounts.new }
 {
     let opened = bidders.checked_add(more).ok_or(OutOfMemory)?;
+    let opened = opened.checked_add(1).ok_or(OutOfMemory)?;
     let opened = opened.checked_mul(more).ok_or(OutOfMemory)?;
     reserve(accounts, opened as u64, more as u64, more as u64)
 }
@@ -212,6 +213,7 @@ pub fn account(
         | Message::Cancel { .. }
         | Message::Position { .. }
         | Message::Publish { .. }
-        | Message::Settle { .. } => {}
+        | Message::Settle { .. }
+        | Message::AddOn { .. } => {}
     }
 }

@@ -86,6 +86,7 @@ kind_of_tag-tag_of kind.Transfer = refl
 kind_of_tag-tag_of kind.Pledge = refl
 kind_of_tag-tag_of kind.Release = refl
 kind_of_tag-tag_of kind.Redeem = refl
+kind_of_tag-tag_of kind.AddOn = refl
 
 -- two kinds of one tag are one
 pub tag_of-one : (one other : Kind) → tag_of one ≡ tag_of other → one ≡ other

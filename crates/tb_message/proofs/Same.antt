@@ -53,6 +53,7 @@ messages (message.Pledge a b x) (message.Pledge c d y) k p = let i = same_cusip 
     cc
 messages (message.Release a b x) (message.Release c d y) k p = let j = same_dollars x y cc in cc
 messages (message.Redeem a) (message.Redeem b) k p = let i = same_cusip a b cc in cc
+messages (message.AddOn a b x) (message.AddOn c d y) k p = let j = same_dollars x y cc in cc
 messages (message.Bid a b (Some r) x) other k p = cc
 messages (message.Bid a b None x) other k p = cc
 messages one (message.Bid c d (Some s) y) k p = cc

@@ -40,6 +40,7 @@ row_of kind.Transfer = (11, codes "transfer", submitter, (Cusip, cusip) ∷ (To,
 row_of kind.Pledge = (12, codes "pledge", submitter, (Cusip, cusip) ∷ (To, name) ∷ (Amount, amount) ∷ [])
 row_of kind.Release = (13, codes "release", submitter, (Holder, name) ∷ (Pledge, number) ∷ (Amount, amount) ∷ [])
 row_of kind.Redeem = (14, codes "redeem", operator, (Cusip, cusip) ∷ [])
+row_of kind.AddOn = (15, codes "addon", operator, (Auction, name) ∷ (Holder, name) ∷ (Amount, amount) ∷ [])
 
 abbrev pub tag_of : Kind → ℕ
 tag_of kind = (row_of kind).0
@@ -59,7 +60,8 @@ forms_of kind = map (λ member. member.1) (members_of kind)
 abbrev pub kinds : List Kind
 kinds =
     kind.Register ∷ kind.Enrol ∷ kind.Holiday ∷ kind.Announce ∷ kind.Bid ∷ kind.Noncompetitive ∷ kind.Cancel
-    ∷ kind.Position ∷ kind.Publish ∷ kind.Settle ∷ kind.Transfer ∷ kind.Pledge ∷ kind.Release ∷ kind.Redeem ∷ []
+    ∷ kind.Position ∷ kind.Publish ∷ kind.Settle ∷ kind.Transfer ∷ kind.Pledge ∷ kind.Release ∷ kind.Redeem
+    ∷ kind.AddOn ∷ []
 
 -- the kind of a tag; no other number is one
 abbrev pub kind_of_tag : ℕ → Option Kind

@@ -21,6 +21,7 @@ kind_of (message.Transfer cusip to amount) = kind.Transfer
 kind_of (message.Pledge cusip to amount) = kind.Pledge
 kind_of (message.Release holder pledge amount) = kind.Release
 kind_of (message.Redeem cusip) = kind.Redeem
+kind_of (message.AddOn auction holder amount) = kind.AddOn
 
 -- the values of the members in order
 abbrev pub parts_of : Message → List Part
@@ -42,3 +43,4 @@ parts_of (message.Transfer cusip to amount) = text cusip.bytes ∷ text to ∷ w
 parts_of (message.Pledge cusip to amount) = text cusip.bytes ∷ text to ∷ whole amount.value ∷ []
 parts_of (message.Release holder pledge amount) = text holder ∷ whole pledge ∷ whole amount.value ∷ []
 parts_of (message.Redeem cusip) = text cusip.bytes ∷ []
+parts_of (message.AddOn auction holder amount) = text auction ∷ text holder ∷ whole amount.value ∷ []

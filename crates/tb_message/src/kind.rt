@@ -19,6 +19,7 @@ pub enum Kind {
     Pledge,
     Release,
     Redeem,
+    AddOn,
 }
 
 impl Kind {
@@ -41,6 +42,7 @@ impl Kind {
             Kind::Pledge => 12,
             Kind::Release => 13,
             Kind::Redeem => 14,
+            Kind::AddOn => 15,
         }
     }
 
@@ -63,6 +65,7 @@ impl Kind {
             12 => Some(Kind::Pledge),
             13 => Some(Kind::Release),
             14 => Some(Kind::Redeem),
+            15 => Some(Kind::AddOn),
             _ => None,
         }
     }

@@ -76,6 +76,12 @@ pub enum Message {
     Redeem {
         cusip: Cusip,
     },
+    /// Par that the holder is issued in an auction beside its offering, where the auction has awards.
+    AddOn {
+        auction: Ident,
+        holder: Ident,
+        amount: Dollars,
+    },
 }
 
 /// A message that was accepted, with its submitter, the submitter's number for it and the running moment. The
@@ -108,6 +114,7 @@ impl Message {
             Message::Pledge { .. } => Kind::Pledge,
             Message::Release { .. } => Kind::Release,
             Message::Redeem { .. } => Kind::Redeem,
+            Message::AddOn { .. } => Kind::AddOn,
         }
     }
 }

@@ -191,6 +191,17 @@ impl Record {
     }
 
     #[tactic(auto, using(crate::proofs::Texts::joined))]
+    fn add_on(&mut self, auction: &Ident, holder: &Ident, amount: Dollars)
+        requires room { length self.old ≤ 100 }
+        requires range { FitsFields (messages.AddOn auction.now holder.now amount) }
+        ensures { self.new ≡ self.old ++ fields_of (messages.AddOn auction.now holder.now amount) }
+    {
+        self.name(auction);
+        self.name(holder);
+        self.amount(amount);
+    }
+
+    #[tactic(auto, using(crate::proofs::Texts::joined))]
     fn body(&mut self, message: &Message)
         requires room { length self.old ≤ 100 }
         requires range { FitsFields message.now }
@@ -229,6 +240,11 @@ impl Record {
                 amount,
             } => self.release(holder, *pledge, *amount),
             Message::Redeem { cusip } => self.cusip(cusip),
+            Message::AddOn {
+                auction,
+                holder,
+                amount,
+            } => self.add_on(auction, holder, *amount),
         }
     }
 }

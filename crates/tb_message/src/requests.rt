@@ -38,6 +38,7 @@ fn kind_of_name(text: &str) -> Option<Kind>
         "pledge" => Some(Kind::Pledge),
         "release" => Some(Kind::Release),
         "redeem" => Some(Kind::Redeem),
+        "addon" => Some(Kind::AddOn),
         _ => None,
     }
 }
@@ -199,6 +200,16 @@ fn redeem(object: &Value) -> Result<Message, Field>
     })
 }
 
+fn add_on(object: &Value) -> Result<Message, Field>
+    ensures { result_map (λ m. (kind_of m, parts_of m)) result ≡ body_in (view object.now) kinds.AddOn }
+{
+    Ok(Message::AddOn {
+        auction: members::name(object, Field::Auction)?,
+        holder: members::name(object, Field::Holder)?,
+        amount: members::amount(object, Field::Amount)?,
+    })
+}
+
 fn message_of(kind: Kind, object: &Value) -> Result<Message, Field>
     ensures { result_map (λ m. (kind_of m, parts_of m)) result ≡ body_in (view object.now) kind }
 {
@@ -217,6 +228,7 @@ fn message_of(kind: Kind, object: &Value) -> Result<Message, Field>
         Kind::Pledge => pledge(object),
         Kind::Release => release(object),
         Kind::Redeem => redeem(object),
+        Kind::AddOn => add_on(object),
     }
 }
 

@@ -168,6 +168,17 @@ impl<'a> Fields<'a> {
         })
     }
 
+    fn add_on(&mut self) -> Option<Message>
+        ensures { option_map (λ m. (kind_of m, parts_of m, self.new.rest.now)) result
+            ≡ message_at kinds.AddOn self.old.rest.now }
+    {
+        Some(Message::AddOn {
+            auction: self.name()?,
+            holder: self.name()?,
+            amount: self.amount()?,
+        })
+    }
+
     fn message(&mut self, kind: Kind) -> Option<Message>
         ensures { option_map (λ m. (kind_of m, parts_of m, self.new.rest.now)) result
             ≡ message_at kind self.old.rest.now }
@@ -187,6 +198,7 @@ impl<'a> Fields<'a> {
             Kind::Pledge => self.pledge(),
             Kind::Release => self.release(),
             Kind::Redeem => self.redeem(),
+            Kind::AddOn => self.add_on(),
         }
     }
 

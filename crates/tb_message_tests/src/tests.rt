@@ -21,7 +21,8 @@ const RECORDS: &str =
 076465616c657231000000000000000500000000672862e00b393132373937414135076465616c6572320000000000000190 {"number":5,"kind":"transfer","cusip":"912797AA5","to":"dealer2","amount":400}
 076465616c657231000000000000000c00000000672862e00c393132373937414135076465616c65723200000000000001f4 {"number":12,"kind":"pledge","cusip":"912797AA5","to":"dealer2","amount":500}
 076465616c65723100038d7ea4c6800000000000672862e00d076465616c657231000000000000000c000000000000012c {"number":1000000000000000,"kind":"release","holder":"dealer1","pledge":12,"amount":300}
-086f70657261746f72000000000000000700000000672862e00e393132373937414135 {"number":7,"kind":"redeem","cusip":"912797AA5"}"#;
+086f70657261746f72000000000000000700000000672862e00e393132373937414135 {"number":7,"kind":"redeem","cusip":"912797AA5"}
+086f70657261746f72000000000000000800000000672862e00f0662696c6c3133076465616c657232000000012a05f200 {"number":8,"kind":"addon","auction":"bill13","holder":"dealer2","amount":5000000000}"#;
 
 /// What is told of each text.
 const READINGS: &str = r#"BadJson {
@@ -35,6 +36,9 @@ BadShape(Rate) {"number":1,"kind":"bid","auction":"a","bidder":"b","rate":"5.322
 BadShape(Amount) {"number":1,"kind":"noncompetitive","auction":"a","bidder":"b","amount":1000000000001}
 BadShape(Position) {"number":1,"kind":"position","auction":"a","bidder":"b","position":-0}
 BadShape(NcClose) {"number":1,"kind":"announce","auction":"a","cusip":"912797AA5","offering":0,"minimum":0,"ceiling":0,"floor":0,"threshold":0,"date":"2024-11-04","nc_close":"24:00"}
+BadShape(Auction) {"number":1,"kind":"addon","auction":"Bill13","holder":"dealer2"}
+BadShape(Holder) {"number":1,"kind":"addon","auction":"a","amount":1000000000001}
+BadShape(Amount) {"number":1,"kind":"addon","auction":"a","holder":"b","amount":1000000000001}
 BadShape(Auction) {"number":0,"kind":"results"}
 BadShape(Kind) {"kind":"holdings","number":1,"kind":"none"}
 Query(Holdings) {"number":0,"kind":"none","kind":"holdings"}"#;
@@ -105,7 +109,7 @@ fn a_message_of_each_kind_is_read_put_and_taken(rt: HostRuntime) -> Result<(), F
         assert_eq!(rt; Entry::take_first(put.bytes()), None);
         assert_eq!(rt; Entry::take(&first), None);
     }
-    assert_eq!(rt; RECORDS.lines().count(), 14);
+    assert_eq!(rt; RECORDS.lines().count(), 15);
     Ok(())
 }
 
@@ -117,6 +121,19 @@ fn the_first_member_that_fails_is_told(rt: HostRuntime) -> Result<(), Fail> {
         assert_eq!(rt; reading(alloc, text)?.as_str(), told, "{text}");
     }
     Ok(())
+}
+
+#[test]
+fn members_of_other_kinds_are_ignored(rt: HostRuntime) {
+    let plain = br#"{"number":8,"kind":"addon","auction":"a","holder":"b","amount":100}"#;
+    let more =
+        br#"{"number":8,"kind":"addon","auction":"a","holder":"b","amount":100,"to":7,"price":"x"}"#;
+    assert_eq!(rt;
+        read_request(rt.alloc(), more),
+        read_request(rt.alloc(), plain)
+    );
+    let other = br#"{"number":8,"kind":"addon","auction":"a","holder":"b","amount":200}"#;
+    assert!(rt; read_request(rt.alloc(), other) != read_request(rt.alloc(), plain));
 }
 
 #[test]

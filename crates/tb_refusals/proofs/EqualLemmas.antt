@@ -34,6 +34,7 @@ equal_messages (message.Transfer a b n) (message.Transfer c d m) = simp and_true
 equal_messages (message.Pledge a b n) (message.Pledge c d m) = simp and_true
 equal_messages (message.Release a k n) (message.Release b l m) = simp and_true
 equal_messages (message.Redeem a) (message.Redeem b) = simp and_true
+equal_messages (message.AddOn a b n) (message.AddOn c d m) = simp and_true
 equal_messages (message.Bid a b (Some r) n) other = refl
 equal_messages (message.Bid a b None n) other = refl
 equal_messages one (message.Bid c d (Some s) m) = refl

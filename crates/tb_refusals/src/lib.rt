@@ -10,6 +10,6 @@ pub use par_refusals::{pledge_refusal, redeem_refusal, release_refusal, transfer
 pub use permits::{is_permitted, repeated};
 pub use query_refusals::{auction_refusal, may_ask, redemption_refusal};
 pub use refusals::{
-    announce_refusal, bid_refusal, cancel_refusal, enrol_refusal, holiday_refusal,
+    add_on_refusal, announce_refusal, bid_refusal, cancel_refusal, enrol_refusal, holiday_refusal,
     position_refusal, publish_refusal, register_refusal, settle_refusal,
 };

@@ -19,7 +19,8 @@ use tb_units::{Day, Dollars, Moment};
 // Open pledges of a holder.
 const MOST_OPEN: u64 = 1000;
 
-fn is_no_par(amount: Dollars) -> bool
+// Whether it is nothing or no multiple of 100.
+pub(crate) fn is_no_par(amount: Dollars) -> bool
     ensures { result ≡ rules.is_no_par amount.value }
 {
     amount.value == 0 || amount.value % 100 != 0

@@ -18,7 +18,8 @@ pub fn is_permitted(submitter: &Ident, message: &Message) -> bool
         | Message::Announce { .. }
         | Message::Publish { .. }
         | Message::Settle { .. }
-        | Message::Redeem { .. } => is_operator(submitter),
+        | Message::Redeem { .. }
+        | Message::AddOn { .. } => is_operator(submitter),
         Message::Bid { .. }
         | Message::Cancel { .. }
         | Message::Position { .. }

@@ -6,10 +6,11 @@ ghost use Rattle.tb_terms.specs.Eastern.{start_of};
 ghost use Rattle.tb_terms.specs.Closings.{c_closing};
 ghost use Rattle.tb_rules.specs.BidRule.{standing_in, late};
 ghost use Rattle.tb_rules.specs.BidRule as rules;
-ghost use Rattle.tb_history.specs.Tables.{register_rows, enrol_rows, holiday_rows, maturity_rows, announce_rows, bid_rows, cancel_rows, position_rows, publish_rows, settle_rows};
+ghost use Rattle.tb_history.specs.Tables.{register_rows, enrol_rows, holiday_rows, maturity_rows, announce_rows, bid_rows, cancel_rows, position_rows, publish_rows, settle_rows, add_on_rows};
 ghost use Rattle.tb_refusals.specs.Announced.{last_rows, later_rows};
 ghost use Rattle.tb_tables.specs.Auctions.{announced_in, announcement_in};
 
+use crate::par_refusals::is_no_par;
 use tb_history::Bid;
 use tb_rules::{Own, bid_verdict, position_verdict};
 use tb_tables::{
@@ -267,4 +268,30 @@ pub fn settle_refusal(
         return Some(Refusal::AlreadySettled);
     }
     None
+}
+
+/// Of an add-on, by the terms of the auction, whether the holder is registered, and whether an add-on of the auction
+/// stands.
+pub fn add_on_refusal(
+    terms: Option<Terms>,
+    known: bool,
+    standing: bool,
+    moment: Moment,
+    amount: Dollars,
+) -> Option<Refusal>
+    ensures { result ≡ refusal_in (add_on_rows (announcement_in terms) known standing moment amount.value) }
+{
+    let Some(terms) = terms else {
+        return Some(Refusal::UnknownAuction);
+    };
+    if !known {
+        return Some(Refusal::UnknownParticipant);
+    }
+    if is_no_par(amount) {
+        return Some(Refusal::NotMultiple);
+    }
+    if standing {
+        return Some(Refusal::AddOnExists);
+    }
+    late_refusal(moment, competitive_closing(&terms))
 }

@@ -1,5 +1,5 @@
 -- Readings of legal histories can be printed.
-use Rattle.std.proofs.Common.{◌≡◌, ℕ, ◌+◌, ◌^◌, ◌<◌, ◌≤◌, ◌++◌, Bool, true, false, cond, Option, Some, None, inl, inr, List, [], ◌∷◌, nat_lt, sum_by, refl, ap, ◌∙◌, arith}
+use Rattle.std.proofs.Common.{◌≡◌, ℕ, ◌^◌, ◌≤◌, Bool, false, Some, inl, inr, List, [], ◌∷◌, nat_lt, sum_by, refl, arith}
 use Rattle.std.specs.List.{filter}
 use Rattle.std.proofs.lemmas.Bool.{cases_Bool}
 use Rattle.std.proofs.lemmas.List.Sums.{sum_by-cons}
@@ -15,9 +15,9 @@ use Rattle.tb_history.specs.declared.reading.Reading.{Reading}
 use Rattle.tb_history.specs.declared.reading.Reading.TheVariants as reading
 use Rattle.tb_history.specs.Entries.{is_same}
 use Rattle.tb_history.specs.Roster.{registrations, announcements, redemptions, announcement_of, is_redeemed}
-use Rattle.tb_history.specs.Holdings.{paid_to, bidding_in}
+use Rattle.tb_history.specs.Holdings.{paid_to}
 use Rattle.tb_history.specs.Legal.{IsLegal}
-use Rattle.tb_history.specs.Readings.{AreResults, ArePaidLines, IsRedemption, IsReading, OfAnnounced}
+use Rattle.tb_history.specs.Readings.{ArePaidLines, IsReading}
 use Rattle.tb_history.proofs.ClosedLemmas.{IsInOrder, IsDated, IsLegal-in_order, found-in, dates_of}
 use Rattle.tb_history.proofs.ConservedLemmas.{paid-sum}
 use Rattle.tb_history.proofs.IssuedLemmas.{IsLegal-issued}

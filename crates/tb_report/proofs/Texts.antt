@@ -32,14 +32,22 @@ told {new} {was} text lines label value word pushed is before =
     ∙ ap (λ t. t ++ line (label ∷ word ∷ [])) before
     ∙ with_lines-more text lines (label ∷ word ∷ [])
 
+-- lines and then more of them stand behind the text as the lines together
+pub with_lines_joined : (text : List ℕ) (lines more : List Words)
+    → with_lines (with_lines text lines) more ≡ with_lines text (lines ++ more)
+with_lines_joined text [] more = refl
+with_lines_joined text (words ∷ lines) more = with_lines_joined (text ++ line words) lines more
+
 -- lines and then more of them are the lines together
 pub with_lines-twice : (text : List ℕ) (lines more : List Words)
     → with_lines (with_lines text lines) more ≡ text ++ text_of (lines ++ more)
-with_lines-twice text lines more =
-    with_lines-is (with_lines text lines) more
-    ∙ ap (λ t. t ++ text_of more) (with_lines-is text lines)
-    ∙ append_assoc text (text_of lines) (text_of more)
-    ∙ ap (λ t. text ++ t) (sym (flat_map-append line lines more))
+with_lines-twice text lines more = with_lines_joined text lines more ∙ with_lines-is text (lines ++ more)
+
+-- the same of texts
+pub text_of_joined : (text : List ℕ) (lines more : List Words)
+    → (text ++ text_of lines) ++ text_of more ≡ text ++ text_of (lines ++ more)
+text_of_joined text lines more =
+    append_assoc text (text_of lines) (text_of more) ∙ ap (λ t. text ++ t) (sym (flat_map-append line lines more))
 
 -- one line more of a list
 pub lines-more : {X : Type 0} (words : X → Words) (text : List ℕ) (xs : List X) (x : X)

@@ -1,17 +1,32 @@
 -- The lines of awards, bids, holdings and payments.
-use Rattle.std.specs.Prelude.{ℕ, List, [], ◌∷◌, ◌++◌, map, sum_by, codes, Bool, true, false, Option, Some, None}
+use Rattle.std.specs.Prelude.{ℕ, List, [], ◌∷◌, ◌++◌, map, option_to_list, sum_by, codes}
+use Rattle.std.specs.Prelude.{Bool, true, false, Option, Some, None}
 use Rattle.std.specs.Fmt.{decimal}
 use Rattle.tb_units.specs.Decimals.{rate_text, cents_text}
 use Rattle.tb_units.specs.declared.rate.Rate.{Rate}
 use Rattle.tb_history.specs.declared.readings.AwardLine.{AwardLine}
+use Rattle.tb_history.specs.declared.readings.AddOnLine.{AddOnLine}
+use Rattle.tb_history.specs.declared.reading.Awards.{Awards}
 use Rattle.tb_history.specs.declared.readings.BidLine.{BidLine}
 use Rattle.tb_history.specs.declared.readings.HoldingLine.{HoldingLine}
 use Rattle.tb_history.specs.declared.readings.PaidLine.{PaidLine}
 use Rattle.tb_report.specs.Lines.{Words}
 
--- a bidder, what it was awarded and what it pays
-abbrev pub award_words : AwardLine → Words
-award_words line = line.bidder ∷ decimal line.amount.value ∷ cents_text line.payment.value ∷ []
+-- whose award it is, what is awarded and what is paid for it
+abbrev pub award_words : List ℕ → ℕ → ℕ → Words
+award_words whose amount payment = whose ∷ decimal amount ∷ cents_text payment ∷ []
+
+-- the award of a bidder
+abbrev pub bidder_words : AwardLine → Words
+bidder_words line = award_words line.bidder line.amount.value line.payment.value
+
+-- that of an add-on, whose place of a bidder has `+`
+abbrev pub add_on_words : AddOnLine → Words
+add_on_words line = award_words (codes "+") line.amount.value line.payment.value
+
+-- the awards of a caller: a line for each bidder, and one behind them for the add-on that the caller holds
+abbrev pub awards_lines : Awards → List Words
+awards_lines awards = map bidder_words awards.lines ++ map add_on_words (option_to_list awards.addon)
 
 -- the rate of a bid, `n` where it is noncompetitive
 abbrev pub rate_word : Option Rate → List ℕ

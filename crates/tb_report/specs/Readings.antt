@@ -5,13 +5,13 @@ use Rattle.tb_history.specs.declared.reading.Reading.TheVariants as reading
 use Rattle.tb_report.specs.Lines.{Words}
 use Rattle.tb_report.specs.Terms.{terms_lines}
 use Rattle.tb_report.specs.Results.{results_lines}
-use Rattle.tb_report.specs.Lists.{award_words, bid_words, holding_words, redemption_lines, total_paid}
+use Rattle.tb_report.specs.Lists.{awards_lines, bid_words, holding_words, redemption_lines, total_paid}
 
 -- the lines of a reading
 abbrev pub lines_of : Reading → List Words
 lines_of (reading.Terms terms) = terms_lines terms
 lines_of (reading.Results results) = results_lines results
-lines_of (reading.Awards lines) = map award_words lines
+lines_of (reading.Awards awards) = awards_lines awards
 lines_of (reading.Bids lines) = map bid_words lines
 lines_of (reading.Holdings lines) = map holding_words lines
 lines_of (reading.Redemption lines) = redemption_lines lines
@@ -20,7 +20,7 @@ lines_of (reading.Redemption lines) = redemption_lines lines
 abbrev pub IsPrintable : Reading → Type 0
 IsPrintable (reading.Terms terms) = (terms.nc_close < 1440) × (terms.c_close < 1440)
 IsPrintable (reading.Results results) = results.terms.issue.number < results.terms.maturity.number
-IsPrintable (reading.Awards lines) = ⊤
+IsPrintable (reading.Awards awards) = ⊤
 IsPrintable (reading.Bids lines) = ⊤
 IsPrintable (reading.Holdings lines) = ⊤
 IsPrintable (reading.Redemption lines) = total_paid lines ≤ 10 ^ 22

@@ -20,12 +20,18 @@ bill_lines a noncompetitive =
     ∷ (codes "noncompetitive" ∷ decimal noncompetitive ∷ [])
     ∷ []
 
--- what was awarded
-abbrev pub awarded_lines : ℕ → Figures → List Words
-awarded_lines noncompetitive figures =
-    (codes "competitive" ∷ decimal figures.competitive.value ∷ [])
-    ∷ (codes "total" ∷ decimal (noncompetitive + figures.competitive.value) ∷ [])
-    ∷ (codes "high" ∷ rate_text figures.cut.stop.steps ∷ [])
+-- the par of competitive awards and of the add-on, and all that is awarded
+abbrev pub par_lines : ℕ → ℕ → ℕ → List Words
+par_lines noncompetitive competitive addon =
+    (codes "competitive" ∷ decimal competitive ∷ [])
+    ∷ (codes "addon" ∷ decimal addon ∷ [])
+    ∷ (codes "total" ∷ decimal (noncompetitive + competitive + addon) ∷ [])
+    ∷ []
+
+-- the rates and the price at which it is awarded
+abbrev pub rate_lines : Figures → List Words
+rate_lines figures =
+    (codes "high" ∷ rate_text figures.cut.stop.steps ∷ [])
     ∷ (codes "allotted" ∷ percent_text figures.cut.percent.hundredths ∷ [])
     ∷ (codes "median" ∷ rate_text figures.median.steps ∷ [])
     ∷ (codes "low" ∷ rate_text figures.low.steps ∷ [])
@@ -34,12 +40,18 @@ awarded_lines noncompetitive figures =
     ∷ (codes "bids at lower rates were accepted in full" ∷ [])
     ∷ []
 
+-- what was awarded
+abbrev pub awarded_lines : ℕ → ℕ → Figures → List Words
+awarded_lines noncompetitive addon figures =
+    par_lines noncompetitive figures.competitive.value addon ++ rate_lines figures
+
 -- the same, or that nobody got an award
-abbrev pub figures_lines : ℕ → Option Figures → List Words
-figures_lines noncompetitive None = (codes "no awards" ∷ []) ∷ []
-figures_lines noncompetitive (Some figures) = awarded_lines noncompetitive figures
+abbrev pub figures_lines : ℕ → ℕ → Option Figures → List Words
+figures_lines noncompetitive addon None = (codes "no awards" ∷ []) ∷ []
+figures_lines noncompetitive addon (Some figures) = awarded_lines noncompetitive addon figures
 
 -- the results, a line each
 abbrev pub results_lines : Results → List Words
 results_lines results =
-    bill_lines results.terms results.noncompetitive.value ++ figures_lines results.noncompetitive.value results.figures
+    bill_lines results.terms results.noncompetitive.value
+    ++ figures_lines results.noncompetitive.value results.addon.value results.figures

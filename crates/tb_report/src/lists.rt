@@ -1,30 +1,54 @@
 //! Lines of awards, bids, holdings and payments, as texts.
-ghost use Rattle.std.specs.Prelude.{◌≡◌, ◌≤◌, ◌^◌, ◌∷◌, ◌++◌, map, OnOk};
+ghost use Rattle.std.specs.Prelude.{◌≡◌, ◌≤◌, ◌^◌, ◌∷◌, ◌++◌, map, option_to_list, OnOk};
 ghost use Rattle.tb_units.specs.Bytes.{blank};
 ghost use Rattle.tb_report.specs.Lines.{line, text_of};
-ghost use Rattle.tb_report.specs.Lists.{award_words, bid_words, rate_word, state_word, holding_words, paid_words, total_paid, redemption_lines};
+ghost use Rattle.tb_report.specs.Lists.{award_words, bidder_words, add_on_words, awards_lines};
+ghost use Rattle.tb_report.specs.Lists.{bid_words, rate_word, state_word, holding_words, paid_words, total_paid, redemption_lines};
 
 use crate::growing::Text;
-use tb_history::{AwardLine, BidLine, HoldingLine, PaidLine};
-use tb_units::{OutOfMemory, Rate, Short};
+use tb_history::{AddOnLine, AwardLine, Awards, BidLine, HoldingLine, PaidLine};
+use tb_units::{Cents, Dollars, OutOfMemory, Rate, Short};
 
-/// Puts the awards at the end.
-pub(crate) fn push_awards(text: &mut Text, awards: &[AwardLine]) -> Result<(), OutOfMemory>
-    ensures { OnOk result (text.new ≡ text.old ++ text_of (map award_words awards.now)) }
+/// Puts the awards of bidders at the end, and that of an add-on behind them.
+#[tactic(auto, using(crate::proofs::Texts::text_of_joined))]
+pub(crate) fn push_awards(text: &mut Text, awards: &Awards) -> Result<(), OutOfMemory>
+    ensures { OnOk result (text.new ≡ text.old ++ text_of (awards_lines awards.now)) }
+{
+    push_bidders(text, awards.lines.lines())?;
+    push_add_on(text, &awards.addon)
+}
+
+fn push_bidders(text: &mut Text, awards: &[AwardLine]) -> Result<(), OutOfMemory>
+    ensures { OnOk result (text.new ≡ text.old ++ text_of (map bidder_words awards.now)) }
 {
     for award in awards {
-        push_award(text, award)?;
+        push_award(text, award.bidder.bytes(), award.amount, award.payment)?;
     }
     Ok(())
 }
 
 #[tactic(auto, using(crate::proofs::Texts::joined))]
-fn push_award(text: &mut Text, award: &AwardLine) -> Result<(), OutOfMemory>
-    ensures { OnOk result (text.new ≡ text.old ++ line (award_words award.now)) }
+fn push_add_on(text: &mut Text, addon: &Option<AddOnLine>) -> Result<(), OutOfMemory>
+    ensures { OnOk result (text.new ≡ text.old ++ text_of (map add_on_words (option_to_list addon.now))) }
 {
-    text.begin(award.bidder.bytes())?;
-    text.word(award.amount.print().bytes())?;
-    text.word(award.payment.print().bytes())?;
+    match addon {
+        None => Ok(()),
+        Some(award) => push_award(text, b"+", award.amount, award.payment),
+    }
+}
+
+#[tactic(auto, using(crate::proofs::Texts::joined))]
+fn push_award(
+    text: &mut Text,
+    whose: &[u8],
+    amount: Dollars,
+    payment: Cents,
+) -> Result<(), OutOfMemory>
+    ensures { OnOk result (text.new ≡ text.old ++ line (award_words whose.now amount.value payment.value)) }
+{
+    text.begin(whose)?;
+    text.word(amount.print().bytes())?;
+    text.word(payment.print().bytes())?;
     text.end()
 }
 

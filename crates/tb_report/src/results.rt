@@ -1,7 +1,7 @@
 //! The results of an auction, as a text.
 ghost use Rattle.std.specs.Prelude.{◌≡◌, ◌<◌, ◌++◌, OnOk};
 ghost use Rattle.tb_report.specs.Lines.{text_of, with_lines};
-ghost use Rattle.tb_report.specs.Results.{results_lines, bill_lines, figures_lines, awarded_lines};
+ghost use Rattle.tb_report.specs.Results.{results_lines, bill_lines, figures_lines, awarded_lines, par_lines, rate_lines};
 
 use crate::growing::Text;
 use tb_history::{Figures, Results};
@@ -14,7 +14,7 @@ pub(crate) fn push_results(text: &mut Text, results: &Results) -> Result<(), Out
     ensures { OnOk result (text.new ≡ text.old ++ text_of (results_lines results.now)) }
 {
     push_bill(text, &results.terms, results.noncompetitive)?;
-    push_figures(text, results.noncompetitive, results.figures)
+    push_figures(text, results.noncompetitive, results.addon, results.figures)
 }
 
 fn push_bill(
@@ -38,26 +38,50 @@ fn push_bill(
 fn push_figures(
     text: &mut Text,
     noncompetitive: Dollars,
+    addon: Dollars,
     figures: Option<Figures>,
 ) -> Result<(), OutOfMemory>
-    ensures { OnOk result (text.new ≡ with_lines text.old (figures_lines noncompetitive.value figures)) }
+    ensures { OnOk result
+        (text.new ≡ with_lines text.old (figures_lines noncompetitive.value addon.value figures)) }
 {
     match figures {
         None => text.line(b"no awards"),
-        Some(figures) => push_awarded(text, noncompetitive, &figures),
+        Some(figures) => push_awarded(text, noncompetitive, addon, &figures),
     }
 }
 
+#[tactic(auto, using(crate::proofs::Texts::with_lines_joined))]
 fn push_awarded(
     text: &mut Text,
     noncompetitive: Dollars,
+    addon: Dollars,
     figures: &Figures,
 ) -> Result<(), OutOfMemory>
-    ensures { OnOk result (text.new ≡ with_lines text.old (awarded_lines noncompetitive.value figures.now)) }
+    ensures { OnOk result
+        (text.new ≡ with_lines text.old (awarded_lines noncompetitive.value addon.value figures.now)) }
 {
-    let total = noncompetitive.value + figures.competitive.value;
-    text.labelled(b"competitive", figures.competitive.print().bytes())?;
-    text.labelled(b"total", Short::whole(total).bytes())?;
+    push_par(text, noncompetitive, figures.competitive, addon)?;
+    push_rates(text, figures)
+}
+
+fn push_par(
+    text: &mut Text,
+    noncompetitive: Dollars,
+    competitive: Dollars,
+    addon: Dollars,
+) -> Result<(), OutOfMemory>
+    ensures { OnOk result
+        (text.new ≡ with_lines text.old (par_lines noncompetitive.value competitive.value addon.value)) }
+{
+    let total = noncompetitive.value + competitive.value + addon.value;
+    text.labelled(b"competitive", competitive.print().bytes())?;
+    text.labelled(b"addon", addon.print().bytes())?;
+    text.labelled(b"total", Short::whole(total).bytes())
+}
+
+fn push_rates(text: &mut Text, figures: &Figures) -> Result<(), OutOfMemory>
+    ensures { OnOk result (text.new ≡ with_lines text.old (rate_lines figures.now)) }
+{
     text.labelled(b"high", figures.cut.stop.print().bytes())?;
     text.labelled(b"allotted", figures.cut.percent.print().bytes())?;
     text.labelled(b"median", figures.median.print().bytes())?;

@@ -2,6 +2,7 @@
 ghost use Rattle.std.specs.Prelude.{◌≡◌, ◌≤◌, ◌^◌, ◌++◌, length, IfOk, OnOk};
 ghost use Rattle.tb_report.specs.Lines.{text_of};
 ghost use Rattle.tb_report.specs.Results.{results_lines};
+ghost use Rattle.tb_report.specs.Lists.{awards_lines};
 ghost use Rattle.tb_report.specs.Readings.{lines_of, IsPrintable};
 
 use crate::growing::Text;
@@ -9,7 +10,7 @@ use crate::lists::{push_awards, push_bids, push_holdings, push_redemption};
 use crate::results::push_results;
 use crate::terms::push_terms;
 use std::alloc::Global;
-use tb_history::{Reading, Results};
+use tb_history::{Awards, Reading, Results};
 use tb_units::OutOfMemory;
 
 /// The text of a reading: its lines, each of words with a space between, and ended by a line feed.
@@ -33,7 +34,7 @@ pub fn line_count(reading: &Reading) -> u128
     match reading {
         Reading::Terms(_) => 12,
         Reading::Results(results) => results_count(results),
-        Reading::Awards(awards) => awards.count() as u128,
+        Reading::Awards(awards) => awards_count(awards),
         Reading::Bids(bids) => bids.count() as u128,
         Reading::Holdings(holdings) => holdings.count() as u128,
         Reading::Redemption(paid) => paid.count() as u128 + 1,
@@ -42,11 +43,22 @@ pub fn line_count(reading: &Reading) -> u128
 
 fn results_count(results: &Results) -> u128
     ensures lines { result ≡ length (results_lines results.now) }
-    ensures few { result ≤ 16 }
+    ensures few { result ≤ 17 }
 {
     match results.figures {
         None => 8,
-        Some(_) => 16,
+        Some(_) => 17,
+    }
+}
+
+fn awards_count(awards: &Awards) -> u128
+    ensures lines { result ≡ length (awards_lines awards.now) }
+    ensures few { result ≤ 2 ^ 64 }
+{
+    let bidders = awards.lines.count() as u128;
+    match awards.addon {
+        None => bidders,
+        Some(_) => bidders + 1,
     }
 }
 
@@ -57,7 +69,7 @@ fn push_reading(text: &mut Text, reading: &Reading) -> Result<(), OutOfMemory>
     match reading {
         Reading::Terms(terms) => push_terms(text, terms),
         Reading::Results(results) => push_results(text, results),
-        Reading::Awards(awards) => push_awards(text, awards.lines()),
+        Reading::Awards(awards) => push_awards(text, awards),
         Reading::Bids(bids) => push_bids(text, bids.lines()),
         Reading::Holdings(holdings) => push_holdings(text, holdings.lines()),
         Reading::Redemption(paid) => push_redemption(text, paid.lines()),

@@ -6,8 +6,8 @@ use std::alloc::Global;
 use std::process::Abort;
 use tb_award::Cut;
 use tb_history::{
-    AwardLine, Awards, BidLine, Bids, Figures, HoldingLine, Holdings, Listing, PaidLine, Reading,
-    Redemption, Results,
+    AddOnLine, AwardLine, Awards, BidLine, Bids, Figures, HoldingLine, Holdings, Listing, PaidLine,
+    Reading, Redemption, Results,
 };
 use tb_price::Investment;
 use tb_report::{line_count, text};
@@ -36,7 +36,8 @@ days 91
 offering 76000000000
 noncompetitive 0
 competitive 20000000000
-total 20000000000
+addon 5000000000
+total 25000000000
 high 4.270
 allotted 100.00
 median 4.270
@@ -133,10 +134,13 @@ fn terms_are_told_line_by_line(rt: HostRuntime) -> Result<(), OutOfMemory> {
 }
 
 #[test]
-fn results_have_sixteen_lines(rt: HostRuntime) -> Result<(), OutOfMemory> {
+fn results_have_seventeen_lines(rt: HostRuntime) -> Result<(), OutOfMemory> {
     let results = Results {
         terms: announced(&rt),
         noncompetitive: Dollars { value: 0 },
+        addon: Dollars {
+            value: 5_000_000_000,
+        },
         figures: Some(figures()),
     };
     tells(&rt, rt.alloc(), &Reading::Results(results), RESULTS)
@@ -147,6 +151,7 @@ fn results_without_awards_say_so(rt: HostRuntime) -> Result<(), OutOfMemory> {
     let results = Results {
         terms: announced(&rt),
         noncompetitive: Dollars { value: 1200 },
+        addon: Dollars { value: 100 },
         figures: None,
     };
     tells(&rt, rt.alloc(), &Reading::Results(results), NO_AWARDS)
@@ -154,8 +159,8 @@ fn results_without_awards_say_so(rt: HostRuntime) -> Result<(), OutOfMemory> {
 
 #[test]
 fn awards_have_a_line_for_each_bidder(rt: HostRuntime) -> Result<(), OutOfMemory> {
-    let mut awards: Awards = Listing::new(rt.alloc());
-    awards.push(AwardLine {
+    let mut lines = Listing::new(rt.alloc());
+    lines.push(AwardLine {
         bidder: name(&rt, "fund1"),
         amount: Dollars {
             value: 20_000_000_000,
@@ -164,13 +169,44 @@ fn awards_have_a_line_for_each_bidder(rt: HostRuntime) -> Result<(), OutOfMemory
             value: 1_978_412_780_000,
         },
     })?;
-    awards.push(AwardLine {
+    lines.push(AwardLine {
         bidder: name(&rt, "fund2"),
         amount: Dollars { value: 0 },
         payment: Cents { value: 0 },
     })?;
+    let addon = None;
     let wanted = "fund1 20000000000 19784127800.00\nfund2 0 0.00\n";
-    tells(&rt, rt.alloc(), &Reading::Awards(awards), wanted)
+    tells(
+        &rt,
+        rt.alloc(),
+        &Reading::Awards(Awards { lines, addon }),
+        wanted,
+    )
+}
+
+#[test]
+fn an_add_on_has_a_plus_behind_the_bidders(rt: HostRuntime) -> Result<(), OutOfMemory> {
+    let mut lines = Listing::new(rt.alloc());
+    lines.push(AwardLine {
+        bidder: name(&rt, "fund1"),
+        amount: Dollars { value: 100 },
+        payment: Cents { value: 9892 },
+    })?;
+    let addon = Some(AddOnLine {
+        amount: Dollars {
+            value: 5_000_000_000,
+        },
+        payment: Cents {
+            value: 494_603_195_000,
+        },
+    });
+    let wanted = "fund1 100 98.92\n+ 5000000000 4946031950.00\n";
+    tells(
+        &rt,
+        rt.alloc(),
+        &Reading::Awards(Awards { lines, addon }),
+        wanted,
+    )
 }
 
 #[test]

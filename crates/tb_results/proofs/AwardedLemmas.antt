@@ -1,5 +1,6 @@
 -- What a bidder is awarded, by its number, and what it pays.
 use Rattle.std.proofs.Common.{◌≡◌, ℕ, ◌+◌, ◌<◌, ◌≤◌, ◌==◌, ◌&&◌, ◌||◌, suc, get_or, take, Bool, true, false, cond, nat_lt, nat_le, Option, Some, None, is_some, is_none, inl, inr, List, [], ◌∷◌, ◌++◌, length, sum_by, All, refl, sym, ap, ap₂, ◌∙◌, subst, arith, append-nil}
+use Rattle.std.specs.Prelude.{if◌then◌else◌}
 use Rattle.std.specs.List.{filter, list_any, position_or_len}
 use Rattle.std.proofs.lemmas.Bool.{cases_Bool, both_ways, eqb-true, eq-eqb, false_from_ne_true, le-leb, lt-ltb}
 use Rattle.std.proofs.lemmas.List.{take_more}
@@ -23,10 +24,12 @@ use Rattle.tb_book.specs.Books as books
 use Rattle.tb_book.specs.Books.{most_bid}
 use Rattle.tb_history.specs.declared.roster.Enrolment.{Enrolment}
 use Rattle.tb_history.specs.declared.bids.Bid.{Bid}
+use Rattle.tb_history.specs.declared.accounts.AddOn.{AddOn}
 use Rattle.tb_history.specs.declared.readings.AwardLine.{AwardLine}
 use Rattle.tb_history.specs.Entries.{is_same}
 use Rattle.tb_history.specs.Awarded.{Bidding, awarded, noncompetitive_of, par_in_all, par_under, percent_of, rates, stop_of, wanted_in}
 use Rattle.tb_history.specs.Readings.{AreAwardLines, AreDistinct, IsAwardLine, IsPaid, bidder_at, days_of, has_bid, lines_of, place_of, positions_of}
+use Rattle.tb_history.specs.Holdings.{if_awarded, par_added}
 use Rattle.tb_history.proofs.SameLemmas.{is_same-equal, is_same-refl}
 use Rattle.tb_history.proofs.AwardFigureLemmas.{awarded_to-bidding}
 use Rattle.tb_history.proofs.CloseLemmas.{recognised-none_is}
@@ -188,7 +191,7 @@ stop-is bidding lines recognised cut is =
     (HasPar-bidding bidding recognised is.sound.distinct is.recognition) (omega (arith, is.sound.sought)) is.is.1.is
 
 -- where there is a cut, something is recognised
-some-recognised : (bidding : Bidding) (lines : List BookLine) (recognised : List RateLine) (cut : Cut)
+pub some-recognised : (bidding : Bidding) (lines : List BookLine) (recognised : List RateLine) (cut : Cut)
     → IsCutIn bidding lines recognised (outcome.Cut cut)
     → (par_in_all bidding == 0) ≡ false
 some-recognised bidding lines recognised cut is =
@@ -218,19 +221,23 @@ awarded-cut bidding lines recognised cut number sum d is come within =
     (noncompetitive_of-booked bidding lines number d is.sound is.booked within))
 
 -- nothing is recognised in all where there are no awards
-none-recognised : (bidding : Bidding) (lines : List BookLine) (recognised : List RateLine)
+pub none-recognised : (bidding : Bidding) (lines : List BookLine) (recognised : List RateLine)
     → IsCutIn bidding lines recognised outcome.NoAwards
     → par_in_all bidding ≡ 0
 none-recognised bidding lines recognised is =
     (recognised-none_is bidding recognised is.sound.distinct is.recognition).1 is.is
 
--- so nobody is awarded anything
+-- nobody is awarded anything then
+pub awarded-nothing : (bidding : Bidding) (bidder : List ℕ) → par_in_all bidding ≡ 0 → awarded bidding bidder ≡ 0
+unfolding awarded
+awarded-nothing bidding bidder none = rw (eq-eqb (par_in_all bidding) 0 none) refl
+
+-- so nobody is where there are no awards
 pub awarded-none : (bidding : Bidding) (lines : List BookLine) (recognised : List RateLine) (bidder : List ℕ)
     → IsCutIn bidding lines recognised outcome.NoAwards
     → awarded bidding bidder ≡ 0
-unfolding awarded
 awarded-none bidding lines recognised bidder is =
-    rw (eq-eqb (par_in_all bidding) 0 (none-recognised bidding lines recognised is)) refl
+    awarded-nothing bidding bidder (none-recognised bidding lines recognised is)
 
 -- nothing is wanted then
 wanted-none : (bidding : Bidding) → par_in_all bidding ≡ 0 → wanted_in bidding ≡ 0
@@ -247,12 +254,12 @@ stop-none bidding none =
     (λ earlier low before. absurd (omega (arith, before)))
 
 -- nothing is paid for nothing
-pub paid-none : (bidding : Bidding) (lines : List BookLine) (recognised : List RateLine) (bidder : List ℕ)
+pub paid-none : (bidding : Bidding) (lines : List BookLine) (recognised : List RateLine) (amount : ℕ)
     → IsCutIn bidding lines recognised outcome.NoAwards
-    → IsPaid bidding (awarded bidding bidder) 0
-paid-none bidding lines recognised bidder is =
+    → amount ≡ 0
+    → IsPaid bidding amount 0
+paid-none bidding lines recognised amount is nothing =
     let stop = stop-none bidding (none-recognised bidding lines recognised is) in
-    let nothing = awarded-none bidding lines recognised bidder is in
     record {
       millionths = 100000000;
       price = subst (λ (n : ℕ). IsPrice n (days_of bidding.announcement) 100000000) (sym stop)
@@ -275,6 +282,24 @@ paid-cut bidding lines recognised cut amount cents is paid = record {
       (stop-is bidding lines recognised cut is).0 is.is.1.price;
   payment = paid;
 }
+
+-- the par of an add-on, where it is awarded
+pub add_on-awarded : (bidding : Bidding) (x : AddOn)
+    → par_added (λ name. true) (if_awarded bidding (Some x))
+    ≡ (if par_in_all bidding == 0 then 0 else x.amount.value)
+add_on-awarded bidding x = by_test (par_in_all bidding == 0)
+  where
+    -- by whether anything is
+    by_test : (none : Bool)
+        → par_added (λ name. true) (if none then None else Some x) ≡ (if none then 0 else x.amount.value)
+    by_test true = refl
+    by_test false = refl
+
+-- nothing of it is where nothing is
+pub add_on-nothing : (bidding : Bidding) (amount : ℕ)
+    → par_in_all bidding ≡ 0
+    → (if par_in_all bidding == 0 then 0 else amount) ≡ 0
+add_on-nothing bidding amount none = rw (eq-eqb (par_in_all bidding) 0 none) refl
 
 -- what is recognised is in whole hundreds
 pub hundreds-recognised : (bidding : Bidding) (lines : List BookLine) (recognised : List RateLine) (answer : Outcome)

@@ -24,14 +24,14 @@ use Rattle.tb_history.specs.Entries.{bid_by, is_same}
 use Rattle.tb_history.specs.Roster.{announcement_of, announcements, enrolment_of, enrolments, is_enrolled, is_under}
 use Rattle.tb_history.specs.LiveBids.{bids, cancels, is_live, reports, standing_of}
 use Rattle.tb_history.specs.Tables.{bid_rows, rows_of}
-use Rattle.tb_history.specs.Legal.{Follows, IsLegal}
+use Rattle.tb_history.specs.Legal.{IsLegal}
 use Rattle.tb_history.specs.Holdings.{bidding_in}
 use Rattle.tb_history.specs.Readings.{days_of, place_of}
-use Rattle.tb_history.proofs.PartLemmas.{AllByRecursion-append, AllByRecursion-filter, AllByRecursion-weaker}
+use Rattle.tb_history.proofs.PartLemmas.{AllByRecursion-filter, AllByRecursion-weaker}
 use Rattle.tb_history.proofs.SameLemmas.{is_same-equal}
-use Rattle.tb_history.proofs.GrowthLemmas.{bids-snoc, is_enrolled-snoc}
-use Rattle.tb_history.proofs.AcceptedLemmas.{IsClear, accepted-passes}
-use Rattle.tb_history.proofs.LegalLemmas.{by_entries}
+use Rattle.tb_history.proofs.GrowthLemmas.{is_enrolled-snoc}
+use Rattle.tb_history.proofs.AcceptedLemmas.{IsClear}
+use Rattle.tb_history.proofs.EachLemmas.{IsLegal-each, bids-grow}
 use Rattle.tb_history.proofs.ClosedLemmas.{IsInOrder, IsLegal-in_order, announced-push, found-in}
 use Rattle.tb_history.proofs.CloseLemmas.{All-from, IsLegal-distinct, IsLegal-sought}
 use Rattle.tb_results.specs.Biddings.{IsSound, IsSoundBid}
@@ -84,29 +84,14 @@ IsAcceptedBid-snoc h e b is = record {
   priced = is.priced;
 }
 
--- and all of them with an accepted entry
-accepted-push : (h : List Entry) (e : Entry)
-    → IsLegal h
-    → AllByRecursion (IsAcceptedBid h) (bids h)
-    → Follows h e
-    → AllByRecursion (IsAcceptedBid (h ++ e ∷ [])) (bids (h ++ e ∷ []))
-accepted-push h e legal so_far follows =
-    let passed = accepted-passes h e.submitter e.number e.moment e.message follows.accepted in
-    let now =
-    AllByRecursion-append (IsAcceptedBid h) (bids h) (bid_by e.submitter e.number e.message) so_far
-    (bid_by-accepted h e.submitter e.number e.moment e.message passed.rows) in
-    rw (bids-snoc h e) (AllByRecursion-weaker (IsAcceptedBid h) (IsAcceptedBid (h ++ e ∷ [])) (IsAcceptedBid-snoc h e)
-    (bids h ++ bid_by e.submitter e.number e.message) now)
-
--- nothing is bid yet
-accepted-nil : AllByRecursion (IsAcceptedBid []) (bids [])
-unfolding bids
-accepted-nil = tt
-
 -- every bid of a legal history is so
 IsLegal-accepted : (h : List Entry) → IsLegal h → AllByRecursion (IsAcceptedBid h) (bids h)
-IsLegal-accepted h legal =
-    by_entries (λ h. AllByRecursion (IsAcceptedBid h) (bids h)) accepted-nil accepted-push h legal
+IsLegal-accepted =
+    IsLegal-each IsAcceptedBid bids (λ (e : Entry). bid_by e.submitter e.number e.message) bids-grow
+    (record {
+      begins = λ h e legal follows passed. bid_by-accepted h e.submitter e.number e.moment e.message passed.rows;
+      stays = IsAcceptedBid-snoc;
+    })
 
 -- what is found has a place
 found-within : {X : Type 0} (test : X → Bool) (xs : List X) (x : X)

@@ -1,5 +1,6 @@
 //! Tests of the public calls, with results that were worked out by hand.
-ghost use Rattle.std.specs.Prelude.{◌≡◌, ◌+◌, ◌%◌, ◌<◌, ◌≤◌, ◌^◌, true, length, All, IfOk, OnOk};
+ghost use Rattle.std.specs.Prelude.{◌≡◌, ◌+◌, ◌%◌, ◌<◌, ◌≤◌, ◌^◌, true, length, All, IfOk, IfSome, OnOk};
+ghost use Rattle.tb_units.specs.Multiples.{most_par};
 ghost use Rattle.tb_book.specs.Books.{par_in, rate_lines};
 ghost use Rattle.tb_results.specs.Biddings.{is_priced, is_sound_line};
 
@@ -10,11 +11,11 @@ use std::sync::ledger::{Blank, Ledger};
 use std::test::Fail;
 use tb_award::{Recognised, recognise};
 use tb_book::{Book, BookLine};
-use tb_history::{Awards, Enrolment, Figures, Results};
+use tb_history::{AddOn, AddOnLine, Awards, Enrolment, Figures, Results};
 use tb_price::above_zero;
 use tb_results::*;
 use tb_terms::{Announcement, Cusip, EasternDays, Terms, read_day};
-use tb_units::{Day, Days, Dollars, Ident, Lines, OutOfMemory, Rate, Steps};
+use tb_units::{Cents, Day, Days, Dollars, Ident, Lines, OutOfMemory, Rate, Steps};
 
 fn day(rt: &impl Abort, text: &str) -> Day {
     read_day(text).expect(rt, "no day")
@@ -29,6 +30,19 @@ fn fund(rt: &impl Abort) -> Enrolment {
     Enrolment {
         bidder: name(rt, "fund"),
         submitter: name(rt, "broker"),
+    }
+}
+
+// An add-on of 5,000,000,000.
+fn added(rt: &impl Abort, holder: &str) -> AddOn
+    ensures { result.amount.value ≤ most_par }
+{
+    AddOn {
+        auction: name(rt, "bill13"),
+        holder: name(rt, holder),
+        amount: Dollars {
+            value: 5_000_000_000,
+        },
     }
 }
 
@@ -139,13 +153,18 @@ fn line_of(rt: &impl Abort, bidder: u32, number: u64, steps: Option<u32>, dollar
     }
 }
 
-fn results_of(alloc: Global, terms: &Terms, book: &Book) -> Result<Results, OutOfMemory>
+fn results_of(
+    alloc: Global,
+    terms: &Terms,
+    book: &Book,
+    add_on: Option<AddOn>,
+) -> Result<Results, OutOfMemory>
     requires days { terms.now.days.count ≡ 91 }
     requires offering { terms.now.announcement.offering.value % 100 ≡ 0 }
     requires floor { 100 ≤ terms.now.announcement.competitive_floor.value }
     requires sound { All (λ l. is_sound_line 5 91 l ≡ true) book.now.lines }
 {
-    results(alloc, terms, book, &[0; 5])
+    results(alloc, terms, book, &[0; 5], add_on)
 }
 
 // What each of the five bidders is awarded.
@@ -170,14 +189,51 @@ fn awards_of(
     terms: &Terms,
     book: &Book,
     bidder: Enrolment,
+    add_on: Option<AddOn>,
     caller: &Ident,
 ) -> Result<Awards, OutOfMemory>
     requires days { terms.now.days.count ≡ 91 }
     requires offering { terms.now.announcement.offering.value % 100 ≡ 0 }
     requires floor { 100 ≤ terms.now.announcement.competitive_floor.value }
     requires sound { All (λ l. is_sound_line 1 91 l ≡ true) book.now.lines }
+    requires range { IfSome add_on (λ x. x.amount.value ≤ most_par) }
 {
-    awards(alloc, terms, book, &[0], &[bidder], caller)
+    awards(alloc, terms, book, &[0], &[bidder], add_on, caller)
+}
+
+// What a caller reads of the add-on, where one bidder is enrolled.
+fn add_on_of(
+    rt: &impl Abort,
+    alloc: Global,
+    book: &Book,
+    holder: &str,
+    caller: &str,
+) -> Result<Option<AddOnLine>, OutOfMemory>
+    requires { All (λ l. is_sound_line 1 91 l ≡ true) book.now.lines }
+{
+    let terms = terms_of(rt, alloc)?;
+    let add_on = added(rt, holder);
+    let awards = awards_of(
+        alloc,
+        &terms,
+        book,
+        fund(rt),
+        Some(add_on),
+        &name(rt, caller),
+    )?;
+    Ok(awards.addon)
+}
+
+// Par in dollars, and its payment in cents.
+fn line(amount: u64, payment: u64) -> Option<AddOnLine> {
+    Some(AddOnLine {
+        amount: Dollars {
+            value: u128::from(amount),
+        },
+        payment: Cents {
+            value: u128::from(payment),
+        },
+    })
 }
 
 // Four competitive lines are recognised in four steps at most.
@@ -275,9 +331,23 @@ fn expect_figures(rt: &impl Abort, figures: &Figures) {
 fn an_auction_stops_in_its_last_rate(rt: HostRuntime) -> Result<(), Fail> {
     let terms = terms_of(&rt, rt.alloc())?;
     let book = sample_book(&rt, rt.alloc())?;
-    let results = results_of(rt.alloc(), &terms, &book)?;
+    let results = results_of(rt.alloc(), &terms, &book, None)?;
     assert_eq!(rt; results.terms, announced(&rt));
     assert_eq!(rt; results.noncompetitive.value, 100_000_000);
+    assert_eq!(rt; results.addon.value, 0);
+    let figures = results.figures.expect(&rt, "no figures");
+    expect_figures(&rt, &figures);
+    Ok(())
+}
+
+#[test]
+fn an_add_on_changes_no_other_figure(rt: HostRuntime) -> Result<(), Fail> {
+    let terms = terms_of(&rt, rt.alloc())?;
+    let book = sample_book(&rt, rt.alloc())?;
+    let add_on = added(&rt, "broker");
+    let results = results_of(rt.alloc(), &terms, &book, Some(add_on))?;
+    assert_eq!(rt; results.noncompetitive.value, 100_000_000);
+    assert_eq!(rt; results.addon.value, 5_000_000_000);
     let figures = results.figures.expect(&rt, "no figures");
     expect_figures(&rt, &figures);
     Ok(())
@@ -304,8 +374,10 @@ fn without_competitive_bids_nobody_is_awarded_anything(rt: HostRuntime) -> Resul
     let alloc = rt.alloc();
     let terms = terms_of(&rt, alloc)?;
     let book = book_of(&rt, alloc, 5, &[(0, 1, None, 100_000_000)])?;
-    let results = results_of(alloc, &terms, &book)?;
+    let add_on = added(&rt, "broker");
+    let results = results_of(alloc, &terms, &book, Some(add_on))?;
     assert_eq!(rt; results.noncompetitive.value, 100_000_000);
+    assert_eq!(rt; results.addon.value, 5_000_000_000);
     assert!(rt; results.figures.is_none());
     let amounts = awarded_of(alloc, &terms, &book)?;
     assert_eq!(rt; amounts.as_slice(), [0u128; 5].as_slice());
@@ -318,13 +390,35 @@ fn a_submitter_reads_the_awards_of_its_bidders(rt: HostRuntime) -> Result<(), Fa
     let terms = terms_of(&rt, alloc)?;
     let bids = [(0, 1, None, 100_000_000), (0, 2, Some(1064), 300_000_000)];
     let book = book_of(&rt, alloc, 1, &bids)?;
-    let lines = awards_of(alloc, &terms, &book, fund(&rt), &name(&rt, "broker"))?;
-    assert_eq!(rt; lines.count(), 1);
-    let line = *lines.line(0);
+    let awards = awards_of(alloc, &terms, &book, fund(&rt), None, &name(&rt, "broker"))?;
+    assert_eq!(rt; awards.lines.count(), 1);
+    assert!(rt; awards.addon.is_none());
+    let line = *awards.lines.line(0);
     assert_eq!(rt; line.bidder, name(&rt, "fund"));
     assert_eq!(rt; line.amount.value, 400_000_000);
     assert_eq!(rt; line.payment.value, 39_462_088_800);
-    let none = awards_of(alloc, &terms, &book, fund(&rt), &name(&rt, "other"))?;
-    assert_eq!(rt; none.count(), 0);
+    let none = awards_of(alloc, &terms, &book, fund(&rt), None, &name(&rt, "other"))?;
+    assert_eq!(rt; none.lines.count(), 0);
+    Ok(())
+}
+
+// At 5.320 percent for 91 days the price is 98.655222.
+#[test]
+fn the_holder_alone_reads_the_add_on(rt: HostRuntime) -> Result<(), Fail> {
+    let alloc = rt.alloc();
+    let bids = [(0, 1, None, 100_000_000), (0, 2, Some(1064), 300_000_000)];
+    let book = book_of(&rt, alloc, 1, &bids)?;
+    let whole = line(5_000_000_000, 493_276_110_000);
+    assert!(rt; add_on_of(&rt, alloc, &book, "broker", "broker")? == whole);
+    assert!(rt; add_on_of(&rt, alloc, &book, "other", "other")? == whole);
+    assert!(rt; add_on_of(&rt, alloc, &book, "other", "broker")?.is_none());
+    Ok(())
+}
+
+#[test]
+fn without_awards_nothing_of_the_add_on_is_awarded(rt: HostRuntime) -> Result<(), Fail> {
+    let alloc = rt.alloc();
+    let book = book_of(&rt, alloc, 1, &[(0, 1, None, 100_000_000)])?;
+    assert!(rt; add_on_of(&rt, alloc, &book, "other", "other")? == line(0, 0));
     Ok(())
 }

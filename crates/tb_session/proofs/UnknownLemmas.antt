@@ -1,5 +1,5 @@
 -- Whoever is the caller of a key is never told that it is unknown.
-use Rattle.std.proofs.Common.{◌≡◌, ℕ, Bool, true, false, not, nat_le, ◌||◌, Option, Some, None, List, [], ◌∷◌, ◌++◌, map, refl, sym, ◌∙◌, ap, subst, inl, inr}
+use Rattle.std.proofs.Common.{◌≡◌, ℕ, Bool, true, false, not, nat_le, ◌||◌, Option, Some, None, is_some, List, [], ◌∷◌, ◌++◌, map, refl, sym, ◌∙◌, ap, subst, inl, inr}
 use Rattle.std.specs.List.{find}
 use Rattle.std.specs.Option.{option_map}
 use Rattle.std.proofs.lemmas.Bool.{cases_Bool}
@@ -30,10 +30,10 @@ use Rattle.tb_history.specs.Answer.{query_refusal, may_ask, auction_rows, asked_
 use Rattle.tb_history.specs.Entries.{is_same, operator}
 use Rattle.tb_history.specs.Holdings.{mark_of, free_of}
 use Rattle.tb_history.specs.LiveBids.{bids, cancels, reports, bid_of, is_cancelled, standing_of}
-use Rattle.tb_history.specs.Roster.{registrations, holidays, announcements, settlements, redemptions}
+use Rattle.tb_history.specs.Roster.{registrations, holidays, announcements, settlements, redemptions, add_ons, add_on_of}
 use Rattle.tb_history.specs.Roster.{announcement_of, bill_of, is_caller, is_enrolled, is_published, is_redeemed, is_registered, is_settled, unsettled_of, kept, sent_by}
 use Rattle.tb_history.specs.Same.{same_message}
-use Rattle.tb_history.specs.Tables.{bid_rows, cancel_rows, left_in, mark_rows, maturity_rows, par_rows, position_rows, publish_rows, redeem_rows, rows_of, settle_rows, transfer_rows}
+use Rattle.tb_history.specs.Tables.{add_on_rows, bid_rows, cancel_rows, left_in, mark_rows, maturity_rows, par_rows, position_rows, publish_rows, redeem_rows, rows_of, settle_rows, transfer_rows}
 use Rattle.tb_history.specs.Verdict.{refused, is_permitted, number_rows, verdict_on}
 use Rattle.tb_history.proofs.SameLemmas.{is_same-refl}
 use Rattle.tb_session.specs.Calls.{caller_on}
@@ -129,6 +129,12 @@ redeem_known None redeemed unsettled entered moment = refl
 redeem_known (Some a) redeemed None entered moment = refl
 redeem_known (Some a) redeemed (Some first) entered moment = refl
 
+-- of an add-on
+add_on_known : (a : Option Announcement) (known standing : Bool) (moment : Moment) (amount : ℕ)
+    → has_unknown (add_on_rows a known standing moment amount) ≡ false
+add_on_known None known standing moment amount = refl
+add_on_known (Some a) known standing moment amount = refl
+
 -- so no row of a message does
 rows-known : (history : List Entry) (sender : List ℕ) (moment : Moment) (sent : Message)
     → has_unknown (rows_of history sender moment sent) ≡ false
@@ -170,6 +176,9 @@ rows-known history sender moment (message.Release holder pledge amount) =
 rows-known history sender moment (message.Redeem cusip) =
     redeem_known (bill_of (announcements history) cusip) (is_redeemed (redemptions history) cusip)
     (unsettled_of (announcements history) (settlements history) cusip) (holidays history) moment
+rows-known history sender moment (message.AddOn auction holder amount) =
+    add_on_known (announcement_of (announcements history) auction) (is_registered (registrations history) holder)
+    (is_some (add_on_of (add_ons history) auction)) moment amount.value
 
 -- ---- and so neither does a verdict nor a query's refusal
 

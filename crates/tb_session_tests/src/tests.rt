@@ -341,6 +341,58 @@ fn one_message_on_two_links_stands_once(rt: HostRuntime) -> Result<(), Fail> {
     Ok(())
 }
 
+/// An add-on of the auction for the second dealer, as the operator posts it, and another one.
+const ADD_ON: &str = posted!(
+    "op:root",
+    85,
+    "{\"number\":6,\"kind\":\"addon\",\"auction\":\"bill13\",\"holder\":\"dealer2\",\"amount\":5000000000}"
+);
+
+const OTHER_ADD_ON: &str = posted!(
+    "op:root",
+    78,
+    "{\"number\":7,\"kind\":\"addon\",\"auction\":\"bill13\",\"holder\":\"dealer1\",\"amount\":100}"
+);
+
+const ADD_ON_REPLY: &str = replied!("200 OK", 22, "accepted 6 1730700000\n");
+
+const OTHER_ADD_ON_REPLY: &str = replied!(
+    "422 Unprocessable Entity",
+    23,
+    "refused 46 AddOnExists\n"
+);
+
+/// The publication of the auction, and the question for the second dealer's awards.
+const PUBLICATION: &str = posted!(
+    "op:root",
+    48,
+    "{\"number\":7,\"kind\":\"publish\",\"auction\":\"bill13\"}"
+);
+
+const PUBLICATION_REPLY: &str = replied!("200 OK", 22, "accepted 7 1730737800\n");
+
+const AWARDS: &str = "GET /awards/bill13 HTTP/1.1\r\nAuction-Key: k2\r\n\r\n";
+
+/// At 4.300 percent for 91 days the price is 98.913056.
+const AWARDS_REPLY: &str = replied!("200 OK", 27, "+ 5000000000 4945652800.00\n");
+
+#[test]
+fn an_auction_has_one_add_on(rt: HostRuntime) -> Result<(), Fail> {
+    let alloc = rt.alloc();
+    let sent = joined(alloc, &[FIRST, ADD_ON, ADD_ON, OTHER_ADD_ON])?;
+    let replies = [FIRST_REPLY, ADD_ON_REPLY, ADD_ON_REPLY, OTHER_ADD_ON_REPLY];
+    let told_first = joined(alloc, &replies)?;
+    let room = opened(&rt, alloc, Vec::new(alloc))?;
+    let (room, told) = serve_texts(&rt, alloc, room, &[sent.as_str()])?;
+    assert!(rt; tells(&told, (1, 2, false), &[told_first.as_str()]));
+    let room = room_on(&rt, alloc, room.desk.into_disk(), CLOSING)?;
+    let asked = joined(alloc, &[PUBLICATION, AWARDS])?;
+    let told_then = joined(alloc, &[PUBLICATION_REPLY, AWARDS_REPLY])?;
+    let (_, told) = serve_texts(&rt, alloc, room, &[asked.as_str()])?;
+    assert!(rt; tells(&told, (1, 1, false), &[told_then.as_str()]));
+    Ok(())
+}
+
 /// Requests of one link.
 const REQUESTS: [&str; 8] = [
     FIRST,

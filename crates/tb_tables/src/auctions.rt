@@ -1,18 +1,22 @@
-//! Announced auctions with their terms.
+//! Announced auctions with their terms, and their add-ons.
 ghost use Rattle.std.specs.Prelude.{◌≡◌, ◌&&◌, Some, cond, is_some, not};
 ghost use Rattle.std.specs.List.{find, position};
 ghost use Rattle.tb_history.specs.Entries.{is_same};
-ghost use Rattle.tb_history.specs.Roster.{announcement_of, bill_of, is_named, unsettled_of};
+ghost use Rattle.tb_history.specs.Roster.{add_on_of, announcement_of, bill_of, is_named, unsettled_of};
 ghost use Rattle.tb_tables.specs.Auctions.{announced_in, announcement_in};
 
 use crate::keys::{ByBill, ByName};
 use crate::names::{Names, has_name};
-use tb_index::TwiceKeyed;
+use tb_history::AddOn;
+use tb_index::{Keyed, TwiceKeyed};
 use tb_terms::{Cusip, Terms};
 use tb_units::Ident;
 
 /// The terms of the auctions, in the order of announcement.
 pub type Auctions = TwiceKeyed<Terms, ByName, ByBill>;
+
+/// The add-ons, in their order.
+pub type AddOns = Keyed<AddOn, ByName>;
 
 /// The terms of the auction.
 pub fn terms_of(auctions: &Auctions, auction: &Ident) -> Option<Terms>
@@ -71,4 +75,11 @@ pub fn unsettled_terms(auctions: &Auctions, settled: &Names, cusip: &Cusip) -> O
     ensures { announcement_in result ≡ unsettled_of (announced_in auctions.now.list) settled.now.list cusip.now }
 {
     first_unsettled(auctions, settled, cusip)
+}
+
+/// The auction's add-on.
+pub fn find_add_on(add_ons: &AddOns, auction: &Ident) -> Option<AddOn>
+    ensures { result ≡ add_on_of add_ons.now.list auction.now }
+{
+    add_ons.get(auction).copied()
 }

@@ -1,15 +1,15 @@
 //! What a message adds to each table.
 ghost use Rattle.std.specs.Prelude.{◌≡◌, ◌<◌, ◌≤◌, ◌+◌, ◌++◌};
-ghost use Rattle.tb_history.specs.Entries.{registered_by, enrolled_by, entered_by, announced_by, published_by, settled_by, redeemed_by, bid_by, cancelled_by, reported_by};
+ghost use Rattle.tb_history.specs.Entries.{registered_by, enrolled_by, entered_by, announced_by, published_by, settled_by, redeemed_by, added_by, bid_by, cancelled_by, reported_by};
 ghost use Rattle.tb_tables.specs.Auctions.{IsInOrder, announced_in};
 ghost use Rattle.tb_tables.specs.Calendar.{AddsDays};
 
-use crate::auctions::Auctions;
+use crate::auctions::{AddOns, Auctions};
 use crate::bidding::{Bids, Cancels, Reports};
 use crate::calendar::Calendar;
 use crate::names::Names;
 use crate::roster::{Bidders, Bills, Holidays, Submitters};
-use tb_history::{Bid, Cancel, Enrolment, Registration, Report};
+use tb_history::{AddOn, Bid, Cancel, Enrolment, Registration, Report};
 use tb_message::Message;
 use tb_terms::{EasternDays, Terms};
 use tb_units::Ident;
@@ -179,5 +179,26 @@ pub fn enter_redeemed(redeemed: &mut Bills, message: &Message)
 {
     if let Message::Redeem { cusip } = message {
         redeemed.push(*cusip);
+    }
+}
+
+/// An add-on of an auction.
+#[tactic(auto, using(crate::proofs::AddedLemmas::nothing_more))]
+pub fn enter_add_on(add_ons: &mut AddOns, message: &Message)
+    requires { 0 < add_ons.old.spare }
+    ensures list { add_ons.new.list ≡ add_ons.old.list ++ added_by message.now }
+    ensures spare { add_ons.old.spare ≤ add_ons.new.spare + 1 }
+{
+    if let Message::AddOn {
+        auction,
+        holder,
+        amount,
+    } = message
+    {
+        add_ons.push(AddOn {
+            auction: *auction,
+            holder: *holder,
+            amount: *amount,
+        });
     }
 }

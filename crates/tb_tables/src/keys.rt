@@ -1,5 +1,5 @@
 //! By what the rows of the host are found and counted.
-use tb_history::{Bid, Cancel, Enrolment, Registration, Report};
+use tb_history::{AddOn, Bid, Cancel, Enrolment, Registration, Report};
 use tb_index::KeyOf;
 use tb_message::Entry;
 use tb_terms::{Cusip, Terms};
@@ -86,6 +86,16 @@ impl KeyOf<Terms> for ByBill {
 
     fn key_of(terms: &Terms) -> [u8; 9] {
         terms.announcement.cusip.bytes
+    }
+}
+
+impl KeyOf<AddOn> for ByName {
+    type Key = Ident;
+
+    ghost key_of = { λ add_on. add_on.auction };
+
+    fn key_of(add_on: &AddOn) -> Ident {
+        add_on.auction
     }
 }
 

@@ -10,15 +10,18 @@ mod keys;
 mod names;
 mod roster;
 
-pub use auctions::{Auctions, bill_terms, has_auction, place_of_bill, terms_of, unsettled_terms};
+pub use auctions::{
+    AddOns, Auctions, bill_terms, find_add_on, has_auction, place_of_bill, terms_of,
+    unsettled_terms,
+};
 pub use bidding::{
     Bids, Cancels, Reports, bids_from, few_bids, find_bid, has_cancel, has_report, is_live,
     position_of,
 };
 pub use calendar::Calendar;
 pub use entering::{
-    enter_auction, enter_bid, enter_bidder, enter_calendar, enter_cancel, enter_holiday,
-    enter_published, enter_redeemed, enter_report, enter_settled, enter_submitter,
+    enter_add_on, enter_auction, enter_bid, enter_bidder, enter_calendar, enter_cancel,
+    enter_holiday, enter_published, enter_redeemed, enter_report, enter_settled, enter_submitter,
 };
 pub use kept::{Entries, count_sent, find_kept};
 pub use keys::{ByBidder, ByBill, ByDay, ByKey, ByName, ByNumber, BySender, BySubmitter};

@@ -91,6 +91,8 @@ pub enum Refusal {
     BadClosing,
     /// An auction of this CUSIP was announced with this other maturity.
     MaturityDiffers { maturity: Day },
+    /// An add-on of the auction stands.
+    AddOnExists,
     /// The name, the key, the enrolment or the holiday is entered already, as the name `operator` always is.
     Exists,
     /// As many submitters, bidders, auctions or holidays are entered as there may be.
@@ -186,6 +188,7 @@ impl Refusal {
             Refusal::BadAmounts => (43, b"BadAmounts"),
             Refusal::BadClosing => (44, b"BadClosing"),
             Refusal::MaturityDiffers { .. } => (45, b"MaturityDiffers"),
+            Refusal::AddOnExists => (46, b"AddOnExists"),
             Refusal::Exists => (50, b"Exists"),
             Refusal::RosterFull => (51, b"RosterFull"),
             Refusal::OtherSubmitter => (52, b"OtherSubmitter"),

@@ -435,6 +435,7 @@ fn refusals_that_carry_values_have_their_numbers(rt: HostRuntime) {
             "MaturityDiffers"
         )
     );
+    assert!(rt; told(Refusal::AddOnExists, 46, "AddOnExists"));
     assert!(rt;
         told(
             Refusal::NotClosed {

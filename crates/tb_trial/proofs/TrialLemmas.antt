@@ -184,7 +184,7 @@ pub figures-of : (seed count : ℕ) (terms : Terms) (lines : List BookLine) (pos
     → terms.announcement ≡ trial_announcement
     → AreBooked (trial_bidding seed count) lines
     → positions ≡ replicate most_bidders (pos 0)
-    → ((bidding : Bidding) → IsBookOf bidding terms lines positions → AreResults bidding results)
+    → ((bidding : Bidding) → IsBookOf bidding terms lines positions → AreResults bidding None results)
     → AreFigures (trial_bidding seed count) results.figures
 figures-of seed count terms lines positions results announced booked none are =
     (are (trial_bidding seed count) (IsBookOf-trial seed count terms lines positions announced booked none)).figures

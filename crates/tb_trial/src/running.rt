@@ -20,7 +20,7 @@ pub fn trial(alloc: Global, seed: u64, count: u64) -> Result<Figures, OutOfMemor
     let terms = trial_terms(alloc)?;
     let positions = no_positions(alloc)?;
     let book = stated_book(alloc, seed, count)?;
-    let results = results(alloc, &terms, &book, &positions)?;
+    let results = results(alloc, &terms, &book, &positions, None)?;
     Ok(results.figures.unwrap())
 }
 

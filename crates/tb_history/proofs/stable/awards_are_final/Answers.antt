@@ -18,6 +18,11 @@ returns-clause-awards c history more auction bidder a legal published found =
     let closed = closed-announced history auction a (IsLegal-front more history legal) published found in
     (AreSame-more more history a legal closed).awards bidder
 
+pub returns-clause-add_on : goal.returns-clause-add_on
+returns-clause-add_on c history more auction a legal published found =
+    let closed = closed-announced history auction a (IsLegal-front more history legal) published found in
+    (AreSame-more more history a legal closed).add_on
+
 pub returns-clause-cut : goal.returns-clause-cut
 returns-clause-cut c history more auction a legal published found =
     let closed = closed-announced history auction a (IsLegal-front more history legal) published found in

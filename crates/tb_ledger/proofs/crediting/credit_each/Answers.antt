@@ -4,7 +4,6 @@ use Rattle.std.specs.Prelude.{Contains}
 use Rattle.std.proofs.lemmas.List.{take_all}
 use Rattle.tb_movements.specs.Credits.{CreditsBook}
 use Rattle.tb_movements.proofs.CreditLemmas.{CreditsBook-push}
-use Rattle.tb_movements.proofs.TellingLemmas.{TellsMore-settled}
 use Rattle.tb_movements.specs.Movements.{Credit}
 use Rattle.std.specs.List.{position_or_len}
 use Rattle.tb_history.specs.Entries.{is_same}
@@ -73,11 +72,9 @@ loop-place-preserved c = record {
   redeemed = c.credit.ensures.others.redeemed ∙ c.loop-place.invariant.redeemed;
 }
 
-pub returns-clause-told : goal.returns-clause-told
-returns-clause-told c bidding same =
-    TellsMore-settled c.args.security (credits_for c.args.submitters.now.list bidding c.args.bidders.now)
-    c.args.accounts.now c.loop-place.accounts c.requires.live
-    (subst (λ (es : List Enrolment).
+pub returns-clause-credits : goal.returns-clause-credits
+returns-clause-credits c bidding same =
+    subst (λ (es : List Enrolment).
     CreditsBook c.args.security (credits_for c.args.submitters.now.list bidding es) c.args.accounts.now
     c.loop-place.accounts)
-    (take_all c.loop-place.place c.args.bidders.now (omega arith)) (c.loop-place.invariant.credits bidding same))
+    (take_all c.loop-place.place c.args.bidders.now (omega arith)) (c.loop-place.invariant.credits bidding same)

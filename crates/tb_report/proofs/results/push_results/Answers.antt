@@ -10,7 +10,7 @@ pub returns : goal.returns
 returns c =
     let r = c.args.results.now in
     let bill = bill_lines r.terms r.noncompetitive.value in
-    let figures = figures_lines r.noncompetitive.value r.figures in
+    let figures = figures_lines r.noncompetitive.value r.addon.value r.figures in
     on_ok_weaker c.push_figures.result
     (λ pushed.
     pushed

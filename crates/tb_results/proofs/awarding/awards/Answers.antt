@@ -1,6 +1,5 @@
 -- The lines are those of the bidding that the book is of.
 use Rattle.std.proofs.Common.{◌≡◌, ◌∙◌, ℕ, List, ap, length, sym}
-use Rattle.std.proofs.lemmas.Result.{IfOk-weaker}
 use Rattle.tb_units.specs.declared.lines.RateLine.{RateLine}
 use Rattle.tb_award.specs.declared.outcome.Outcome.{Outcome}
 use Rattle.tb_book.specs.declared.book_line.BookLine.{BookLine}
@@ -48,12 +47,15 @@ award_lines-requires-clause-bidding c =
           (c.award_all.ensures.awards bidding is (as_many bidding c.args.bidders.now enrolled)),
     )
 
-pub returns : goal.returns
-returns c = IfOk-weaker c.award_lines.result _ _
-    (λ lines are bidding book enrolled.
+pub returns-clause-lines : goal.returns-clause-lines
+returns-clause-lines c bidding book enrolled =
     let is = c.cut_book-outcome.ensures.cut bidding book in
-    are bidding c.cut_book-outcome.new.into.lines
+    c.in_ok-lines.ensures bidding c.cut_book-outcome.new.into.lines
     (all_awarded bidding c.args.book.now.lines c.cut_book-outcome.new.into.lines c.cut_book-outcome.result
     c.args.bidders.now c.deref.result.now c.award_all.new.into.items is enrolled c.deref.ensures.value
-    (c.award_all.ensures.awards bidding is (as_many bidding c.args.bidders.now enrolled))))
-    c.award_lines.ensures
+    (c.award_all.ensures.awards bidding is (as_many bidding c.args.bidders.now enrolled)))
+
+pub returns-clause-addon : goal.returns-clause-addon
+returns-clause-addon c bidding book =
+    c.add_on_line-addon.ensures bidding c.args.book.now.lines c.cut_book-outcome.new.into.lines
+    (c.cut_book-outcome.ensures.cut bidding book)

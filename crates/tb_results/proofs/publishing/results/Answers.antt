@@ -17,5 +17,6 @@ returns c bidding is = record {
   terms = is.announced;
   noncompetitive = c.noncompetitive.ensures.noncompetitive
       ∙ noncompetitive-booked bidding c.args.book.now.lines is.booked;
+  addon = c.par_of.ensures;
   figures = c.figures_of.ensures bidding c.args.book.now.lines (c.cut_book-outcome.ensures.cut bidding is) is.announced;
 }

@@ -22,6 +22,7 @@ invariant_of-result c = record {
       published = omega arith;
       settled = omega arith;
       redeemed = omega arith;
+      add_ons = omega arith;
       places = omega arith;
       calendar = omega arith;
     };

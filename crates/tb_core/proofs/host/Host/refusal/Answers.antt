@@ -67,3 +67,9 @@ returns-in-Redeem c =
     c.redeem.ensures c.args.sender.now
     ∙ ap (λ (m : Message). refusal_in (rows_of c.args.self.now.history c.args.sender.now c.args.moment m))
     (sym c.in-Redeem.is)
+
+pub returns-in-AddOn : goal.returns-in-AddOn
+returns-in-AddOn c =
+    c.add_on.ensures c.args.sender.now
+    ∙ ap (λ (m : Message). refusal_in (rows_of c.args.self.now.history c.args.sender.now c.args.moment m))
+    (sym c.in-AddOn.is)

@@ -15,5 +15,6 @@ returns-clause-room c room has = record {
   published = omega (arith, has.published, c.enter_published.ensures.spare);
   settled = omega (arith, has.settled, c.enter_settled.ensures.spare);
   redeemed = omega (arith, has.redeemed, c.enter_redeemed.ensures.spare);
+  add_ons = omega (arith, has.add_ons, c.enter_add_on.ensures.spare);
   places = omega (arith, has.places, c.enter_line.ensures.places);
 }

@@ -4,7 +4,7 @@ use Rattle.tb_movements.specs.Movements.{Movement, Settled}
 use Rattle.tb_history.specs.declared.roster.Enrolment.{Enrolment}
 use Rattle.tb_ledger.specs.Accounting.{TellsNext}
 use Rattle.tb_core.specs.Crediting.{bidding_on, settled_in}
-use Rattle.tb_ledger.specs.Credits.{credits_for}
+use Rattle.tb_ledger.specs.Credits.{settled_for}
 use Rattle.tb_core.proofs.HouseLemmas.{few-bidders}
 use Rattle.tb_core.proofs.SettleLemmas.{book-on, book-there, lines-few}
 use Rattle.tb_core.proofs.tables.Tables.settle_by.Goals as goal
@@ -41,16 +41,16 @@ credit_awards-requires-clause-bidding c = (
       (book-on c.requires.tied.0 c.args.self.now c.args.terms.now c.in-Some.book.now c.requires.tied.1 c.requires.tied.2
       c.in-Some.ensures.some),
   sym c.rows.ensures,
-  rw (c.bill_number-security.ensures, c.rows.ensures) c.requires.ready.1,
+  rw (c.bill_number-security.ensures, c.rows.ensures, c.find_add_on-add_on.ensures) c.requires.ready.1,
 )
 
 pub returns-in-Some-clause-told : goal.returns-in-Some-clause-told
 returns-in-Some-clause-told c =
     let bidding = bidding_on c.args.self.now c.args.terms.now.announcement in
     let same : Some (Settled c.bill_number-security.result
-    (credits_for c.args.self.now.submitters.list bidding c.rows.result.now))
+    (settled_for c.args.self.now.submitters.list bidding c.rows.result.now c.find_add_on-add_on.result))
     ≡ settled_in c.args.self.now (Some c.args.terms.now.announcement) =
-    rw (c.bill_number-security.ensures, c.rows.ensures) refl in
+    rw (c.bill_number-security.ensures, c.rows.ensures, c.find_add_on-add_on.ensures) refl in
     subst (λ (next : Option Movement). TellsNext next c.args.self.now.accounts c.credit_awards.new.accounts) same
     (c.credit_awards.ensures.told bidding
     (c.cut_auction-outcome.ensures.cut bidding

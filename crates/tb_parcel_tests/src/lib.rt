@@ -1,0 +1,5 @@
+//! Tests of tb_parcel.
+#![tactic(auto)]
+
+#[cfg(test)]
+mod tests;

@@ -1,8 +1,0 @@
-use Rattle.std.proofs.Common.{◌≡◌, ◌++◌, map, take}
-use Rattle.tb_report.specs.Lines.{text_of}
-use Rattle.tb_report.specs.Lists.{award_words}
-use Rattle.tb_report.proofs.lists.push_awards.Given as goal
-
--- the lines so far
-abbrev pub invariant-loop-award : goal.invariant-loop-award
-invariant-loop-award l = l.text ≡ l.fn.text ++ text_of (map award_words (take l.award-index l.awards))
