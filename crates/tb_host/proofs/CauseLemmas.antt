@@ -10,7 +10,9 @@ use Rattle.tb_desk.specs.declared.fault.OpenFault.{OpenFault}
 use Rattle.tb_desk.specs.declared.fault.OpenFault.TheVariants as fault
 use Rattle.tb_host.specs.AwardRun.{AwardEnds}
 use Rattle.tb_host.specs.DiskRun.{Unopened}
-use Rattle.tb_host.specs.Endings.{ending_of, of_disk, of_migrate, of_print, of_serve, of_text}
+use Rattle.tb_host.specs.Endings.{ending_of, of_disk, of_migrate, of_print, of_send, of_serve, of_take, of_text}
+use Rattle.tb_host.specs.FollowSendRun.{FollowSendEnds}
+use Rattle.tb_host.specs.FollowTakeRun.{FollowTakeEnds}
 use Rattle.tb_host.specs.HostRun.{HasCause, Objects, devices, handed, moved}
 use Rattle.tb_host.specs.ImportRun.{ImportEnds}
 use Rattle.tb_host.specs.MigrateRun.{MigrateEnds}
@@ -24,8 +26,12 @@ use Rattle.tb_host.specs.declared.command_endings.MigrateEnding.{MigrateEnding}
 use Rattle.tb_host.specs.declared.command_endings.MigrateEnding.TheVariants as migrate_ending
 use Rattle.tb_host.specs.declared.command_endings.PrintEnding.{PrintEnding}
 use Rattle.tb_host.specs.declared.command_endings.PrintEnding.TheVariants as print_ending
+use Rattle.tb_host.specs.declared.command_endings.SendEnding.{SendEnding}
+use Rattle.tb_host.specs.declared.command_endings.SendEnding.TheVariants as send_ending
 use Rattle.tb_host.specs.declared.command_endings.ServeEnding.{ServeEnding}
 use Rattle.tb_host.specs.declared.command_endings.ServeEnding.TheVariants as serve_ending
+use Rattle.tb_host.specs.declared.command_endings.TakeEnding.{TakeEnding}
+use Rattle.tb_host.specs.declared.command_endings.TakeEnding.TheVariants as take_ending
 use Rattle.tb_host.specs.declared.command_endings.TextEnding.{TextEnding}
 use Rattle.tb_host.specs.declared.command_endings.TextEnding.TheVariants as text_ending
 use Rattle.tb_host.specs.declared.ending.Ending.{Ending}
@@ -150,6 +156,39 @@ module _ {G K : Type 0} (gate : G → GateState K) (old new : Objects G) where
       HasCause-of ending.OutOfMemory tt
   migrate-cause (migrate_ending.Unmigrated migrate_fault.SpareFault) ends unread =
       HasCause-of ending.DiskFault (inr ends.tells.2)
+
+  send-cause-here : (from : ℕ) (own : DiskEnding SendEnding)
+      → FollowSendEnds from own old.input new.input (devices old) (devices new)
+      → HasCause gate (of_disk of_send own) old new
+  send-cause-here from (disk_ending.Opened send_ending.Done) sent =
+      HasCause-of ending.Done (ap (λ (i : SourceState). i.faults) sent.unread, sent.ends.3.cause)
+  send-cause-here from (disk_ending.Opened send_ending.WriteFault) sent =
+      HasCause-of ending.WriteFault sent.ends.3.cause
+  send-cause-here from (disk_ending.Opened send_ending.DiskFault) sent =
+      HasCause-of ending.DiskFault (inl sent.ends.3.cause)
+  send-cause-here from (disk_ending.Opened (send_ending.Damaged place)) sent = HasCause-of (ending.Damaged place) tt
+  send-cause-here from (disk_ending.Unopened why) sent = unopened-cause why sent.ends.unopened
+
+  -- `follow send`
+  pub send-cause : (from : ℕ) (own : DiskEnding SendEnding) (ended : Ending)
+      → ended ≡ of_disk of_send own
+      → FollowSendEnds from own old.input new.input (devices old) (devices new)
+      → HasCause gate ended old new
+  send-cause from own ended is sent = cause-as ended (of_disk of_send own) is (send-cause-here from own sent)
+
+  -- `follow take`
+  pub take-cause : (own : DiskEnding TakeEnding)
+      → FollowTakeEnds own old.input new.input (devices old) (devices new)
+      → HasCause gate (of_disk of_take own) old new
+  take-cause (disk_ending.Opened take_ending.Done) ends =
+      HasCause-of ending.Done (ends.3.2, ends.3.1.no_fault)
+  take-cause (disk_ending.Opened (take_ending.BadInput number)) ends = HasCause-of (ending.BadInput number) tt
+  take-cause (disk_ending.Opened take_ending.ReadFault) ends = HasCause-of ending.ReadFault ends.3.0.1
+  take-cause (disk_ending.Opened take_ending.WriteFault) ends = HasCause-of ending.WriteFault ends.3.1.rose
+  take-cause (disk_ending.Opened take_ending.DiskFault) ends = HasCause-of ending.DiskFault (inl ends.3.0.1)
+  take-cause (disk_ending.Opened (take_ending.Forked place)) ends = HasCause-of (ending.Forked place) tt
+  take-cause (disk_ending.Opened take_ending.OutOfMemory) ends = HasCause-of ending.OutOfMemory tt
+  take-cause (disk_ending.Unopened why) none = unopened-cause why none.unopened
 
   trial-cause-here : (seed count : ℕ) (own : PrintEnding)
       → TrialEnds seed count own old.out new.out

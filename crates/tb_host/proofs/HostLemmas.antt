@@ -14,7 +14,9 @@ use Rattle.tb_words.specs.declared.command.Command.{Command}
 use Rattle.tb_words.specs.declared.command.Command.TheVariants as command
 use Rattle.tb_words.proofs.OneCommandLemmas.{one_command}
 use Rattle.tb_host.specs.Completeness.{Completes}
-use Rattle.tb_host.specs.Endings.{IsUnopened, ending_of, of_disk, of_migrate, of_print, of_serve, of_text}
+use Rattle.tb_host.specs.Endings.{IsUnopened, ending_of, of_disk, of_migrate, of_print, of_send, of_serve, of_take}
+use Rattle.tb_host.specs.Endings.{of_text}
+use Rattle.tb_host.specs.FollowSendRun.{FollowSendEnds}
 use Rattle.tb_host.specs.HostRun.{EndsAs, Objects, Reports, devices, handed, moved}
 use Rattle.tb_host.specs.ReportRun.{ReportEnds, inquiry}
 use Rattle.tb_host.specs.RunEnds.{Devices, NotBegun}
@@ -24,8 +26,12 @@ use Rattle.tb_host.specs.declared.command_endings.MigrateEnding.{MigrateEnding}
 use Rattle.tb_host.specs.declared.command_endings.MigrateEnding.TheVariants as migrate_ending
 use Rattle.tb_host.specs.declared.command_endings.PrintEnding.{PrintEnding}
 use Rattle.tb_host.specs.declared.command_endings.PrintEnding.TheVariants as print_ending
+use Rattle.tb_host.specs.declared.command_endings.SendEnding.{SendEnding}
+use Rattle.tb_host.specs.declared.command_endings.SendEnding.TheVariants as send_ending
 use Rattle.tb_host.specs.declared.command_endings.ServeEnding.{ServeEnding}
 use Rattle.tb_host.specs.declared.command_endings.ServeEnding.TheVariants as serve_ending
+use Rattle.tb_host.specs.declared.command_endings.TakeEnding.{TakeEnding}
+use Rattle.tb_host.specs.declared.command_endings.TakeEnding.TheVariants as take_ending
 use Rattle.tb_host.specs.declared.command_endings.TextEnding.{TextEnding}
 use Rattle.tb_host.specs.declared.command_endings.TextEnding.TheVariants as text_ending
 use Rattle.tb_host.specs.declared.ending.Ending.{Ending}
@@ -33,6 +39,7 @@ use Rattle.tb_host.specs.declared.ending.Ending.TheVariants as ending
 use Rattle.tb_host.specs.declared.report_command.Inquiry.{Inquiry}
 use Rattle.tb_host.proofs.CompleteLemmas.{award-completes}
 use Rattle.tb_host.proofs.DiskLemmas.{Unopened-untouched}
+use Rattle.tb_host.proofs.FollowEndLemmas.{send-completes, take-completes}
 use Rattle.tb_host.proofs.ImportEndLemmas.{import-completes}
 use Rattle.tb_host.proofs.MigrateLemmas.{migrate-completes, migrate-untouched}
 use Rattle.tb_host.proofs.ReportLemmas.{report-completes}
@@ -92,6 +99,21 @@ print-known print_ending.Done is = cc
 print-known print_ending.WriteFault is = cc
 print-known print_ending.OutOfMemory is = cc
 
+send-known : (own : SendEnding) → ¬ (of_send own ≡ ending.Usage)
+send-known send_ending.Done is = cc
+send-known send_ending.WriteFault is = cc
+send-known send_ending.DiskFault is = cc
+send-known (send_ending.Damaged place) is = cc
+
+take-known : (own : TakeEnding) → ¬ (of_take own ≡ ending.Usage)
+take-known take_ending.Done is = cc
+take-known (take_ending.BadInput number) is = cc
+take-known take_ending.ReadFault is = cc
+take-known take_ending.WriteFault is = cc
+take-known take_ending.DiskFault is = cc
+take-known (take_ending.Forked place) is = cc
+take-known take_ending.OutOfMemory is = cc
+
 unopened-known : (why : OpenFault) → ¬ (ending_of why ≡ ending.Usage)
 unopened-known fault.DiskFault is = cc
 unopened-known (fault.NotAJournal found) is = cc
@@ -145,6 +167,15 @@ module _ {G K : Type 0} (gate : G → GateState K) (source : K → SourceState) 
         subst (λ (a : Inquiry). ReportEnds a own old.input new.input (devices old) (devices new)) asked_is ends,
       )
 
+  -- a sending that was asked by the words of the command
+  pub EndsAs-send : (said : Command) (from : ℕ) (own : DiskEnding SendEnding) (ended : Ending) (old new : Objects G)
+      → said ≡ command.FollowSend from
+      → ended ≡ of_disk of_send own
+      → FollowSendEnds from own old.input new.input (devices old) (devices new)
+      → EndsAs gate source sink said clock ended old new
+  EndsAs-send said from own ended old new said_is is ends =
+      subst (λ (c : Command). EndsAs gate source sink c clock ended old new) (sym said_is) (own, is, ends)
+
   -- where there was no memory to read the words nothing was done
   pub EndsAs-memory : (said : Command) (objects : Objects G)
       → EndsAs gate source sink said clock ending.OutOfMemory objects objects
@@ -182,6 +213,18 @@ module _ {G K : Type 0} (gate : G → GateState K) (source : K → SourceState) 
     refl,
     migrate-untouched (moved objects),
   )
+  EndsAs-memory (command.FollowSend from) objects = (
+    disk_ending.Unopened fault.OutOfMemory,
+    refl,
+    record {
+      ends = not_begun-memory objects.input (devices objects);
+      unread = refl;
+      steps = (Unopened-untouched objects.disk).refused;
+      harmless = (Unopened-untouched objects.disk).harmless;
+    },
+  )
+  EndsAs-memory command.FollowTake objects =
+      (disk_ending.Unopened fault.OutOfMemory, refl, not_begun-memory objects.input (devices objects))
   EndsAs-memory (command.Trial seed count) objects = (print_ending.OutOfMemory, refl, refl)
 
   -- each command is answered
@@ -206,6 +249,12 @@ module _ {G K : Type 0} (gate : G → GateState K) (source : K → SourceState) 
   Completes-here command.Migrate ended old new (own, is, ends) =
       subst (Completes command.Migrate old.input old.disk) (sym is)
       (migrate-completes own old.input (moved old) (moved new) ends)
+  Completes-here (command.FollowSend from) ended old new (own, is, ends) =
+      subst (Completes (command.FollowSend from) old.input old.disk) (sym is)
+      (send-completes from own old.input new.input (devices old) (devices new) ends)
+  Completes-here command.FollowTake ended old new (own, is, ends) =
+      subst (Completes command.FollowTake old.input old.disk) (sym is)
+      (take-completes own old.input new.input (devices old) (devices new) ends)
   Completes-here (command.Trial seed count) ended old new (own, is, ends) =
       subst (Completes (command.Trial seed count) old.input old.disk) (sym is)
       (trial-completes seed count own old.out new.out ends)
@@ -224,4 +273,8 @@ module _ {G K : Type 0} (gate : G → GateState K) (source : K → SourceState) 
   EndsAs-known (command.Report operator caller asked csv) ended old new (own, is, ends) usage =
       disk-known of_print print-known own (sym is ∙ usage)
   EndsAs-known command.Migrate ended old new (own, is, ends) usage = migrate-known own (sym is ∙ usage)
+  EndsAs-known (command.FollowSend from) ended old new (own, is, ends) usage =
+      disk-known of_send send-known own (sym is ∙ usage)
+  EndsAs-known command.FollowTake ended old new (own, is, ends) usage =
+      disk-known of_take take-known own (sym is ∙ usage)
   EndsAs-known (command.Trial seed count) ended old new (own, is, ends) usage = print-known own (sym is ∙ usage)

@@ -33,6 +33,12 @@ mod TrialLemmas
 mod AnswerLemmas
 mod ReportLemmas
 mod MigrateLemmas
+mod ParcelInputLemmas
+mod FollowSendLemmas
+mod FollowTakeLemmas
+mod ParcelTextLemmas
+mod FollowGroupLemmas
+mod FollowEndLemmas
 mod OneHistoryLemmas
 mod HeadlineLemmas
 mod WriteLemmas

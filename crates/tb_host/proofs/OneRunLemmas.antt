@@ -8,8 +8,6 @@ use Rattle.tb_link.specs.Counts.{last_count}
 use Rattle.tb_desk.specs.Turn.{group}
 use Rattle.tb_desk.specs.declared.reply.Reply.{Reply}
 use Rattle.tb_desk.specs.declared.reply.Reply.TheVariants as turned
-use Rattle.tb_terms.specs.declared.announcement.Announcement.{Announcement}
-use Rattle.tb_terms.specs.declared.cusip.Cusip.{Cusip}
 use Rattle.tb_terms.specs.declared.refusal.Refusal.{Refusal}
 use Rattle.tb_message.specs.Keys.{key_of}
 use Rattle.tb_message.specs.Requests.{AnswerOf, FaultOf, request_in}
@@ -17,7 +15,6 @@ use Rattle.tb_message.specs.declared.key.Key.{Key}
 use Rattle.tb_message.specs.declared.message.Entry.{Entry}
 use Rattle.tb_message.specs.declared.message.Message.{Message}
 use Rattle.tb_message.specs.declared.query.Query.{Query}
-use Rattle.tb_message.specs.declared.query.Query.TheVariants as query
 use Rattle.tb_message.specs.declared.query.ReadFault.{ReadFault}
 use Rattle.tb_message.specs.declared.query.ReadFault.TheVariants as fault
 use Rattle.tb_message.specs.declared.query.Request.{Request}
@@ -26,11 +23,7 @@ use Rattle.tb_message.proofs.OneRequest.{one_asked}
 use Rattle.tb_history.specs.Answer.{caller_of, query_refusal}
 use Rattle.tb_history.specs.Legal.{running}
 use Rattle.tb_history.specs.Verdict.{verdict_on}
-use Rattle.tb_history.specs.Readings.{IsReading, AreResults, AreAwards}
-use Rattle.tb_history.specs.Holdings.{bidding_in}
 use Rattle.tb_history.specs.Roster.{registrations}
-use Rattle.tb_history.specs.declared.reading.Reading.{Reading}
-use Rattle.tb_history.specs.declared.reading.Reading.TheVariants as reading
 use Rattle.tb_history.proofs.ReadingLemmas.{IsReading-one}
 use Rattle.std.specs.List.{after_first, before_first}
 use Rattle.tb_host.specs.Fields.{is_blank}

@@ -17,4 +17,6 @@ HasGates-planned (command.Serve operator port workers links) plan gates planned 
 HasGates-planned (command.Import operator caller) plan gates planned as_many = tt
 HasGates-planned (command.Report operator caller asked csv) plan gates planned as_many = tt
 HasGates-planned command.Migrate plan gates planned as_many = tt
+HasGates-planned (command.FollowSend from) plan gates planned as_many = tt
+HasGates-planned command.FollowTake plan gates planned as_many = tt
 HasGates-planned (command.Trial seed count) plan gates planned as_many = tt

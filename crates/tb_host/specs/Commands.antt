@@ -23,7 +23,15 @@ uses_of (command.Import operator caller) = record { input = true; out = true; di
 uses_of (command.Report operator caller asked csv) =
     record { input = false; out = true; disk = true; spare = false; gates = false }
 uses_of command.Migrate = record { input = false; out = true; disk = true; spare = true; gates = false }
+uses_of (command.FollowSend from) = record { input = false; out = true; disk = true; spare = false; gates = false }
+uses_of command.FollowTake = record { input = true; out = true; disk = true; spare = false; gates = false }
 uses_of (command.Trial seed count) = record { input = false; out = true; disk = false; spare = false; gates = false }
+
+-- a fault of the disk ends it behind the opening too
+abbrev pub ends_at_fault : Command → Bool
+ends_at_fault (command.FollowSend from) = true
+ends_at_fault command.FollowTake = true
+ends_at_fault other = false
 
 -- an object that isn't used is as it was
 abbrev pub Stays : {A : Type 0} → Bool → A → A → Type 0

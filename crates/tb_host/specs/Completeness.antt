@@ -1,18 +1,22 @@
 -- Which endings a command may have, by what its input and its disk tell.
-use Rattle.std.specs.Prelude.{◌≡◌, ◌⊎◌, ℕ, List, Err, IfSome}
+use Rattle.std.specs.Prelude.{◌≡◌, ◌⊎◌, ℕ, List, [], ◌∷◌, ◌++◌, Ok, Err, IfSome}
 use Rattle.std.specs.Str.Lines.{lines}
 use Rattle.tb_link.specs.Sources.{SourceState}
 use Rattle.tb_disk.specs.Disks.{DiskState}
 use Rattle.tb_disk.specs.Past.{contents_of}
-use Rattle.tb_desk.specs.Replay.{IsTrueIn, SpeaksOfFile}
+use Rattle.tb_desk.specs.Replay.{IsExact, IsTrueIn, SpeaksOfFile}
 use Rattle.tb_desk.specs.declared.fault.OpenFault.{OpenFault}
+use Rattle.tb_message.specs.declared.message.Entry.{Entry}
 use Rattle.tb_message.specs.declared.version.Version.{Version}
 use Rattle.tb_message.specs.declared.version.Version.TheVariants.{First, Second}
 use Rattle.tb_import.specs.Tables.{IsFirstBad, IsTable}
+use Rattle.tb_parcel.specs.declared.parcel.Parcel.{Parcel}
+use Rattle.tb_replica.specs.declared.taken.TakeFault.TheVariants as fault
 use Rattle.tb_words.specs.declared.command.Command.{Command}
 use Rattle.tb_words.specs.declared.command.Command.TheVariants as command
 use Rattle.tb_host.specs.Books.{HasBadLine, HasBook}
 use Rattle.tb_host.specs.Endings.{ending_of}
+use Rattle.tb_host.specs.FollowTakeRun.{BreaksAt, IsFirstBadParcel, IsParcels, bytes_of}
 use Rattle.tb_host.specs.HostRun.{HasHistoryIn}
 use Rattle.tb_host.specs.ImportRun.{SentRow}
 use Rattle.tb_host.specs.Scripts.{HasScript, LeavesScript}
@@ -59,6 +63,31 @@ pub record AnswersScript (ended : Ending) (IsIn IsOutside : Type 0) : Type 0 whe
   pub answered : IsIn → LackedInput ended ⊎ IsAnswered ended
   pub refused : IsOutside → LackedInput ended ⊎ (ended ≡ ending.WriteFault) ⊎ IsRefused ended
 
+-- the disk failed, or memory ran out
+abbrev pub LackedDisk : Ending → Type 0
+LackedDisk ended = (ended ≡ ending.DiskFault) ⊎ LackedMemory ended
+
+-- one of the parcels of a text is a fork of the history that the disk stands for, and is told
+pub record IsForked (disk : DiskState) (text : List ℕ) (ended : Ending) : Type 0 where
+  pub place : ℕ
+  pub told : ended ≡ ending.Forked place
+  pub history : List Entry
+  pub stood : IfSome disk.past (λ past. IsExact (contents_of past) (Ok history))
+  pub parcels : List Parcel
+  pub parcel : Parcel
+  pub last : List Entry
+  pub forks : BreaksAt (fault.Forked place) parcels parcel history last
+  pub rest : List ℕ
+  pub is : text ≡ bytes_of (parcels ++ parcel ∷ []) ++ rest
+
+-- Parcels are all taken, unless the input or the disk fails or one of them is a fork; and a text with a bad one is
+-- refused.
+pub record AnswersParcels (disk : DiskState) (text : List ℕ) (ended : Ending) : Type 0 where
+  pub answered : (parcels : List Parcel) → IsParcels parcels text
+      → LackedDisk ended ⊎ (ended ≡ ending.ReadFault) ⊎ IsForked disk text ended ⊎ IsAnswered ended
+  pub refused : (number : ℕ) (parcels : List Parcel) → IsFirstBadParcel number parcels text
+      → LackedDisk ended ⊎ (ended ≡ ending.ReadFault) ⊎ IsForked disk text ended ⊎ (ended ≡ ending.BadInput number)
+
 -- Each command is answered: its input and its disk decide how it ends, unless an object fails or memory runs out.
 abbrev pub Completes : Command → SourceState → DiskState → Ending → Type 0
 Completes (command.Award full) input disk ended =
@@ -73,4 +102,7 @@ Completes (command.Import operator caller) input disk ended =
     ((number : ℕ) × IsFirstBad text number)))
 Completes (command.Report operator caller asked csv) input disk ended = Opens disk ended (IsAnswered ended)
 Completes command.Migrate input disk ended = OpensIn First disk ended (IsAnswered ended)
+Completes (command.FollowSend from) input disk ended = Opens disk ended ((ended ≡ ending.DiskFault) ⊎ IsAnswered ended)
+Completes command.FollowTake input disk ended =
+    Opens disk ended (WhereTold input.left (λ text. AnswersParcels disk text ended))
 Completes (command.Trial seed count) input disk ended = IsAnswered ended

@@ -13,8 +13,12 @@ use Rattle.tb_host.specs.declared.command_endings.MigrateEnding.{MigrateEnding}
 use Rattle.tb_host.specs.declared.command_endings.MigrateEnding.TheVariants as migrate_ending
 use Rattle.tb_host.specs.declared.command_endings.PrintEnding.{PrintEnding}
 use Rattle.tb_host.specs.declared.command_endings.PrintEnding.TheVariants as print_ending
+use Rattle.tb_host.specs.declared.command_endings.SendEnding.{SendEnding}
+use Rattle.tb_host.specs.declared.command_endings.SendEnding.TheVariants as send_ending
 use Rattle.tb_host.specs.declared.command_endings.ServeEnding.{ServeEnding}
 use Rattle.tb_host.specs.declared.command_endings.ServeEnding.TheVariants as serve_ending
+use Rattle.tb_host.specs.declared.command_endings.TakeEnding.{TakeEnding}
+use Rattle.tb_host.specs.declared.command_endings.TakeEnding.TheVariants as take_ending
 use Rattle.tb_host.specs.declared.command_endings.TextEnding.{TextEnding}
 use Rattle.tb_host.specs.declared.command_endings.TextEnding.TheVariants as text_ending
 use Rattle.tb_host.specs.declared.ending.Ending.{Ending}
@@ -33,6 +37,7 @@ status_of (ending.Damaged place) = 8
 status_of ending.OutOfMemory = 9
 status_of ending.GateFault = 10
 status_of (ending.Unsealed byte) = 11
+status_of (ending.Forked place) = 14
 
 -- the ending where the desk wasn't opened
 abbrev pub ending_of : OpenFault → Ending
@@ -68,6 +73,23 @@ of_migrate migrate_ending.WriteFault = ending.WriteFault
 of_migrate (migrate_ending.Unmigrated (migrate_fault.From why)) = ending_of why
 of_migrate (migrate_ending.Unmigrated migrate_fault.SpareFault) = ending.DiskFault
 
+-- where `follow send` did, on a desk
+abbrev pub of_send : SendEnding → Ending
+of_send send_ending.Done = ending.Done
+of_send send_ending.WriteFault = ending.WriteFault
+of_send send_ending.DiskFault = ending.DiskFault
+of_send (send_ending.Damaged place) = ending.Damaged place
+
+-- where `follow take` did, with a copy that was opened
+abbrev pub of_take : TakeEnding → Ending
+of_take take_ending.Done = ending.Done
+of_take (take_ending.BadInput number) = ending.BadInput number
+of_take take_ending.ReadFault = ending.ReadFault
+of_take take_ending.WriteFault = ending.WriteFault
+of_take take_ending.DiskFault = ending.DiskFault
+of_take (take_ending.Forked place) = ending.Forked place
+of_take take_ending.OutOfMemory = ending.OutOfMemory
+
 -- where `serve` did
 abbrev pub of_serve : ServeEnding → Ending
 of_serve serve_ending.Done = ending.Done
@@ -75,7 +97,7 @@ of_serve serve_ending.WriteFault = ending.WriteFault
 of_serve serve_ending.GateFault = ending.GateFault
 of_serve (serve_ending.Unserved why) = ending_of why
 
--- the disk failed, or was refused, before anything was read
+-- the disk failed, or was refused: but for `follow` before anything was read
 abbrev pub IsUnopened : Ending → Type 0
 IsUnopened ending.DiskFault = Unit {0}
 IsUnopened (ending.NotAJournal found) = Unit {0}
@@ -104,6 +126,7 @@ message_of (ending.Damaged place) = codes "damaged at " ++ decimal place ++ line
 message_of ending.OutOfMemory = codes "out of memory" ++ line_feed ∷ []
 message_of ending.GateFault = codes "gate fault" ++ line_feed ∷ []
 message_of (ending.Unsealed byte) = codes "unsealed " ++ hexadecimal (byte ∷ []) ++ line_feed ∷ []
+message_of (ending.Forked place) = codes "forked at " ++ decimal place ++ line_feed ∷ []
 
 -- the sink has taken the message whole, or failed and has taken a prefix of it
 abbrev pub Tells : SinkState → SinkState → List ℕ → Type 0

@@ -13,6 +13,8 @@ use Rattle.tb_message.specs.declared.version.Version.TheVariants.{Second}
 use Rattle.tb_history.specs.Legal.{IsLegal}
 use Rattle.tb_desk.specs.Stands.{StandsForHistoryIn}
 use Rattle.tb_host.specs.AwardRun.{AwardEnds}
+use Rattle.tb_host.specs.FollowSendRun.{FollowSendEnds}
+use Rattle.tb_host.specs.FollowTakeRun.{FollowTakeEnds}
 use Rattle.tb_host.specs.ImportRun.{ImportEnds}
 use Rattle.tb_host.specs.MigrateRun.{MigrateEnds, Moved}
 use Rattle.tb_host.specs.ReportRun.{ReportEnds, inquiry}
@@ -21,7 +23,8 @@ use Rattle.tb_host.specs.ServeRun.{Handed, OneRose, ServeEnds}
 use Rattle.tb_host.specs.TrialRun.{TrialEnds}
 use Rattle.tb_words.specs.declared.command.Command.{Command}
 use Rattle.tb_words.specs.declared.command.Command.TheVariants as command
-use Rattle.tb_host.specs.Endings.{Tells, message_of, of_disk, of_migrate, of_print, of_serve, of_text, status_of}
+use Rattle.tb_host.specs.Endings.{Tells, message_of, of_disk, of_migrate, of_print, of_send, of_serve, of_take}
+use Rattle.tb_host.specs.Endings.{of_text, status_of}
 use Rattle.tb_host.specs.declared.ending.Ending.{Ending}
 use Rattle.tb_host.specs.declared.ending.Ending.TheVariants as ending
 
@@ -67,6 +70,10 @@ module _ {G K : Type 0} (gate : G → GateState K) (source : K → SourceState) 
       (devices old) (devices new))
   EndsAs command.Migrate clock ended old new =
       Ends of_migrate ended (λ own. MigrateEnds own (moved old) (moved new))
+  EndsAs (command.FollowSend from) clock ended old new =
+      Ends (of_disk of_send) ended (λ own. FollowSendEnds from own old.input new.input (devices old) (devices new))
+  EndsAs command.FollowTake clock ended old new =
+      Ends (of_disk of_take) ended (λ own. FollowTakeEnds own old.input new.input (devices old) (devices new))
   EndsAs (command.Trial seed count) clock ended old new =
       Ends of_print ended (λ own. TrialEnds seed count own old.out new.out)
 

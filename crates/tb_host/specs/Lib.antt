@@ -32,6 +32,10 @@ pub mod ReportRun
 pub mod ImportRun
 pub mod ImportSteps
 pub mod MigrateRun
+pub mod ParcelInput
+pub mod FollowTakeRun
+pub mod FollowSendRun
+pub mod FollowSteps
 pub mod TableInput
 pub mod Headline
 pub mod ScriptHeadline

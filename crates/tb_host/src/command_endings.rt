@@ -1,6 +1,6 @@
 //! How each command ends: the endings that it has, and no others.
 ghost use Rattle.std.specs.Prelude.{◌≡◌};
-ghost use Rattle.tb_host.specs.Endings.{of_disk, of_migrate, of_print, of_serve, of_text};
+ghost use Rattle.tb_host.specs.Endings.{of_disk, of_migrate, of_print, of_send, of_serve, of_take, of_text};
 
 use crate::ending::Ending;
 use tb_desk::{MigrateFault, OpenFault};
@@ -40,6 +40,30 @@ pub enum MigrateEnding {
     WriteFault,
     /// The journal wasn't migrated.
     Unmigrated(MigrateFault),
+}
+
+/// How `follow send` ends on a desk that was opened.
+#[derive(Clone, Copy, Debug, PartialEq, Eq)]
+pub enum SendEnding {
+    Done,
+    WriteFault,
+    DiskFault,
+    /// The group at this place reads otherwise than it was opened.
+    Damaged(u64),
+}
+
+/// How `follow take` ends with a copy that was opened.
+#[derive(Clone, Copy, Debug, PartialEq, Eq)]
+pub enum TakeEnding {
+    Done,
+    /// The parcel of this number, counted from 1, is the first that is none.
+    BadInput(u64),
+    ReadFault,
+    WriteFault,
+    DiskFault,
+    /// The parcel of this place can't be of the history that is followed.
+    Forked(u64),
+    OutOfMemory,
 }
 
 /// How `serve` ends.
@@ -115,6 +139,61 @@ impl MigrateEnding {
             MigrateEnding::WriteFault => Ending::WriteFault,
             MigrateEnding::Unmigrated(MigrateFault::From(fault)) => Ending::of(fault),
             MigrateEnding::Unmigrated(MigrateFault::SpareFault) => Ending::DiskFault,
+        }
+    }
+}
+
+impl SendEnding {
+    /// How the program ends then.
+    pub fn ending(self) -> Ending
+        ensures { result ≡ of_send self }
+    {
+        match self {
+            SendEnding::Done => Ending::Done,
+            SendEnding::WriteFault => Ending::WriteFault,
+            SendEnding::DiskFault => Ending::DiskFault,
+            SendEnding::Damaged(place) => Ending::Damaged(place),
+        }
+    }
+}
+
+impl TakeEnding {
+    /// How the program ends then.
+    pub fn ending(self) -> Ending
+        ensures { result ≡ of_take self }
+    {
+        match self {
+            TakeEnding::Done => Ending::Done,
+            TakeEnding::BadInput(number) => Ending::BadInput(number),
+            TakeEnding::ReadFault => Ending::ReadFault,
+            TakeEnding::WriteFault => Ending::WriteFault,
+            TakeEnding::DiskFault => Ending::DiskFault,
+            TakeEnding::Forked(place) => Ending::Forked(place),
+            TakeEnding::OutOfMemory => Ending::OutOfMemory,
+        }
+    }
+}
+
+impl DiskEnding<SendEnding> {
+    /// How the program ends then.
+    pub fn ending(self) -> Ending
+        ensures { result ≡ of_disk of_send self }
+    {
+        match self {
+            DiskEnding::Opened(own) => own.ending(),
+            DiskEnding::Unopened(fault) => Ending::of(fault),
+        }
+    }
+}
+
+impl DiskEnding<TakeEnding> {
+    /// How the program ends then.
+    pub fn ending(self) -> Ending
+        ensures { result ≡ of_disk of_take self }
+    {
+        match self {
+            DiskEnding::Opened(own) => own.ending(),
+            DiskEnding::Unopened(fault) => Ending::of(fault),
         }
     }
 }

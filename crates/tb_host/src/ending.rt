@@ -17,7 +17,7 @@ pub enum Ending {
     BadInput(u64),
     ReadFault,
     WriteFault,
-    /// The disk failed before the first line was read.
+    /// The disk failed: before anything was read or written, but for `follow`.
     DiskFault,
     /// The disk has more than 18 bytes that don't begin with a journal's header, but with these.
     NotAJournal([u8; 16]),
@@ -28,6 +28,8 @@ pub enum Ending {
     GateFault,
     /// The disk has more than 18 bytes with a journal's header, and this byte, which isn't 1, in the place of its seal.
     Unsealed(u8),
+    /// The parcel of this place can't be of the history that is followed.
+    Forked(u64),
 }
 
 impl Ending {
@@ -60,6 +62,7 @@ impl Ending {
             Ending::OutOfMemory => 9,
             Ending::GateFault => 10,
             Ending::Unsealed(_) => 11,
+            Ending::Forked(_) => 14,
         }
     }
 
@@ -79,6 +82,7 @@ impl Ending {
             Ending::OutOfMemory => text(b"out of memory\n"),
             Ending::GateFault => text(b"gate fault\n"),
             Ending::Unsealed(byte) => unsealed(byte),
+            Ending::Forked(place) => forked(place),
         }
     }
 }
@@ -136,6 +140,15 @@ fn damaged(place: u64) -> Short
     ensures { result ≡ message_of (ending.Damaged place) }
 {
     let mut message = text(b"damaged at ");
+    push_text(&mut message, Short::whole(place as u128).bytes());
+    message.push(b'\n');
+    message
+}
+
+fn forked(place: u64) -> Short
+    ensures { result ≡ message_of (ending.Forked place) }
+{
+    let mut message = text(b"forked at ");
     push_text(&mut message, Short::whole(place as u128).bytes());
     message.push(b'\n');
     message

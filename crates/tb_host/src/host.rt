@@ -1,8 +1,8 @@
 //! The top call: it does all that the program does.
-ghost use Rattle.std.specs.Prelude.{◌≡◌, ◌↔◌, ◌≤◌, true, List, map, string_bytes, vec_len};
+ghost use Rattle.std.specs.Prelude.{◌≡◌, ◌↔◌, ◌≤◌, true, false, List, map, string_bytes, vec_len};
 ghost use Rattle.tb_words.specs.Commands.{AreCommand, AreWordsOf, IsInRange};
 ghost use Rattle.tb_words.specs.declared.command.Command as declared;
-ghost use Rattle.tb_host.specs.Commands.{HasGates, Stays, uses_of};
+ghost use Rattle.tb_host.specs.Commands.{HasGates, Stays, ends_at_fault, uses_of};
 ghost use Rattle.tb_host.specs.Completeness.{Completes};
 ghost use Rattle.tb_host.specs.Endings.{IsUnopened, status_of};
 ghost use Rattle.tb_host.specs.HostRun.{EndsAs, EndsWith, HasCause, Reports};
@@ -10,6 +10,8 @@ ghost use Rattle.tb_host.specs.ReportRun as spec;
 
 use crate::award_command::award;
 use crate::ending::Ending;
+use crate::follow_send_command::follow_send;
+use crate::follow_take_command::follow_take;
 use crate::import_command::import;
 use crate::migrate_command::migrate;
 use crate::report_command::{Inquiry, report};
@@ -37,13 +39,14 @@ pub struct Ended<D: Disk> {
 /// Does the command that the words are, tells `err` how it ended, and answers the status and the disk.
 ///
 /// 0: done. 2: the words are outside the command set. 3: the first line outside the grammar was reached, and is told.
-/// 4: the input failed. 5: the output failed. 6: the disk failed while it was opened. 7: the disk holds no journal;
-/// what it begins with is told. 8: the journal is damaged; the place is told. 9: out of memory. 10: a gate failed. 11:
-/// the journal isn't sealed; the byte in the seal's place is told.
+/// 4: the input failed. 5: the output failed. 6: the disk failed while it was opened, or under `follow`. 7: the disk
+/// holds no journal; what it begins with is told. 8: the journal is damaged; the place is told. 9: out of memory. 10: a
+/// gate failed. 11: the journal isn't sealed; the byte in the seal's place is told. 14: a parcel is a fork; its place is
+/// told.
 ///
-/// `run`, `import`, `report` and `serve` work on the journal that `disk` holds. `migrate` reads the journal of the first
-/// version that it holds, and writes into `spare`, which no other command touches. `serve` alone touches the gates, of
-/// which there are as many as its words say; it and `import` read the clock.
+/// `run`, `import`, `report`, `follow` and `serve` work on the journal that `disk` holds. `migrate` reads the journal of
+/// the first version that it holds, and writes into `spare`, which no other command touches. `serve` alone touches the
+/// gates, of which there are as many as its words say; it and `import` read the clock.
 pub fn host_main<
     D: Disk + Send + Drop,
     G: Gate + Send + Drop,
@@ -67,7 +70,8 @@ pub fn host_main<
     requires gates { (said : declared.Command) → AreWordsOf said (map string_bytes words.now)
         → HasGates said (vec_len gates.old) }
     // Where the words are a command, it ends as its record says (`AwardEnds`, `RunEnds`, `ServeEnds`, `ImportEnds`,
-    // `ReportEnds`, `MigrateEnds`, `TrialEnds`), with the status of that ending, which is told.
+    // `ReportEnds`, `MigrateEnds`, `FollowSendEnds`, `FollowTakeEnds`, `TrialEnds`), with the status of that ending,
+    // which is told.
     ensures ends { (said : declared.Command) → AreWordsOf said (map string_bytes words.now)
         → EndsWith result.status (E.sink err.old) (E.sink err.new) (λ ended.
         EndsAs G.gate G.Conn.source G.Conn.sink said (C.clock clock) ended
@@ -100,8 +104,11 @@ pub fn host_main<
         × Stays (uses_of said).disk disk result.disk
         × Stays (uses_of said).spare spare.old spare.new
         × Stays (uses_of said).gates gates.old gates.new }
-    // Where the disk wasn't opened neither input nor output was touched.
-    ensures unread { (ended : Ending) → IsUnopened ended → result.status ≡ status_of ended
+    // Where the disk wasn't opened neither input nor output was touched. A fault of the disk may end `follow` later too:
+    // its records say what was read and written then.
+    ensures unread { (said : declared.Command) → AreWordsOf said (map string_bytes words.now)
+        → ends_at_fault said ≡ false
+        → (ended : Ending) → IsUnopened ended → result.status ≡ status_of ended
         → (input.new ≡ input.old) × (O.sink out.new ≡ O.sink out.old) }
     // 2 is the status of other words, and of no command; then nothing is touched.
     ensures usage { (result.status ≡ 2) ↔ (¬ (AreCommand (map string_bytes words.now))) }
@@ -163,7 +170,9 @@ fn any_command<
         × Stays (uses_of said).disk disk result.1
         × Stays (uses_of said).spare spare.old spare.new
         × Stays (uses_of said).gates gates.old gates.new }
-    ensures unread { IsUnopened result.0 → (input.new ≡ input.old) × (O.sink out.new ≡ O.sink out.old) }
+    ensures unread { (said : declared.Command) → AreWordsOf said (map string_bytes words.now)
+        → ends_at_fault said ≡ false
+        → IsUnopened result.0 → (input.new ≡ input.old) × (O.sink out.new ≡ O.sink out.old) }
     ensures usage { (result.0 ≡ Ending.Usage) ↔ (¬ (AreCommand (map string_bytes words.now))) }
     ensures untouched { result.0 ≡ Ending.Usage
         → (input.new ≡ input.old) × (out.new ≡ out.old) × (result.1 ≡ disk) × (spare.new ≡ spare.old)
@@ -220,7 +229,8 @@ fn do_command<
         × Stays (uses_of command.now).disk disk result.1
         × Stays (uses_of command.now).spare spare.old spare.new
         × Stays (uses_of command.now).gates gates.old gates.new }
-    ensures unread { IsUnopened result.0 → (input.new ≡ input.old) × (O.sink out.new ≡ O.sink out.old) }
+    ensures unread { ends_at_fault command.now ≡ false → IsUnopened result.0
+        → (input.new ≡ input.old) × (O.sink out.new ≡ O.sink out.old) }
 {
     match command {
         Command::Award { full } => (award(alloc, *full, input, out).ending(), disk),
@@ -250,6 +260,14 @@ fn do_command<
         }
         Command::Migrate => {
             let (own, disk) = migrate(alloc, out, disk, spare);
+            (own.ending(), disk)
+        }
+        Command::FollowSend { from } => {
+            let (own, disk) = follow_send(alloc, *from, out, disk);
+            (own.ending(), disk)
+        }
+        Command::FollowTake => {
+            let (own, disk) = follow_take(alloc, input, out, disk);
             (own.ending(), disk)
         }
         Command::Trial { seed, count } => (trial(alloc, *seed, *count, out).ending(), disk),

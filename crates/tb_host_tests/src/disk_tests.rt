@@ -13,7 +13,7 @@ use tb_disk::MemoryDisk;
 
 /// The journal after the first message of the ordinary auction: the header, the seal, an open gate, the length of the
 /// record, the number of frames before it, the record, and a closed gate.
-const ONE_ENTRY: &[u8] = b"TBHOSTJOURNAL002\x01\
+pub const ONE_ENTRY: &[u8] = b"TBHOSTJOURNAL002\x01\
     \x01\0\0\0\x25\0\0\0\0\0\0\0\0\
     \x08operator\0\0\0\0\0\0\0\x01\0\0\0\0\x67\x28\x62\xe0\x01\x07dealer1\x02k1\
     \0";

@@ -7,6 +7,8 @@ mod account_tests;
 #[cfg(test)]
 mod disk_tests;
 #[cfg(test)]
+mod follow_tests;
+#[cfg(test)]
 mod import_tests;
 #[cfg(test)]
 mod opening;

@@ -113,6 +113,17 @@ one_spelled (command.Report operator caller asked csv)
     let switches : csv ≡ switch = one_switch csv switch (sym is_one.line.switch ∙ is_other.line.switch) in
     cc (names, keys, queries, switches)
 one_spelled command.Migrate command.Migrate items named is_one is_other = refl
+one_spelled (command.FollowSend from) (command.FollowSend place) items named is_one is_other =
+    let same : codes "send" ∷ decimal from ∷ [] ≡ codes "send" ∷ decimal place ∷ [] =
+    sym is_one.line.places ∙ is_other.line.places in
+    ap command.FollowSend (decimal_injective from place is_one.in_range is_other.in_range (cc (same)))
+one_spelled (command.FollowSend from) command.FollowTake items named is_one is_other =
+    let same : codes "send" ∷ decimal from ∷ [] ≡ codes "take" ∷ [] = sym is_one.line.places ∙ is_other.line.places in
+    absurd (cc (same))
+one_spelled command.FollowTake (command.FollowSend from) items named is_one is_other =
+    let same : codes "take" ∷ [] ≡ codes "send" ∷ decimal from ∷ [] = sym is_one.line.places ∙ is_other.line.places in
+    absurd (cc (same))
+one_spelled command.FollowTake command.FollowTake items named is_one is_other = refl
 one_spelled (command.Trial seed count) (command.Trial start size) items named is_one is_other =
     let same : decimal seed ∷ decimal count ∷ [] ≡ decimal start ∷ decimal size ∷ [] =
     sym is_one.line.places ∙ is_other.line.places in

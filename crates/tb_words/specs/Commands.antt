@@ -60,6 +60,8 @@ name_of (command.Serve operator port workers links) = codes "serve"
 name_of (command.Import operator caller) = codes "import"
 name_of (command.Report operator caller asked csv) = codes "report"
 name_of command.Migrate = codes "migrate"
+name_of (command.FollowSend from) = codes "follow"
+name_of command.FollowTake = codes "follow"
 name_of (command.Trial seed count) = codes "trial"
 
 -- what stands behind it
@@ -84,6 +86,8 @@ line_of (command.Report operator caller asked csv) = record {
   csv = csv;
 }
 line_of command.Migrate = record { places = []; options = []; csv = false }
+line_of (command.FollowSend from) = record { places = codes "send" ∷ decimal from ∷ []; options = []; csv = false }
+line_of command.FollowTake = record { places = codes "take" ∷ []; options = []; csv = false }
 line_of (command.Trial seed count) = record { places = decimal seed ∷ decimal count ∷ []; options = []; csv = false }
 
 -- names are names, numbers are in their ranges, and a table is asked for where there is one
@@ -99,6 +103,8 @@ IsInRange (command.Import operator caller) = (is_name operator ≡ true) × IsKe
 IsInRange (command.Report operator caller asked csv) =
     (is_name operator ≡ true) × IsKey caller × IsQuery asked × (csv ≡ true → has_table asked ≡ true)
 IsInRange command.Migrate = ⊤
+IsInRange (command.FollowSend from) = from < 2 ^ 64
+IsInRange command.FollowTake = ⊤
 IsInRange (command.Trial seed count) = (seed < 2 ^ 64) × ((1 ≤ count) × (count ≤ 10 ^ 6))
 
 -- the items behind the command's name are those of the command, whose values are in their ranges

@@ -32,6 +32,7 @@ fn host<'a>(alloc: Global) -> Result<clap::Command<'a>, AllocError> {
         .subcommand(import(alloc)?)?
         .subcommand(report(alloc)?)?
         .subcommand(clap::Command::new(alloc, "migrate"))?
+        .subcommand(follow(alloc)?)?
         .subcommand(trial(alloc)?)
 }
 
@@ -70,6 +71,12 @@ fn report<'a>(alloc: Global) -> Result<clap::Command<'a>, AllocError> {
         )
 }
 
+fn follow<'a>(alloc: Global) -> Result<clap::Command<'a>, AllocError> {
+    clap::Command::new(alloc, "follow")
+        .arg(place(alloc, "way"))?
+        .arg(Arg::new(alloc, "from"))
+}
+
 fn trial<'a>(alloc: Global) -> Result<clap::Command<'a>, AllocError> {
     clap::Command::new(alloc, "trial")
         .arg(place(alloc, "seed"))?
@@ -104,6 +111,8 @@ fn said(matches: &ArgMatches<'_>) -> Option<Command> {
         said_report(given)
     } else if name == "migrate" {
         Some(Command::Migrate)
+    } else if name == "follow" {
+        said_follow(given)
     } else {
         Some(Command::Trial {
             seed: number(given, "seed", 0, u64::MAX)?,
@@ -152,6 +161,18 @@ fn said_query(given: &ArgMatches<'_>) -> Option<Query> {
     match given.get_str("named") {
         None => asked(Places::One(kind)),
         Some(named) => asked(Places::Two(kind, named)),
+    }
+}
+
+fn said_follow(given: &ArgMatches<'_>) -> Option<Command> {
+    let way = given.get_str("way")?;
+    match given.get_str("from") {
+        None if way == "take" => Some(Command::FollowTake),
+        Some(from) if way == "send" => {
+            let from = read_within(from, 0, u64::MAX)?;
+            Some(Command::FollowSend { from })
+        }
+        _ => None,
     }
 }
 

@@ -34,6 +34,12 @@ pub enum Command {
     },
     /// Migrates the journal of the first version into the spare.
     Migrate,
+    /// Sends a standby the parcels of all entries from this place on.
+    FollowSend {
+        from: u64,
+    },
+    /// Takes parcels, as a standby.
+    FollowTake,
     /// Runs an auction of so many bids that follow from a seed.
     Trial {
         seed: u64,

@@ -38,6 +38,8 @@ fn read_named(name: &str, words: &[String]) -> Option<Command>
         report(words)
     } else if name == "migrate" {
         migrate(words)
+    } else if name == "follow" {
+        follow(words)
     } else if name == "trial" {
         trial(words)
     } else {
@@ -117,6 +119,19 @@ fn migrate(words: &[String]) -> Option<Command>
 {
     match places_alone(words)? {
         Places::Nothing => Some(Command::Migrate),
+        _ => None,
+    }
+}
+
+fn follow(words: &[String]) -> Option<Command>
+    ensures { IsReadAs (codes "follow") (map string_bytes words.now) result }
+{
+    match places_alone(words)? {
+        Places::One(way) if way == "take" => Some(Command::FollowTake),
+        Places::Two(way, from) if way == "send" => {
+            let from = read_within(from, 0, u64::MAX)?;
+            Some(Command::FollowSend { from })
+        }
         _ => None,
     }
 }

@@ -125,6 +125,14 @@ fn commands_have_their_values(rt: HostRuntime) {
         )
     );
     assert!(rt; reads_as(&rt, "migrate", Ok(Command::Migrate)));
+    assert!(rt;
+        reads_as(
+            &rt,
+            "follow send 18446744073709551615",
+            Ok(Command::FollowSend { from: u64::MAX }),
+        )
+    );
+    assert!(rt; reads_as(&rt, "follow take", Ok(Command::FollowTake)));
     assert!(rt; reads_as(&rt, "award more", Err(WordsFault::Usage)));
 }
 
@@ -145,6 +153,8 @@ fn lines_inside_the_set_are_taken_by_both(rt: HostRuntime) {
     assert!(rt; taken(&rt, "import --op root --key k1"));
     assert!(rt; taken(&rt, "import --key=op:root --op=root"));
     assert!(rt; taken(&rt, "migrate"));
+    assert!(rt; taken(&rt, "follow send 0"));
+    assert!(rt; taken(&rt, "follow take"));
     assert!(rt; taken(&rt, "trial 1 1"));
     assert!(rt; taken(&rt, "trial 0 1000000"));
 }
@@ -217,6 +227,19 @@ fn words_of_serve_migrate_and_trial_outside_the_set(rt: HostRuntime) {
     assert!(rt; refused(&rt, "trial 18446744073709551616 1"));
     assert!(rt; refused(&rt, "trial 1 1 1"));
     assert!(rt; refused(&rt, "trial -1 1"));
+}
+
+#[test]
+fn words_of_follow_outside_the_set(rt: HostRuntime) {
+    assert!(rt; refused(&rt, "follow"));
+    assert!(rt; refused(&rt, "follow send"));
+    assert!(rt; refused(&rt, "follow take 0"));
+    assert!(rt; refused(&rt, "follow send 00"));
+    assert!(rt; refused(&rt, "follow send 18446744073709551616"));
+    assert!(rt; refused(&rt, "follow send 0 0"));
+    assert!(rt; refused(&rt, "follow 0 send"));
+    assert!(rt; refused(&rt, "follow give 0"));
+    assert!(rt; refused(&rt, "follow take --op root"));
 }
 
 #[test]

@@ -1,6 +1,6 @@
 use Rattle.std.proofs.Common.{refl}
-use Rattle.tb_host.proofs.CauseLemmas.{report-cause, serve-cause, trial-cause}
-use Rattle.tb_host.proofs.HostLemmas.{EndsAs-report}
+use Rattle.tb_host.proofs.CauseLemmas.{report-cause, send-cause, serve-cause, trial-cause}
+use Rattle.tb_host.proofs.HostLemmas.{EndsAs-report, EndsAs-send}
 use Rattle.tb_host.proofs.host.do_command.Goals as goal
 
 pub returns-in-Serve-clause-causes : goal.returns-in-Serve-clause-causes
@@ -20,6 +20,18 @@ pub returns-in-Report-clause-causes : goal.returns-in-Report-clause-causes
 returns-in-Report-clause-causes g c =
     report-cause g.G.Gate.gate _ _ c.inquiry-asked.result c.report-own.result.0 c.ending-in-Report.result
     c.ending-in-Report.ensures (c.report-own.ensures.ends (g.I.Source.source c.args.input.now))
+
+pub returns-in-FollowSend-clause-ends : goal.returns-in-FollowSend-clause-ends
+returns-in-FollowSend-clause-ends g c =
+    EndsAs-send g.G.Gate.gate g.G.Conn.Source.source g.G.Conn.Sink.sink (g.C.Clock.clock c.args.clock)
+    c.args.command.now c.in-FollowSend.from c.follow_send-own.result.0 c.ending-in-FollowSend.result _ _
+    c.in-FollowSend.is c.ending-in-FollowSend.ensures
+    (c.follow_send-own.ensures.ends (g.I.Source.source c.args.input.now))
+
+pub returns-in-FollowSend-clause-causes : goal.returns-in-FollowSend-clause-causes
+returns-in-FollowSend-clause-causes g c =
+    send-cause g.G.Gate.gate _ _ c.in-FollowSend.from c.follow_send-own.result.0 c.ending-in-FollowSend.result
+    c.ending-in-FollowSend.ensures (c.follow_send-own.ensures.ends (g.I.Source.source c.args.input.now))
 
 pub returns-in-Trial-clause-causes : goal.returns-in-Trial-clause-causes
 returns-in-Trial-clause-causes g c =

@@ -30,8 +30,8 @@ returns-clause-causes g c = record {
 }
 
 pub returns-clause-unread : goal.returns-clause-unread
-returns-clause-unread g c = λ ended unopened is.
-    c.any_command-ending.ensures.unread
+returns-clause-unread g c = λ said are stops ended unopened is.
+    c.any_command-ending.ensures.unread said are stops
     (unopened-by_status c.any_command-ending.result.0 ended (sym c.status.ensures ∙ is) unopened)
 
 pub returns-clause-usage : goal.returns-clause-usage
