@@ -1,5 +1,5 @@
 -- Why a command ends as it does: which count of faults has risen.
-use Rattle.std.proofs.Common.{◌≡◌, ◌⊎◌, ℕ, List, Bool, inl, inr, subst, sym, ap, refl}
+use Rattle.std.proofs.Common.{◌≡◌, ◌⊎◌, ℕ, List, Bool, Option, inl, inr, subst, sym, ap, refl}
 use Rattle.tb_link.specs.Counts.{Rose}
 use Rattle.tb_link.specs.Sources.{SourceState}
 use Rattle.tb_link.specs.Sinks.{SinkState}
@@ -8,14 +8,17 @@ use Rattle.tb_gates.specs.Gates.{GateState}
 use Rattle.tb_desk.specs.declared.fault.MigrateFault.TheVariants as migrate_fault
 use Rattle.tb_desk.specs.declared.fault.OpenFault.{OpenFault}
 use Rattle.tb_desk.specs.declared.fault.OpenFault.TheVariants as fault
+use Rattle.tb_terms.specs.declared.cusip.Cusip.{Cusip}
 use Rattle.tb_host.specs.AwardRun.{AwardEnds}
 use Rattle.tb_host.specs.DiskRun.{Unopened}
-use Rattle.tb_host.specs.Endings.{ending_of, of_disk, of_migrate, of_print, of_send, of_serve, of_take, of_text}
+use Rattle.tb_host.specs.Endings.{ending_of, of_disk, of_migrate, of_print, of_register, of_send, of_serve}
+use Rattle.tb_host.specs.Endings.{of_take, of_text}
 use Rattle.tb_host.specs.FollowSendRun.{FollowSendEnds}
 use Rattle.tb_host.specs.FollowTakeRun.{FollowTakeEnds}
-use Rattle.tb_host.specs.HostRun.{HasCause, Objects, devices, handed, moved}
+use Rattle.tb_host.specs.HostRun.{HasCause, Objects, devices, handed, moved, registry}
 use Rattle.tb_host.specs.ImportRun.{ImportEnds}
 use Rattle.tb_host.specs.MigrateRun.{MigrateEnds}
+use Rattle.tb_host.specs.RegisterRun.{RegisterEnds}
 use Rattle.tb_host.specs.ReportRun.{ReportEnds}
 use Rattle.tb_host.specs.RunEnds.{RunEnds}
 use Rattle.tb_host.specs.ServeRun.{ServeEnds, ToldEnds, served_text}
@@ -26,6 +29,8 @@ use Rattle.tb_host.specs.declared.command_endings.MigrateEnding.{MigrateEnding}
 use Rattle.tb_host.specs.declared.command_endings.MigrateEnding.TheVariants as migrate_ending
 use Rattle.tb_host.specs.declared.command_endings.PrintEnding.{PrintEnding}
 use Rattle.tb_host.specs.declared.command_endings.PrintEnding.TheVariants as print_ending
+use Rattle.tb_host.specs.declared.command_endings.RegisterEnding.{RegisterEnding}
+use Rattle.tb_host.specs.declared.command_endings.RegisterEnding.TheVariants as register_ending
 use Rattle.tb_host.specs.declared.command_endings.SendEnding.{SendEnding}
 use Rattle.tb_host.specs.declared.command_endings.SendEnding.TheVariants as send_ending
 use Rattle.tb_host.specs.declared.command_endings.ServeEnding.{ServeEnding}
@@ -48,6 +53,7 @@ module _ {G K : Type 0} (gate : G → GateState K) (old new : Objects G) where
   FaultOf ending.WriteFault = Rose old.out.faults new.out.faults
   FaultOf ending.DiskFault = Rose old.disk.faults new.disk.faults ⊎ Rose old.spare.faults new.spare.faults
   FaultOf ending.GateFault = Rattle.tb_host.specs.ServeRun.OneRose gate old.gates new.gates
+  FaultOf ending.KeeperFault = Rose old.keeper.faults new.keeper.faults
   FaultOf other = Unit {0}
 
   -- an ending whose fault is so has its cause
@@ -57,6 +63,7 @@ module _ {G K : Type 0} (gate : G → GateState K) (old new : Objects G) where
     write = λ same. subst FaultOf same is;
     disk = λ same. subst FaultOf same is;
     gates = λ same. subst FaultOf same is;
+    keeper = λ same. subst FaultOf same is;
     none = λ same. subst FaultOf same is;
   }
 
@@ -189,6 +196,29 @@ module _ {G K : Type 0} (gate : G → GateState K) (old new : Objects G) where
   take-cause (disk_ending.Opened (take_ending.Forked place)) ends = HasCause-of (ending.Forked place) tt
   take-cause (disk_ending.Opened take_ending.OutOfMemory) ends = HasCause-of ending.OutOfMemory tt
   take-cause (disk_ending.Unopened why) none = unopened-cause why none.unopened
+
+  register-cause-here : (bill : Option Cusip) (own : DiskEnding RegisterEnding)
+      → RegisterEnds bill own old.input new.input (registry old) (registry new)
+      → HasCause gate (of_disk of_register own) old new
+  register-cause-here bill (disk_ending.Opened register_ending.Done) filed =
+      HasCause-of ending.Done (ap (λ (i : SourceState). i.faults) filed.unread, filed.ends.3.1.2.no_fault)
+  register-cause-here bill (disk_ending.Opened register_ending.WriteFault) filed =
+      HasCause-of ending.WriteFault filed.ends.3.1.2.rose
+  register-cause-here bill (disk_ending.Opened (register_ending.Differs auction)) filed =
+      HasCause-of (ending.RegisterDiffers auction) tt
+  register-cause-here bill (disk_ending.Opened (register_ending.KeeperFault)) filed =
+      HasCause-of ending.KeeperFault filed.ends.3.1.2
+  register-cause-here bill (disk_ending.Opened (register_ending.OutOfMemory)) filed =
+      HasCause-of ending.OutOfMemory tt
+  register-cause-here bill (disk_ending.Unopened why) filed = unopened-cause why filed.ends.unopened
+
+  -- `register`
+  pub register-cause : (bill : Option Cusip) (own : DiskEnding RegisterEnding) (ended : Ending)
+      → ended ≡ of_disk of_register own
+      → RegisterEnds bill own old.input new.input (registry old) (registry new)
+      → HasCause gate ended old new
+  register-cause bill own ended is filed =
+      cause-as ended (of_disk of_register own) is (register-cause-here bill own filed)
 
   trial-cause-here : (seed count : ℕ) (own : PrintEnding)
       → TrialEnds seed count own old.out new.out

@@ -17,6 +17,8 @@ usage-at_2 (ending.Damaged place) is = absurd (omega (arith, is))
 usage-at_2 ending.OutOfMemory is = absurd (omega (arith, is))
 usage-at_2 ending.GateFault is = absurd (omega (arith, is))
 usage-at_2 (ending.Unsealed byte) is = absurd (omega (arith, is))
+usage-at_2 (ending.RegisterDiffers auction) is = absurd (omega (arith, is))
+usage-at_2 ending.KeeperFault is = absurd (omega (arith, is))
 usage-at_2 (ending.Forked place) is = absurd (omega (arith, is))
 
 -- that the disk wasn't opened is told by the status

@@ -1,5 +1,5 @@
 -- What the record of a command says of how the program ends.
-use Rattle.std.proofs.Common.{◌≡◌, ℕ, List, Bool, subst, sym, ◌∙◌, refl, arith}
+use Rattle.std.proofs.Common.{◌≡◌, ℕ, List, Bool, Option, subst, sym, ◌∙◌, refl, arith}
 use Rattle.tb_link.specs.Sources.{SourceState}
 use Rattle.tb_link.specs.Sinks.{SinkState}
 use Rattle.tb_gates.specs.Clocks.{ClockState}
@@ -7,6 +7,7 @@ use Rattle.tb_gates.specs.Gates.{GateState}
 use Rattle.tb_desk.specs.declared.fault.MigrateFault.TheVariants as migrate_fault
 use Rattle.tb_desk.specs.declared.fault.OpenFault.{OpenFault}
 use Rattle.tb_desk.specs.declared.fault.OpenFault.TheVariants as fault
+use Rattle.tb_terms.specs.declared.cusip.Cusip.{Cusip}
 use Rattle.tb_message.specs.declared.key.Key.{Key}
 use Rattle.tb_message.specs.declared.query.Query.{Query}
 use Rattle.tb_words.specs.Commands.{AreWordsOf}
@@ -14,10 +15,11 @@ use Rattle.tb_words.specs.declared.command.Command.{Command}
 use Rattle.tb_words.specs.declared.command.Command.TheVariants as command
 use Rattle.tb_words.proofs.OneCommandLemmas.{one_command}
 use Rattle.tb_host.specs.Completeness.{Completes}
-use Rattle.tb_host.specs.Endings.{IsUnopened, ending_of, of_disk, of_migrate, of_print, of_send, of_serve, of_take}
-use Rattle.tb_host.specs.Endings.{of_text}
+use Rattle.tb_host.specs.Endings.{IsUnopened, ending_of, of_disk, of_migrate, of_print, of_register, of_send}
+use Rattle.tb_host.specs.Endings.{of_serve, of_take, of_text}
 use Rattle.tb_host.specs.FollowSendRun.{FollowSendEnds}
-use Rattle.tb_host.specs.HostRun.{EndsAs, Objects, Reports, devices, handed, moved}
+use Rattle.tb_host.specs.HostRun.{EndsAs, Objects, Reports, devices, handed, moved, registry}
+use Rattle.tb_host.specs.RegisterRun.{RegisterEnds}
 use Rattle.tb_host.specs.ReportRun.{ReportEnds, inquiry}
 use Rattle.tb_host.specs.RunEnds.{Devices, NotBegun}
 use Rattle.tb_host.specs.declared.command_endings.DiskEnding.{DiskEnding}
@@ -26,6 +28,8 @@ use Rattle.tb_host.specs.declared.command_endings.MigrateEnding.{MigrateEnding}
 use Rattle.tb_host.specs.declared.command_endings.MigrateEnding.TheVariants as migrate_ending
 use Rattle.tb_host.specs.declared.command_endings.PrintEnding.{PrintEnding}
 use Rattle.tb_host.specs.declared.command_endings.PrintEnding.TheVariants as print_ending
+use Rattle.tb_host.specs.declared.command_endings.RegisterEnding.{RegisterEnding}
+use Rattle.tb_host.specs.declared.command_endings.RegisterEnding.TheVariants as register_ending
 use Rattle.tb_host.specs.declared.command_endings.SendEnding.{SendEnding}
 use Rattle.tb_host.specs.declared.command_endings.SendEnding.TheVariants as send_ending
 use Rattle.tb_host.specs.declared.command_endings.ServeEnding.{ServeEnding}
@@ -42,6 +46,7 @@ use Rattle.tb_host.proofs.DiskLemmas.{Unopened-untouched}
 use Rattle.tb_host.proofs.FollowEndLemmas.{send-completes, take-completes}
 use Rattle.tb_host.proofs.ImportEndLemmas.{import-completes}
 use Rattle.tb_host.proofs.MigrateLemmas.{migrate-completes, migrate-untouched}
+use Rattle.tb_host.proofs.RegisterLemmas.{register-completes}
 use Rattle.tb_host.proofs.ReportLemmas.{report-completes}
 use Rattle.tb_host.proofs.ScriptLawLemmas.{run-completes}
 use Rattle.tb_host.proofs.ServeHostLemmas.{serve-completes}
@@ -67,6 +72,14 @@ text-opened text_ending.ReadFault unopened = unopened
 text-opened text_ending.WriteFault unopened = unopened
 text-opened text_ending.OutOfMemory unopened = unopened
 
+-- nor is one of `register`
+pub register-opened : (own : RegisterEnding) → ¬ (IsUnopened (of_register own))
+register-opened register_ending.Done unopened = unopened
+register-opened register_ending.WriteFault unopened = unopened
+register-opened (register_ending.Differs auction) unopened = unopened
+register-opened (register_ending.KeeperFault) unopened = unopened
+register-opened (register_ending.OutOfMemory) unopened = unopened
+
 -- nor is one of a command that only prints
 pub print-opened : (own : PrintEnding) → ¬ (IsUnopened (of_print own))
 print-opened print_ending.Done unopened = unopened
@@ -85,6 +98,12 @@ pub print-unopened : (own : DiskEnding PrintEnding)
     → (why : OpenFault) × (own ≡ disk_ending.Unopened why)
 print-unopened (disk_ending.Opened own) unopened = absurd (print-opened own unopened)
 print-unopened (disk_ending.Unopened why) unopened = (why, refl)
+
+pub register-unopened : (own : DiskEnding RegisterEnding)
+    → IsUnopened (of_disk of_register own)
+    → (why : OpenFault) × (own ≡ disk_ending.Unopened why)
+register-unopened (disk_ending.Opened own) unopened = absurd (register-opened own unopened)
+register-unopened (disk_ending.Unopened why) unopened = (why, refl)
 
 -- no command ends as words outside the command set do
 text-known : (own : TextEnding) → ¬ (of_text own ≡ ending.Usage)
@@ -113,6 +132,13 @@ take-known take_ending.WriteFault is = cc
 take-known take_ending.DiskFault is = cc
 take-known (take_ending.Forked place) is = cc
 take-known take_ending.OutOfMemory is = cc
+
+register-known : (own : RegisterEnding) → ¬ (of_register own ≡ ending.Usage)
+register-known register_ending.Done is = cc
+register-known register_ending.WriteFault is = cc
+register-known (register_ending.Differs auction) is = cc
+register-known (register_ending.KeeperFault) is = cc
+register-known (register_ending.OutOfMemory) is = cc
 
 unopened-known : (why : OpenFault) → ¬ (ending_of why ≡ ending.Usage)
 unopened-known fault.DiskFault is = cc
@@ -176,6 +202,16 @@ module _ {G K : Type 0} (gate : G → GateState K) (source : K → SourceState) 
   EndsAs-send said from own ended old new said_is is ends =
       subst (λ (c : Command). EndsAs gate source sink c clock ended old new) (sym said_is) (own, is, ends)
 
+  -- a filing that was asked by the words of the command
+  pub EndsAs-register : (said : Command) (bill : Option Cusip) (own : DiskEnding RegisterEnding) (ended : Ending)
+      (old new : Objects G)
+      → said ≡ command.Register bill
+      → ended ≡ of_disk of_register own
+      → RegisterEnds bill own old.input new.input (registry old) (registry new)
+      → EndsAs gate source sink said clock ended old new
+  EndsAs-register said bill own ended old new said_is is ends =
+      subst (λ (c : Command). EndsAs gate source sink c clock ended old new) (sym said_is) (own, is, ends)
+
   -- where there was no memory to read the words nothing was done
   pub EndsAs-memory : (said : Command) (objects : Objects G)
       → EndsAs gate source sink said clock ending.OutOfMemory objects objects
@@ -225,6 +261,17 @@ module _ {G K : Type 0} (gate : G → GateState K) (source : K → SourceState) 
   )
   EndsAs-memory command.FollowTake objects =
       (disk_ending.Unopened fault.OutOfMemory, refl, not_begun-memory objects.input (devices objects))
+  EndsAs-memory (command.Register bill) objects = (
+    disk_ending.Unopened fault.OutOfMemory,
+    refl,
+    record {
+      ends = not_begun-memory objects.input (devices objects);
+      unread = refl;
+      unfiled = λ why is. refl;
+      steps = (Unopened-untouched objects.disk).refused;
+      harmless = (Unopened-untouched objects.disk).harmless;
+    },
+  )
   EndsAs-memory (command.Trial seed count) objects = (print_ending.OutOfMemory, refl, refl)
 
   -- each command is answered
@@ -255,6 +302,9 @@ module _ {G K : Type 0} (gate : G → GateState K) (source : K → SourceState) 
   Completes-here command.FollowTake ended old new (own, is, ends) =
       subst (Completes command.FollowTake old.input old.disk) (sym is)
       (take-completes own old.input new.input (devices old) (devices new) ends)
+  Completes-here (command.Register bill) ended old new (own, is, ends) =
+      subst (Completes (command.Register bill) old.input old.disk) (sym is)
+      (register-completes bill own old.input new.input (registry old) (registry new) ends)
   Completes-here (command.Trial seed count) ended old new (own, is, ends) =
       subst (Completes (command.Trial seed count) old.input old.disk) (sym is)
       (trial-completes seed count own old.out new.out ends)
@@ -277,4 +327,6 @@ module _ {G K : Type 0} (gate : G → GateState K) (source : K → SourceState) 
       disk-known of_send send-known own (sym is ∙ usage)
   EndsAs-known command.FollowTake ended old new (own, is, ends) usage =
       disk-known of_take take-known own (sym is ∙ usage)
+  EndsAs-known (command.Register bill) ended old new (own, is, ends) usage =
+      disk-known of_register register-known own (sym is ∙ usage)
   EndsAs-known (command.Trial seed count) ended old new (own, is, ends) usage = print-known own (sym is ∙ usage)

@@ -31,6 +31,7 @@ mod SealedLemmas
 mod ExactLemmas
 mod TrialLemmas
 mod AnswerLemmas
+mod RegisterLemmas
 mod ReportLemmas
 mod MigrateLemmas
 mod ParcelInputLemmas

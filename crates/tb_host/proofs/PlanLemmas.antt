@@ -19,4 +19,5 @@ HasGates-planned (command.Report operator caller asked csv) plan gates planned a
 HasGates-planned command.Migrate plan gates planned as_many = tt
 HasGates-planned (command.FollowSend from) plan gates planned as_many = tt
 HasGates-planned command.FollowTake plan gates planned as_many = tt
+HasGates-planned (command.Register bill) plan gates planned as_many = tt
 HasGates-planned (command.Trial seed count) plan gates planned as_many = tt

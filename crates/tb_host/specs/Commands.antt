@@ -12,20 +12,29 @@ pub record Uses : Type 0 where
   pub disk : Bool
   pub spare : Bool
   pub gates : Bool
+  pub keeper : Bool
 
 -- the table of it
 abbrev pub uses_of : Command → Uses
-uses_of (command.Award full) = record { input = true; out = true; disk = false; spare = false; gates = false }
-uses_of (command.Run operator) = record { input = true; out = true; disk = true; spare = false; gates = false }
+uses_of (command.Award full) =
+    record { input = true; out = true; disk = false; spare = false; gates = false; keeper = false }
+uses_of (command.Run operator) =
+    record { input = true; out = true; disk = true; spare = false; gates = false; keeper = false }
 uses_of (command.Serve operator port workers links) =
-    record { input = false; out = true; disk = true; spare = false; gates = true }
-uses_of (command.Import operator caller) = record { input = true; out = true; disk = true; spare = false; gates = false }
+    record { input = false; out = true; disk = true; spare = false; gates = true; keeper = false }
+uses_of (command.Import operator caller) =
+    record { input = true; out = true; disk = true; spare = false; gates = false; keeper = false }
 uses_of (command.Report operator caller asked csv) =
-    record { input = false; out = true; disk = true; spare = false; gates = false }
-uses_of command.Migrate = record { input = false; out = true; disk = true; spare = true; gates = false }
-uses_of (command.FollowSend from) = record { input = false; out = true; disk = true; spare = false; gates = false }
-uses_of command.FollowTake = record { input = true; out = true; disk = true; spare = false; gates = false }
-uses_of (command.Trial seed count) = record { input = false; out = true; disk = false; spare = false; gates = false }
+    record { input = false; out = true; disk = true; spare = false; gates = false; keeper = false }
+uses_of command.Migrate = record { input = false; out = true; disk = true; spare = true; gates = false; keeper = false }
+uses_of (command.FollowSend from) =
+    record { input = false; out = true; disk = true; spare = false; gates = false; keeper = false }
+uses_of command.FollowTake =
+    record { input = true; out = true; disk = true; spare = false; gates = false; keeper = false }
+uses_of (command.Register bill) =
+    record { input = false; out = true; disk = true; spare = false; gates = false; keeper = true }
+uses_of (command.Trial seed count) =
+    record { input = false; out = true; disk = false; spare = false; gates = false; keeper = false }
 
 -- a fault of the disk ends it behind the opening too
 abbrev pub ends_at_fault : Command → Bool
@@ -49,9 +58,10 @@ HasGates other gates = ⊤
 -- what has to be made for a command
 abbrev pub plan_of : Command → Plan
 plan_of (command.Serve operator port workers links) =
-    record { journal = true; port = port; workers = workers; links = links }
-plan_of other = record { journal = (uses_of other).disk; port = 0; workers = 0; links = 0 }
+    record { journal = true; register = false; port = port; workers = workers; links = links }
+plan_of other =
+    record { journal = (uses_of other).disk; register = (uses_of other).keeper; port = 0; workers = 0; links = 0 }
 
 -- and for words that are none
 abbrev pub nothing : Plan
-nothing = record { journal = false; port = 0; workers = 0; links = 0 }
+nothing = record { journal = false; register = false; port = 0; workers = 0; links = 0 }

@@ -63,6 +63,10 @@ pub record AnswersScript (ended : Ending) (IsIn IsOutside : Type 0) : Type 0 whe
   pub answered : IsIn → LackedInput ended ⊎ IsAnswered ended
   pub refused : IsOutside → LackedInput ended ⊎ (ended ≡ ending.WriteFault) ⊎ IsRefused ended
 
+-- the register had another row of an auction, which is named
+abbrev pub HasDiffered : Ending → Type 0
+HasDiffered ended = (auction : List ℕ) × (ended ≡ ending.RegisterDiffers auction)
+
 -- the disk failed, or memory ran out
 abbrev pub LackedDisk : Ending → Type 0
 LackedDisk ended = (ended ≡ ending.DiskFault) ⊎ LackedMemory ended
@@ -105,4 +109,6 @@ Completes command.Migrate input disk ended = OpensIn First disk ended (IsAnswere
 Completes (command.FollowSend from) input disk ended = Opens disk ended ((ended ≡ ending.DiskFault) ⊎ IsAnswered ended)
 Completes command.FollowTake input disk ended =
     Opens disk ended (WhereTold input.left (λ text. AnswersParcels disk text ended))
+Completes (command.Register bill) input disk ended =
+    Opens disk ended ((ended ≡ ending.KeeperFault) ⊎ HasDiffered ended ⊎ IsAnswered ended)
 Completes (command.Trial seed count) input disk ended = IsAnswered ended

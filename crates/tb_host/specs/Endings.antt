@@ -13,6 +13,8 @@ use Rattle.tb_host.specs.declared.command_endings.MigrateEnding.{MigrateEnding}
 use Rattle.tb_host.specs.declared.command_endings.MigrateEnding.TheVariants as migrate_ending
 use Rattle.tb_host.specs.declared.command_endings.PrintEnding.{PrintEnding}
 use Rattle.tb_host.specs.declared.command_endings.PrintEnding.TheVariants as print_ending
+use Rattle.tb_host.specs.declared.command_endings.RegisterEnding.{RegisterEnding}
+use Rattle.tb_host.specs.declared.command_endings.RegisterEnding.TheVariants as register_ending
 use Rattle.tb_host.specs.declared.command_endings.SendEnding.{SendEnding}
 use Rattle.tb_host.specs.declared.command_endings.SendEnding.TheVariants as send_ending
 use Rattle.tb_host.specs.declared.command_endings.ServeEnding.{ServeEnding}
@@ -37,6 +39,8 @@ status_of (ending.Damaged place) = 8
 status_of ending.OutOfMemory = 9
 status_of ending.GateFault = 10
 status_of (ending.Unsealed byte) = 11
+status_of (ending.RegisterDiffers auction) = 12
+status_of ending.KeeperFault = 13
 status_of (ending.Forked place) = 14
 
 -- the ending where the desk wasn't opened
@@ -90,6 +94,14 @@ of_take take_ending.DiskFault = ending.DiskFault
 of_take (take_ending.Forked place) = ending.Forked place
 of_take take_ending.OutOfMemory = ending.OutOfMemory
 
+-- where `register` did, on a desk
+abbrev pub of_register : RegisterEnding → Ending
+of_register register_ending.Done = ending.Done
+of_register register_ending.WriteFault = ending.WriteFault
+of_register (register_ending.Differs auction) = ending.RegisterDiffers auction
+of_register (register_ending.KeeperFault) = ending.KeeperFault
+of_register (register_ending.OutOfMemory) = ending.OutOfMemory
+
 -- where `serve` did
 abbrev pub of_serve : ServeEnding → Ending
 of_serve serve_ending.Done = ending.Done
@@ -126,6 +138,8 @@ message_of (ending.Damaged place) = codes "damaged at " ++ decimal place ++ line
 message_of ending.OutOfMemory = codes "out of memory" ++ line_feed ∷ []
 message_of ending.GateFault = codes "gate fault" ++ line_feed ∷ []
 message_of (ending.Unsealed byte) = codes "unsealed " ++ hexadecimal (byte ∷ []) ++ line_feed ∷ []
+message_of (ending.RegisterDiffers auction) = codes "register differs at " ++ auction ++ line_feed ∷ []
+message_of ending.KeeperFault = codes "keeper fault" ++ line_feed ∷ []
 message_of (ending.Forked place) = codes "forked at " ++ decimal place ++ line_feed ∷ []
 
 -- the sink has taken the message whole, or failed and has taken a prefix of it

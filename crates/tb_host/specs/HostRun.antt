@@ -17,14 +17,16 @@ use Rattle.tb_host.specs.FollowSendRun.{FollowSendEnds}
 use Rattle.tb_host.specs.FollowTakeRun.{FollowTakeEnds}
 use Rattle.tb_host.specs.ImportRun.{ImportEnds}
 use Rattle.tb_host.specs.MigrateRun.{MigrateEnds, Moved}
+use Rattle.tb_register.specs.Keepers.{KeeperState}
+use Rattle.tb_host.specs.RegisterRun.{RegisterEnds, Registry}
 use Rattle.tb_host.specs.ReportRun.{ReportEnds, inquiry}
 use Rattle.tb_host.specs.RunEnds.{Devices, RunEnds}
 use Rattle.tb_host.specs.ServeRun.{Handed, OneRose, ServeEnds}
 use Rattle.tb_host.specs.TrialRun.{TrialEnds}
 use Rattle.tb_words.specs.declared.command.Command.{Command}
 use Rattle.tb_words.specs.declared.command.Command.TheVariants as command
-use Rattle.tb_host.specs.Endings.{Tells, message_of, of_disk, of_migrate, of_print, of_send, of_serve, of_take}
-use Rattle.tb_host.specs.Endings.{of_text, status_of}
+use Rattle.tb_host.specs.Endings.{Tells, message_of, of_disk, of_migrate, of_print, of_register, of_send}
+use Rattle.tb_host.specs.Endings.{of_serve, of_take, of_text, status_of}
 use Rattle.tb_host.specs.declared.ending.Ending.{Ending}
 use Rattle.tb_host.specs.declared.ending.Ending.TheVariants as ending
 
@@ -35,6 +37,7 @@ pub record Objects (G : Type 0) : Type 0 where
   pub disk : DiskState
   pub spare : DiskState
   pub gates : List G
+  pub keeper : KeeperState
 
 -- of that, what a command on the disk writes on
 abbrev pub devices : {G : Type 0} → Objects G → Devices
@@ -43,6 +46,10 @@ devices objects = record { out = objects.out; disk = objects.disk }
 -- what `migrate` uses
 abbrev pub moved : {G : Type 0} → Objects G → Moved
 moved objects = record { out = objects.out; disk = objects.disk; spare = objects.spare }
+
+-- what `register` uses
+abbrev pub registry : {G : Type 0} → Objects G → Registry
+registry objects = record { out = objects.out; disk = objects.disk; keeper = objects.keeper }
 
 -- and what `serve` uses
 abbrev pub handed : {G : Type 0} → Objects G → Handed G
@@ -74,18 +81,21 @@ module _ {G K : Type 0} (gate : G → GateState K) (source : K → SourceState) 
       Ends (of_disk of_send) ended (λ own. FollowSendEnds from own old.input new.input (devices old) (devices new))
   EndsAs command.FollowTake clock ended old new =
       Ends (of_disk of_take) ended (λ own. FollowTakeEnds own old.input new.input (devices old) (devices new))
+  EndsAs (command.Register bill) clock ended old new =
+      Ends (of_disk of_register) ended (λ own. RegisterEnds bill own old.input new.input (registry old) (registry new))
   EndsAs (command.Trial seed count) clock ended old new =
       Ends of_print ended (λ own. TrialEnds seed count own old.out new.out)
 
 module _ {G K : Type 0} (gate : G → GateState K) where
-  -- A fault of input, output, a disk or gates ends a command only where the count of that object has risen; and where all
-  -- was done no fault of input or output was passed over.
+  -- A fault of input, output, a disk, gates or the keeper ends a command only where the count of that object has risen;
+  -- and where all was done no fault of input or output was passed over.
   pub record HasCause (ended : Ending) (old new : Objects G) : Type 0 where
     pub read : ended ≡ ending.ReadFault → Rose old.input.faults new.input.faults
     pub write : ended ≡ ending.WriteFault → Rose old.out.faults new.out.faults
     pub disk : ended ≡ ending.DiskFault
         → Rose old.disk.faults new.disk.faults ⊎ Rose old.spare.faults new.spare.faults
     pub gates : ended ≡ ending.GateFault → OneRose gate old.gates new.gates
+    pub keeper : ended ≡ ending.KeeperFault → Rose old.keeper.faults new.keeper.faults
     pub none : ended ≡ ending.Done
         → (new.input.faults ≡ old.input.faults) × (new.out.faults ≡ old.out.faults)
 

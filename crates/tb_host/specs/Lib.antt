@@ -36,6 +36,7 @@ pub mod ParcelInput
 pub mod FollowTakeRun
 pub mod FollowSendRun
 pub mod FollowSteps
+pub mod RegisterRun
 pub mod TableInput
 pub mod Headline
 pub mod ScriptHeadline

@@ -1,9 +1,11 @@
 //! How each command ends: the endings that it has, and no others.
 ghost use Rattle.std.specs.Prelude.{◌≡◌};
-ghost use Rattle.tb_host.specs.Endings.{of_disk, of_migrate, of_print, of_send, of_serve, of_take, of_text};
+ghost use Rattle.tb_host.specs.Endings.{of_disk, of_migrate, of_print, of_register, of_send, of_serve, of_take};
+ghost use Rattle.tb_host.specs.Endings.{of_text};
 
 use crate::ending::Ending;
 use tb_desk::{MigrateFault, OpenFault};
+use tb_units::Ident;
 
 /// How a command ends that reads a text: `award`, and on a desk that was opened `run` and `import`.
 #[derive(Clone, Copy, Debug, PartialEq, Eq)]
@@ -63,6 +65,18 @@ pub enum TakeEnding {
     DiskFault,
     /// The parcel of this place can't be of the history that is followed.
     Forked(u64),
+    OutOfMemory,
+}
+
+/// How `register` ends on a desk that was opened.
+#[derive(Clone, Copy, Debug, PartialEq, Eq)]
+pub enum RegisterEnding {
+    Done,
+    WriteFault,
+    /// The register has another row of this auction.
+    Differs(Ident),
+    /// The keeper of the register failed.
+    KeeperFault,
     OutOfMemory,
 }
 
@@ -190,6 +204,33 @@ impl DiskEnding<TakeEnding> {
     /// How the program ends then.
     pub fn ending(self) -> Ending
         ensures { result ≡ of_disk of_take self }
+    {
+        match self {
+            DiskEnding::Opened(own) => own.ending(),
+            DiskEnding::Unopened(fault) => Ending::of(fault),
+        }
+    }
+}
+
+impl RegisterEnding {
+    /// How the program ends then.
+    pub fn ending(self) -> Ending
+        ensures { result ≡ of_register self }
+    {
+        match self {
+            RegisterEnding::Done => Ending::Done,
+            RegisterEnding::WriteFault => Ending::WriteFault,
+            RegisterEnding::Differs(auction) => Ending::RegisterDiffers(auction),
+            RegisterEnding::KeeperFault => Ending::KeeperFault,
+            RegisterEnding::OutOfMemory => Ending::OutOfMemory,
+        }
+    }
+}
+
+impl DiskEnding<RegisterEnding> {
+    /// How the program ends then.
+    pub fn ending(self) -> Ending
+        ensures { result ≡ of_disk of_register self }
     {
         match self {
             DiskEnding::Opened(own) => own.ending(),

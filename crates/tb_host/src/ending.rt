@@ -4,8 +4,9 @@ ghost use Rattle.std.specs.Fmt.{digit_glyph};
 ghost use Rattle.tb_host.specs.Endings.{status_of, ending_of, message_of, bad_input_message, hexadecimal};
 ghost use Rattle.tb_host.specs.declared.ending.Ending.TheVariants as ending;
 
+use crate::notice::Notice;
 use tb_desk::OpenFault;
-use tb_units::Short;
+use tb_units::{Ident, Short};
 
 /// How a command ends.
 #[derive(Clone, Copy, Debug, PartialEq, Eq)]
@@ -28,6 +29,10 @@ pub enum Ending {
     GateFault,
     /// The disk has more than 18 bytes with a journal's header, and this byte, which isn't 1, in the place of its seal.
     Unsealed(u8),
+    /// The register has another row of this auction.
+    RegisterDiffers(Ident),
+    /// The keeper of the register failed.
+    KeeperFault,
     /// The parcel of this place can't be of the history that is followed.
     Forked(u64),
 }
@@ -47,8 +52,8 @@ impl Ending {
     }
 
     /// The status of the program.
-    pub fn status(self) -> u8
-        ensures { result ≡ status_of self }
+    pub fn status(&self) -> u8
+        ensures { result ≡ status_of self.now }
     {
         match self {
             Ending::Done => 0,
@@ -62,32 +67,36 @@ impl Ending {
             Ending::OutOfMemory => 9,
             Ending::GateFault => 10,
             Ending::Unsealed(_) => 11,
+            Ending::RegisterDiffers(_) => 12,
+            Ending::KeeperFault => 13,
             Ending::Forked(_) => 14,
         }
     }
 
     /// What is told of it, a line; nothing where the command did all.
-    pub fn message(self) -> Short
-        ensures { result ≡ message_of self }
+    pub fn message(&self) -> Notice
+        ensures { result ≡ message_of self.now }
     {
         match self {
-            Ending::Done => Short::new(),
+            Ending::Done => Notice::new(),
             Ending::Usage => text(b"usage\n"),
-            Ending::BadInput(line) => bad_input(line),
+            Ending::BadInput(line) => bad_input(*line),
             Ending::ReadFault => text(b"read fault\n"),
             Ending::WriteFault => text(b"write fault\n"),
             Ending::DiskFault => text(b"disk fault\n"),
-            Ending::NotAJournal(found) => not_a_journal(&found),
-            Ending::Damaged(place) => damaged(place),
+            Ending::NotAJournal(found) => not_a_journal(found),
+            Ending::Damaged(place) => damaged(*place),
             Ending::OutOfMemory => text(b"out of memory\n"),
             Ending::GateFault => text(b"gate fault\n"),
-            Ending::Unsealed(byte) => unsealed(byte),
-            Ending::Forked(place) => forked(place),
+            Ending::Unsealed(byte) => unsealed(*byte),
+            Ending::RegisterDiffers(auction) => register_differs(auction),
+            Ending::KeeperFault => text(b"keeper fault\n"),
+            Ending::Forked(place) => forked(*place),
         }
     }
 }
 
-fn bad_input(line: u64) -> Short
+fn bad_input(line: u64) -> Notice
     ensures { result ≡ bad_input_message line }
 {
     let mut message = text(b"bad input at line ");
@@ -97,7 +106,7 @@ fn bad_input(line: u64) -> Short
 }
 
 // The bytes found stand in lower-case hexadecimal.
-fn not_a_journal(found: &[u8; 16]) -> Short
+fn not_a_journal(found: &[u8; 16]) -> Notice
     ensures { result ≡ message_of (ending.NotAJournal found.now) }
 {
     let mut message = text(b"not a journal ");
@@ -108,7 +117,7 @@ fn not_a_journal(found: &[u8; 16]) -> Short
     message
 }
 
-fn unsealed(byte: u8) -> Short
+fn unsealed(byte: u8) -> Notice
     ensures { result ≡ message_of (ending.Unsealed byte) }
 {
     let mut message = text(b"unsealed ");
@@ -117,8 +126,8 @@ fn unsealed(byte: u8) -> Short
     message
 }
 
-fn push_hexadecimal(text: &mut Short, byte: u8)
-    requires { length text.old + 2 ≤ 48 }
+fn push_hexadecimal(text: &mut Notice, byte: u8)
+    requires { length text.old + 2 ≤ 64 }
     ensures { text.new ≡ text.old ++ hexadecimal (byte ∷ []) }
 {
     text.push(hex_digit(byte / 16));
@@ -136,7 +145,7 @@ fn hex_digit(value: u8) -> u8
     }
 }
 
-fn damaged(place: u64) -> Short
+fn damaged(place: u64) -> Notice
     ensures { result ≡ message_of (ending.Damaged place) }
 {
     let mut message = text(b"damaged at ");
@@ -145,7 +154,16 @@ fn damaged(place: u64) -> Short
     message
 }
 
-fn forked(place: u64) -> Short
+fn register_differs(auction: &Ident) -> Notice
+    ensures { result ≡ message_of (ending.RegisterDiffers auction.now) }
+{
+    let mut message = text(b"register differs at ");
+    push_text(&mut message, auction.bytes());
+    message.push(b'\n');
+    message
+}
+
+fn forked(place: u64) -> Notice
     ensures { result ≡ message_of (ending.Forked place) }
 {
     let mut message = text(b"forked at ");
@@ -154,18 +172,18 @@ fn forked(place: u64) -> Short
     message
 }
 
-// At most 48 bytes.
-pub(crate) fn text(bytes: &[u8]) -> Short
-    requires { length bytes.now ≤ 48 }
+// At most 64 bytes.
+pub(crate) fn text(bytes: &[u8]) -> Notice
+    requires { length bytes.now ≤ 64 }
     ensures { result ≡ bytes.now }
 {
-    let mut text = Short::new();
+    let mut text = Notice::new();
     push_text(&mut text, bytes);
     text
 }
 
-pub(crate) fn push_text(text: &mut Short, bytes: &[u8])
-    requires { length text.old + length bytes.now ≤ 48 }
+pub(crate) fn push_text(text: &mut Notice, bytes: &[u8])
+    requires { length text.old + length bytes.now ≤ 64 }
     ensures { text.new ≡ text.old ++ bytes.now }
 {
     for byte in bytes {

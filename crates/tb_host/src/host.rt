@@ -4,7 +4,7 @@ ghost use Rattle.tb_words.specs.Commands.{AreCommand, AreWordsOf, IsInRange};
 ghost use Rattle.tb_words.specs.declared.command.Command as declared;
 ghost use Rattle.tb_host.specs.Commands.{HasGates, Stays, ends_at_fault, uses_of};
 ghost use Rattle.tb_host.specs.Completeness.{Completes};
-ghost use Rattle.tb_host.specs.Endings.{IsUnopened, status_of};
+ghost use Rattle.tb_host.specs.Endings.{IsUnopened, Tells, status_of};
 ghost use Rattle.tb_host.specs.HostRun.{EndsAs, EndsWith, HasCause, Reports};
 ghost use Rattle.tb_host.specs.ReportRun as spec;
 
@@ -14,6 +14,7 @@ use crate::follow_send_command::follow_send;
 use crate::follow_take_command::follow_take;
 use crate::import_command::import;
 use crate::migrate_command::migrate;
+use crate::register_command::register;
 use crate::report_command::{Inquiry, report};
 use crate::run_command::run;
 use crate::sender::Sender;
@@ -26,6 +27,7 @@ use tb_disk::Disk;
 use tb_gates::{Clock, Gate};
 use tb_link::{Sink, Source};
 use tb_message::{Key, Query};
+use tb_register::Keeper;
 use tb_units::Ident;
 use tb_words::{Command, WordsFault, read_words};
 
@@ -41,12 +43,14 @@ pub struct Ended<D: Disk> {
 /// 0: done. 2: the words are outside the command set. 3: the first line outside the grammar was reached, and is told.
 /// 4: the input failed. 5: the output failed. 6: the disk failed while it was opened, or under `follow`. 7: the disk
 /// holds no journal; what it begins with is told. 8: the journal is damaged; the place is told. 9: out of memory. 10: a
-/// gate failed. 11: the journal isn't sealed; the byte in the seal's place is told. 14: a parcel is a fork; its place is
+/// gate failed. 11: the journal isn't sealed; the byte in the seal's place is told. 12: the register has another row of
+/// a published auction; its name is told. 13: the keeper of the register failed. 14: a parcel is a fork; its place is
 /// told.
 ///
-/// `run`, `import`, `report`, `follow` and `serve` work on the journal that `disk` holds. `migrate` reads the journal of
-/// the first version that it holds, and writes into `spare`, which no other command touches. `serve` alone touches the
-/// gates, of which there are as many as its words say; it and `import` read the clock.
+/// `run`, `import`, `report`, `follow`, `register` and `serve` work on the journal that `disk` holds. `migrate` reads
+/// the journal of the first version that it holds, and writes into `spare`, which no other command touches. `serve`
+/// alone touches the gates, of which there are as many as its words say; it and `import` read the clock. `register`
+/// alone touches the keeper.
 pub fn host_main<
     D: Disk + Send + Drop,
     G: Gate + Send + Drop,
@@ -54,6 +58,7 @@ pub fn host_main<
     I: Source,
     O: Sink,
     E: Sink,
+    K: Keeper,
     R: Threads + Wait + Sync,
 >(
     rt: &R,
@@ -66,22 +71,31 @@ pub fn host_main<
     spare: &mut D,
     gates: &mut Vec<G>,
     clock: C,
+    keeper: &mut K,
 ) -> Ended<D>
     requires gates { (said : declared.Command) → AreWordsOf said (map string_bytes words.now)
         → HasGates said (vec_len gates.old) }
     // Where the words are a command, it ends as its record says (`AwardEnds`, `RunEnds`, `ServeEnds`, `ImportEnds`,
-    // `ReportEnds`, `MigrateEnds`, `FollowSendEnds`, `FollowTakeEnds`, `TrialEnds`), with the status of that ending,
-    // which is told.
+    // `ReportEnds`, `MigrateEnds`, `FollowSendEnds`, `FollowTakeEnds`, `RegisterEnds`, `TrialEnds`), with the status of
+    // that ending, which is told.
     ensures ends { (said : declared.Command) → AreWordsOf said (map string_bytes words.now)
         → EndsWith result.status (E.sink err.old) (E.sink err.new) (λ ended.
         EndsAs G.gate G.Conn.source G.Conn.sink said (C.clock clock) ended
-        (record { input = I.source input.old; out = O.sink out.old; disk = D.disk disk; spare = D.disk spare.old; gates = gates.old.items })
+        (record {
+          input = I.source input.old;
+          out = O.sink out.old;
+          disk = D.disk disk;
+          spare = D.disk spare.old;
+          gates = gates.old.items;
+          keeper = K.keeper keeper.old;
+        })
         (record {
           input = I.source input.new;
           out = O.sink out.new;
           disk = D.disk result.disk;
           spare = D.disk spare.new;
           gates = gates.new.items;
+          keeper = K.keeper keeper.new;
         })) }
     // It is answered: what its input and its disk tell decides how it ends, unless an object failed or memory ran out.
     ensures complete { (said : declared.Command) → AreWordsOf said (map string_bytes words.now)
@@ -89,13 +103,21 @@ pub fn host_main<
         (λ ended. Completes said (I.source input.old) (D.disk disk) ended) }
     // No object failed without a rise of its count.
     ensures causes { EndsWith result.status (E.sink err.old) (E.sink err.new) (λ ended. HasCause G.gate ended
-        (record { input = I.source input.old; out = O.sink out.old; disk = D.disk disk; spare = D.disk spare.old; gates = gates.old.items })
+        (record {
+          input = I.source input.old;
+          out = O.sink out.old;
+          disk = D.disk disk;
+          spare = D.disk spare.old;
+          gates = gates.old.items;
+          keeper = K.keeper keeper.old;
+        })
         (record {
           input = I.source input.new;
           out = O.sink out.new;
           disk = D.disk result.disk;
           spare = D.disk spare.new;
           gates = gates.new.items;
+          keeper = K.keeper keeper.new;
         })) }
     // It touches what the table says that it uses, and no other object.
     ensures uses { (said : declared.Command) → AreWordsOf said (map string_bytes words.now)
@@ -103,7 +125,8 @@ pub fn host_main<
         × Stays (uses_of said).out out.old out.new
         × Stays (uses_of said).disk disk result.disk
         × Stays (uses_of said).spare spare.old spare.new
-        × Stays (uses_of said).gates gates.old gates.new }
+        × Stays (uses_of said).gates gates.old gates.new
+        × Stays (uses_of said).keeper keeper.old keeper.new }
     // Where the disk wasn't opened neither input nor output was touched. A fault of the disk may end `follow` later too:
     // its records say what was read and written then.
     ensures unread { (said : declared.Command) → AreWordsOf said (map string_bytes words.now)
@@ -114,10 +137,12 @@ pub fn host_main<
     ensures usage { (result.status ≡ 2) ↔ (¬ (AreCommand (map string_bytes words.now))) }
     ensures untouched { result.status ≡ 2 → Reports Ending.Usage (E.sink err.old) (E.sink err.new)
         × (input.new ≡ input.old) × (out.new ≡ out.old) × (result.disk ≡ disk) × (spare.new ≡ spare.old)
-        × (gates.new ≡ gates.old) }
+        × (gates.new ≡ gates.old) × (keeper.new ≡ keeper.old) }
 {
-    let (ending, disk) = any_command(rt, alloc, words, input, out, disk, spare, gates, clock);
-    tell(ending, err);
+    let (ending, disk) = any_command(
+        rt, alloc, words, input, out, disk, spare, gates, clock, keeper,
+    );
+    tell(&ending, err);
     Ended {
         status: ending.status(),
         disk,
@@ -131,6 +156,7 @@ fn any_command<
     C: Clock + Send + Drop,
     I: Source,
     O: Sink,
+    K: Keeper,
     R: Threads + Wait + Sync,
 >(
     rt: &R,
@@ -142,44 +168,64 @@ fn any_command<
     spare: &mut D,
     gates: &mut Vec<G>,
     clock: C,
+    keeper: &mut K,
 ) -> (Ending, D)
     requires gates { (said : declared.Command) → AreWordsOf said (map string_bytes words.now)
         → HasGates said (vec_len gates.old) }
     ensures ends { (said : declared.Command) → AreWordsOf said (map string_bytes words.now)
         → EndsAs G.gate G.Conn.source G.Conn.sink said (C.clock clock) result.0
-        (record { input = I.source input.old; out = O.sink out.old; disk = D.disk disk; spare = D.disk spare.old; gates = gates.old.items })
+        (record {
+          input = I.source input.old;
+          out = O.sink out.old;
+          disk = D.disk disk;
+          spare = D.disk spare.old;
+          gates = gates.old.items;
+          keeper = K.keeper keeper.old;
+        })
         (record {
           input = I.source input.new;
           out = O.sink out.new;
           disk = D.disk result.1;
           spare = D.disk spare.new;
           gates = gates.new.items;
+          keeper = K.keeper keeper.new;
         }) }
     ensures causes { HasCause G.gate result.0
-        (record { input = I.source input.old; out = O.sink out.old; disk = D.disk disk; spare = D.disk spare.old; gates = gates.old.items })
+        (record {
+          input = I.source input.old;
+          out = O.sink out.old;
+          disk = D.disk disk;
+          spare = D.disk spare.old;
+          gates = gates.old.items;
+          keeper = K.keeper keeper.old;
+        })
         (record {
           input = I.source input.new;
           out = O.sink out.new;
           disk = D.disk result.1;
           spare = D.disk spare.new;
           gates = gates.new.items;
+          keeper = K.keeper keeper.new;
         }) }
     ensures uses { (said : declared.Command) → AreWordsOf said (map string_bytes words.now)
         → Stays (uses_of said).input input.old input.new
         × Stays (uses_of said).out out.old out.new
         × Stays (uses_of said).disk disk result.1
         × Stays (uses_of said).spare spare.old spare.new
-        × Stays (uses_of said).gates gates.old gates.new }
+        × Stays (uses_of said).gates gates.old gates.new
+        × Stays (uses_of said).keeper keeper.old keeper.new }
     ensures unread { (said : declared.Command) → AreWordsOf said (map string_bytes words.now)
         → ends_at_fault said ≡ false
         → IsUnopened result.0 → (input.new ≡ input.old) × (O.sink out.new ≡ O.sink out.old) }
     ensures usage { (result.0 ≡ Ending.Usage) ↔ (¬ (AreCommand (map string_bytes words.now))) }
     ensures untouched { result.0 ≡ Ending.Usage
         → (input.new ≡ input.old) × (out.new ≡ out.old) × (result.1 ≡ disk) × (spare.new ≡ spare.old)
-        × (gates.new ≡ gates.old) }
+        × (gates.new ≡ gates.old) × (keeper.new ≡ keeper.old) }
 {
     match read_words(alloc, words) {
-        Ok(command) => do_command(rt, alloc, &command, input, out, disk, spare, gates, clock),
+        Ok(command) => do_command(
+            rt, alloc, &command, input, out, disk, spare, gates, clock, keeper,
+        ),
         Err(WordsFault::Usage) => (Ending::Usage, disk),
         Err(WordsFault::OutOfMemory) => (Ending::OutOfMemory, disk),
     }
@@ -192,6 +238,7 @@ fn do_command<
     C: Clock + Send + Drop,
     I: Source,
     O: Sink,
+    K: Keeper,
     R: Threads + Wait + Sync,
 >(
     rt: &R,
@@ -203,32 +250,50 @@ fn do_command<
     spare: &mut D,
     gates: &mut Vec<G>,
     clock: C,
+    keeper: &mut K,
 ) -> (Ending, D)
     requires in_range { IsInRange command.now }
     requires gates { HasGates command.now (vec_len gates.old) }
     ensures ends { EndsAs G.gate G.Conn.source G.Conn.sink command.now (C.clock clock) result.0
-        (record { input = I.source input.old; out = O.sink out.old; disk = D.disk disk; spare = D.disk spare.old; gates = gates.old.items })
+        (record {
+          input = I.source input.old;
+          out = O.sink out.old;
+          disk = D.disk disk;
+          spare = D.disk spare.old;
+          gates = gates.old.items;
+          keeper = K.keeper keeper.old;
+        })
         (record {
           input = I.source input.new;
           out = O.sink out.new;
           disk = D.disk result.1;
           spare = D.disk spare.new;
           gates = gates.new.items;
+          keeper = K.keeper keeper.new;
         }) }
     ensures causes { HasCause G.gate result.0
-        (record { input = I.source input.old; out = O.sink out.old; disk = D.disk disk; spare = D.disk spare.old; gates = gates.old.items })
+        (record {
+          input = I.source input.old;
+          out = O.sink out.old;
+          disk = D.disk disk;
+          spare = D.disk spare.old;
+          gates = gates.old.items;
+          keeper = K.keeper keeper.old;
+        })
         (record {
           input = I.source input.new;
           out = O.sink out.new;
           disk = D.disk result.1;
           spare = D.disk spare.new;
           gates = gates.new.items;
+          keeper = K.keeper keeper.new;
         }) }
     ensures uses { Stays (uses_of command.now).input input.old input.new
         × Stays (uses_of command.now).out out.old out.new
         × Stays (uses_of command.now).disk disk result.1
         × Stays (uses_of command.now).spare spare.old spare.new
-        × Stays (uses_of command.now).gates gates.old gates.new }
+        × Stays (uses_of command.now).gates gates.old gates.new
+        × Stays (uses_of command.now).keeper keeper.old keeper.new }
     ensures unread { ends_at_fault command.now ≡ false → IsUnopened result.0
         → (input.new ≡ input.old) × (O.sink out.new ≡ O.sink out.old) }
 {
@@ -270,6 +335,10 @@ fn do_command<
             let (own, disk) = follow_take(alloc, input, out, disk);
             (own.ending(), disk)
         }
+        Command::Register { cusip } => {
+            let (own, disk) = register(alloc, cusip, out, disk, keeper);
+            (own.ending(), disk)
+        }
         Command::Trial { seed, count } => (trial(alloc, *seed, *count, out).ending(), disk),
     }
 }
@@ -294,10 +363,17 @@ fn inquiry(operator: &Ident, key: &Key, query: &Query, csv: bool) -> Inquiry
 }
 
 // Nothing can be told of a failure to tell.
-fn tell<E: Sink>(ending: Ending, err: &mut E)
-    ensures { Reports ending (E.sink err.old) (E.sink err.new) }
+fn tell<E: Sink>(ending: &Ending, err: &mut E)
+    ensures { Reports ending.now (E.sink err.old) (E.sink err.new) }
 {
-    if ending != Ending::Done {
-        let _ = err.write(ending.message().bytes());
+    match ending {
+        Ending::Done => {}
+        _ => say(ending.message().bytes(), err),
     }
+}
+
+fn say<E: Sink>(message: &[u8], err: &mut E)
+    ensures { Tells (E.sink err.old) (E.sink err.new) message.now }
+{
+    let _ = err.write(message);
 }

@@ -11,8 +11,8 @@ use std::alloc::Global;
 use tb_units::OutOfMemory;
 use tb_words::{Command, WordsFault, read_words};
 
-/// The plan for the words: whether the command works on the journal, and the numbers of `serve`, else port 0, no worker
-/// and no link. It refuses for memory alone.
+/// The plan for the words: whether the command works on the journal and on the register, and the numbers of `serve`,
+/// else port 0, no worker and no link. It refuses for memory alone.
 pub fn plan(alloc: Global, words: &[String]) -> Result<Plan, OutOfMemory>
     ensures command { IfOk result (λ plan. (said : declared.Command) → AreWordsOf said (map string_bytes words.now)
         → plan ≡ plan_of said) }
@@ -23,6 +23,7 @@ pub fn plan(alloc: Global, words: &[String]) -> Result<Plan, OutOfMemory>
         Ok(command) => Ok(planned(&command)),
         Err(WordsFault::Usage) => Ok(Plan {
             journal: false,
+            register: false,
             port: 0,
             workers: 0,
             links: 0,
@@ -48,6 +49,7 @@ fn planned(command: &Command) -> Plan
     };
     Plan {
         journal: !matches!(command, Command::Award { .. } | Command::Trial { .. }),
+        register: matches!(command, Command::Register { .. }),
         port,
         workers,
         links,

@@ -15,6 +15,8 @@ mod opening;
 #[cfg(test)]
 mod read_tests;
 #[cfg(test)]
+mod register_tests;
+#[cfg(test)]
 mod report_tests;
 #[cfg(test)]
 mod run_tests;

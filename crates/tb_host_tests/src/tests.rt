@@ -8,6 +8,7 @@ use tb_disk::MemoryDisk;
 use tb_gates::{ListClock, ListGate};
 use tb_host::*;
 use tb_link::{Source, TextSink, TextSource};
+use tb_register::{Keeper, MemoryKeeper};
 use tb_units::Moment;
 
 pub const BOOK: &str = "offering 1000000000 1000000 91\n\
@@ -287,7 +288,7 @@ pub fn serve_on<R: Threads + Wait + Sync>(
     serve_from(rt, alloc, words, &mut input, failing_writes, disk, gates)
 }
 
-/// Runs the host on an input, a disk and these gates.
+/// Runs the host on an input, a disk and these gates, with an empty register.
 pub fn serve_from<R: Threads + Wait + Sync, I: Source>(
     rt: &R,
     alloc: Global,
@@ -295,7 +296,31 @@ pub fn serve_from<R: Threads + Wait + Sync, I: Source>(
     input: &mut I,
     failing_writes: &[u64],
     disk: MemoryDisk,
+    gates: Vec<ListGate>,
+) -> Result<(Outcome, Vec<ListGate>), Fail> {
+    let mut keeper = MemoryKeeper::new(alloc, Vec::new(alloc));
+    keep_from(
+        rt,
+        alloc,
+        words,
+        input,
+        failing_writes,
+        disk,
+        gates,
+        &mut keeper,
+    )
+}
+
+/// Runs the host on an input, a disk, these gates and this register.
+pub fn keep_from<R: Threads + Wait + Sync, I: Source, K: Keeper>(
+    rt: &R,
+    alloc: Global,
+    words: &[&str],
+    input: &mut I,
+    failing_writes: &[u64],
+    disk: MemoryDisk,
     mut gates: Vec<ListGate>,
+    keeper: &mut K,
 ) -> Result<(Outcome, Vec<ListGate>), Fail> {
     let mut owned = Vec::new(alloc);
     for word in words {
@@ -311,7 +336,7 @@ pub fn serve_from<R: Threads + Wait + Sync, I: Source>(
     let mut spare = MemoryDisk::new(alloc, b"spare", 5, 0, Vec::new(alloc), 0)?;
     let clock = ListClock::new(Vec::from_array(alloc, [NOON])?);
     let ended = host_main(
-        rt, alloc, owned, input, &mut out, &mut err, disk, &mut spare, &mut gates, clock,
+        rt, alloc, owned, input, &mut out, &mut err, disk, &mut spare, &mut gates, clock, keeper,
     );
     let outcome = Outcome {
         status: ended.status,

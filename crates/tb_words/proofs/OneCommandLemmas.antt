@@ -1,19 +1,22 @@
 -- No two commands have the same words.
-use Rattle.std.proofs.Common.{◌≡◌, ℕ, ◌+◌, ◌<◌, ◌^◌, List, [], ◌∷◌, Bool, true, false, Some}
+use Rattle.std.proofs.Common.{◌≡◌, ℕ, ◌+◌, ◌<◌, ◌^◌, List, [], ◌∷◌, Bool, true, false, Option, Some, None}
 use Rattle.std.proofs.Common.{refl, sym, subst, ap, ◌∙◌, arith, codes, get_or}
 use Rattle.std.specs.Prelude.{if◌then◌else◌}
+use Rattle.std.specs.List.{list_all}
 use Rattle.std.specs.Fmt.{decimal}
 use Rattle.std.proofs.lemmas.Fmt.{decimal_injective}
 use Rattle.tb_terms.specs.Same.{same_cusip}
+use Rattle.tb_terms.specs.declared.cusip.Cusip.{Cusip}
 use Rattle.tb_message.specs.declared.key.Key.{Key}
 use Rattle.tb_message.specs.declared.query.Query.{Query}
 use Rattle.tb_message.specs.declared.query.Query.TheVariants as query
 use Rattle.tb_message.specs.Keys.{key_of}
 use Rattle.tb_words.specs.declared.command.Command.{Command}
 use Rattle.tb_words.specs.declared.command.Command.TheVariants as command
-use Rattle.tb_words.specs.Items.{Text, Item, items_of}
-use Rattle.tb_words.specs.Lines.{times}
-use Rattle.tb_words.specs.Commands.{AreWordsOf, IsKey, Spells, key_text, name_of, query_words}
+use Rattle.tb_words.specs.Items as item
+use Rattle.tb_words.specs.Items.{Text, Item, items_of, is_known, values_in}
+use Rattle.tb_words.specs.Lines.{Says, times}
+use Rattle.tb_words.specs.Commands.{AreWordsOf, IsKey, Spells, key_text, line_of, name_of, query_words}
 use Rattle.tb_words.proofs.KeyLemmas.{key_known}
 
 -- a list of one text has one text
@@ -70,9 +73,37 @@ one_full true false same = cc (same)
 one_full false true same = cc (same)
 one_full false false same = refl
 
--- a number that tells the names of commands apart: the sum of the first letter and the third
+-- where no option is known none has a value
+no_value : (wanted : Text) (items : List Item) → list_all (is_known []) items ≡ true → values_in wanted items ≡ []
+no_value wanted [] known = refl
+no_value wanted (item.place word ∷ items) known = no_value wanted items known
+no_value wanted (item.option name value ∷ items) known = cc (known)
+no_value wanted (item.csv ∷ items) known = no_value wanted items known
+no_value wanted (item.bare ∷ items) known = cc (known)
+
+-- a line without options says no bill
+no_bill : (bill : Cusip) (items : List Item)
+    → Says (line_of (command.Register None)) items
+    → Says (line_of (command.Register (Some bill))) items
+    → ⊥
+no_bill bill items without with_one =
+    let same : [] ≡ bill.bytes ∷ [] = sym (no_value (codes "--cusip") items without.no_more) ∙ with_one.options.0 in
+    cc (same)
+
+-- one bill is named, or none
+one_bill : (one other : Option Cusip) (items : List Item)
+    → Says (line_of (command.Register one)) items
+    → Says (line_of (command.Register other)) items
+    → one ≡ other
+one_bill None None items is_one is_other = refl
+one_bill None (Some bill) items is_one is_other = absurd (no_bill bill items is_one is_other)
+one_bill (Some bill) None items is_one is_other = absurd (no_bill bill items is_other is_one)
+one_bill (Some bill) (Some named) items is_one is_other =
+    ap Some (same_cusip bill named (one_text _ bill.bytes named.bytes is_one.options.0 is_other.options.0))
+
+-- a number that tells the names of commands apart: the sum of the first letter and twice the third
 abbrev tag_of : Text → ℕ
-tag_of name = get_or name 0 0 + get_or name 2 0
+tag_of name = get_or name 0 0 + get_or name 2 0 + get_or name 2 0
 
 -- one name has one such number
 same_tag : (one other : Text) → one ≡ other → tag_of one ≡ tag_of other
@@ -124,6 +155,8 @@ one_spelled command.FollowTake (command.FollowSend from) items named is_one is_o
     let same : codes "take" ∷ [] ≡ codes "send" ∷ decimal from ∷ [] = sym is_one.line.places ∙ is_other.line.places in
     absurd (cc (same))
 one_spelled command.FollowTake command.FollowTake items named is_one is_other = refl
+one_spelled (command.Register cusip) (command.Register other) items named is_one is_other =
+    ap command.Register (one_bill cusip other items is_one.line is_other.line)
 one_spelled (command.Trial seed count) (command.Trial start size) items named is_one is_other =
     let same : decimal seed ∷ decimal count ∷ [] ≡ decimal start ∷ decimal size ∷ [] =
     sym is_one.line.places ∙ is_other.line.places in

@@ -1,8 +1,11 @@
 -- The command set: which words each command is.
 use Rattle.std.specs.Prelude.{◌≡◌, ◌≤◌, ◌<◌, ◌^◌, List, [], ◌∷◌, ◌++◌, length, Bool}
-use Rattle.std.specs.Prelude.{true, false, ⊤, if◌then◌else◌, codes}
+use Rattle.std.specs.Prelude.{true, false, ⊤, if◌then◌else◌, codes, Option, Some, None, IfSome}
+use Rattle.std.specs.List.{list_all}
 use Rattle.std.specs.Fmt.{decimal}
 use Rattle.tb_units.specs.Names.{is_name}
+use Rattle.tb_terms.specs.Cusips.{is_cusip_byte}
+use Rattle.tb_terms.specs.declared.cusip.Cusip.{Cusip}
 use Rattle.tb_message.specs.declared.key.Key.{Key}
 use Rattle.tb_message.specs.declared.key.Key.TheVariants as key
 use Rattle.tb_message.specs.declared.query.Query.{Query}
@@ -52,6 +55,15 @@ has_table (query.Bids auction) = false
 has_table query.Holdings = true
 has_table (query.Redemption bill) = false
 
+-- a CUSIP of nine digits and capital letters; its check digit isn't looked at
+abbrev pub IsBill : Cusip → Type 0
+IsBill bill = (length bill.bytes ≡ 9) × (list_all is_cusip_byte bill.bytes ≡ true)
+
+-- the option that names a bill, where one is named
+abbrev pub bill_option : Option Cusip → List (Text × Text)
+bill_option None = []
+bill_option (Some bill) = (codes "--cusip", bill.bytes) ∷ []
+
 -- the first word of a command
 abbrev pub name_of : Command → Text
 name_of (command.Award full) = codes "award"
@@ -62,6 +74,7 @@ name_of (command.Report operator caller asked csv) = codes "report"
 name_of command.Migrate = codes "migrate"
 name_of (command.FollowSend from) = codes "follow"
 name_of command.FollowTake = codes "follow"
+name_of (command.Register cusip) = codes "register"
 name_of (command.Trial seed count) = codes "trial"
 
 -- what stands behind it
@@ -88,6 +101,7 @@ line_of (command.Report operator caller asked csv) = record {
 line_of command.Migrate = record { places = []; options = []; csv = false }
 line_of (command.FollowSend from) = record { places = codes "send" ∷ decimal from ∷ []; options = []; csv = false }
 line_of command.FollowTake = record { places = codes "take" ∷ []; options = []; csv = false }
+line_of (command.Register cusip) = record { places = []; options = bill_option cusip; csv = false }
 line_of (command.Trial seed count) = record { places = decimal seed ∷ decimal count ∷ []; options = []; csv = false }
 
 -- names are names, numbers are in their ranges, and a table is asked for where there is one
@@ -105,6 +119,7 @@ IsInRange (command.Report operator caller asked csv) =
 IsInRange command.Migrate = ⊤
 IsInRange (command.FollowSend from) = from < 2 ^ 64
 IsInRange command.FollowTake = ⊤
+IsInRange (command.Register cusip) = IfSome cusip IsBill
 IsInRange (command.Trial seed count) = (seed < 2 ^ 64) × ((1 ≤ count) × (count ≤ 10 ^ 6))
 
 -- the items behind the command's name are those of the command, whose values are in their ranges

@@ -38,6 +38,7 @@ names_of options.Nothing = []
 names_of options.Operator = codes "--op" ∷ []
 names_of options.Serving = codes "--op" ∷ codes "--port" ∷ codes "--workers" ∷ codes "--links" ∷ []
 names_of options.Keyed = codes "--op" ∷ codes "--key" ∷ []
+names_of options.Bill = codes "--cusip" ∷ []
 
 -- the only value, if there is one and no second
 abbrev pub only_of : List Text → Option Text

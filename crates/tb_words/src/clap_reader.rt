@@ -3,7 +3,7 @@ ghost use Rattle.std.specs.Prelude.{◌≤◌, IfSome};
 
 use crate::command::Command;
 use crate::plain::{asked, is_tabled};
-use crate::shape::Places;
+use crate::shape::{Places, read_bill};
 use clap::error::ErrorKind;
 use clap::{Arg, ArgAction, ArgMatches};
 use std::alloc::{AllocError, Global};
@@ -33,6 +33,7 @@ fn host<'a>(alloc: Global) -> Result<clap::Command<'a>, AllocError> {
         .subcommand(report(alloc)?)?
         .subcommand(clap::Command::new(alloc, "migrate"))?
         .subcommand(follow(alloc)?)?
+        .subcommand(register(alloc)?)?
         .subcommand(trial(alloc)?)
 }
 
@@ -77,6 +78,10 @@ fn follow<'a>(alloc: Global) -> Result<clap::Command<'a>, AllocError> {
         .arg(Arg::new(alloc, "from"))
 }
 
+fn register<'a>(alloc: Global) -> Result<clap::Command<'a>, AllocError> {
+    clap::Command::new(alloc, "register").arg(Arg::new(alloc, "cusip").long("cusip"))
+}
+
 fn trial<'a>(alloc: Global) -> Result<clap::Command<'a>, AllocError> {
     clap::Command::new(alloc, "trial")
         .arg(place(alloc, "seed"))?
@@ -113,6 +118,8 @@ fn said(matches: &ArgMatches<'_>) -> Option<Command> {
         Some(Command::Migrate)
     } else if name == "follow" {
         said_follow(given)
+    } else if name == "register" {
+        said_register(given)
     } else {
         Some(Command::Trial {
             seed: number(given, "seed", 0, u64::MAX)?,
@@ -174,6 +181,14 @@ fn said_follow(given: &ArgMatches<'_>) -> Option<Command> {
         }
         _ => None,
     }
+}
+
+fn said_register(given: &ArgMatches<'_>) -> Option<Command> {
+    let Some(text) = given.get_str("cusip") else {
+        return Some(Command::Register { cusip: None });
+    };
+    let cusip = read_bill(text)?;
+    Some(Command::Register { cusip: Some(cusip) })
 }
 
 fn operator(given: &ArgMatches<'_>) -> Option<Ident> {

@@ -1,5 +1,6 @@
 //! The commands of the host.
 use tb_message::{Key, Query};
+use tb_terms::Cusip;
 use tb_units::Ident;
 
 /// A command, with what its words say. The key word of the operator that is named is `op:` and the name.
@@ -40,6 +41,11 @@ pub enum Command {
     },
     /// Takes parcels, as a standby.
     FollowTake,
+    /// Puts the published auctions into the register, and prints the rows of a bill where one is named. A CUSIP is nine
+    /// digits and capital letters.
+    Register {
+        cusip: Option<Cusip>,
+    },
     /// Runs an auction of so many bids that follow from a seed.
     Trial {
         seed: u64,

@@ -7,10 +7,10 @@ ghost use Rattle.tb_words.specs.Parts.{IsReadAs, texts_of};
 
 use crate::command::Command;
 use crate::shape::{
-    Options, Places, caller, has_options_alone, name_under, number_under, places_alone, read_shape,
+    Options, Places, bill_under, caller, has_options_alone, name_under, nine_bytes, number_under,
+    places_alone, read_shape,
 };
 use tb_message::Query;
-use tb_terms::Cusip;
 use tb_units::{Ident, read_within};
 
 /// The command that the words are, if they are one.
@@ -40,6 +40,8 @@ fn read_named(name: &str, words: &[String]) -> Option<Command>
         migrate(words)
     } else if name == "follow" {
         follow(words)
+    } else if name == "register" {
+        register(words)
     } else if name == "trial" {
         trial(words)
     } else {
@@ -136,6 +138,19 @@ fn follow(words: &[String]) -> Option<Command>
     }
 }
 
+fn register(words: &[String]) -> Option<Command>
+    ensures { IsReadAs (codes "register") (map string_bytes words.now) result }
+{
+    if has_options_alone(words, Options::Nothing) {
+        return Some(Command::Register { cusip: None });
+    }
+    if !has_options_alone(words, Options::Bill) {
+        return None;
+    }
+    let cusip = bill_under(words)?;
+    Some(Command::Register { cusip: Some(cusip) })
+}
+
 fn trial(words: &[String]) -> Option<Command>
     ensures { IsReadAs (codes "trial") (map string_bytes words.now) result }
 {
@@ -164,7 +179,9 @@ pub(crate) fn asked(places: Places<'_>) -> Option<Query>
 {
     match places {
         Places::One(kind) if kind == "holdings" => Some(Query::Holdings),
-        Places::Two(kind, named) if kind == "redemption" => bill(named).map(Query::Redemption),
+        Places::Two(kind, named) if kind == "redemption" => nine_bytes(named).map(
+            Query::Redemption,
+        ),
         Places::Two(kind, named) => asked_of(kind, Ident::read(named)?),
         _ => None,
     }
@@ -187,18 +204,4 @@ fn asked_of(kind: &str, auction: Ident) -> Option<Query>
     } else {
         None
     }
-}
-
-// The CUSIP of nine bytes.
-fn bill(text: &str) -> Option<Cusip>
-    ensures bill { IfSome result (λ bill. (bill.bytes ≡ text.now) × (length bill.bytes ≡ 9)) }
-    ensures none { IfNone result (length text.now ≢ 9) }
-{
-    let text = text.as_bytes();
-    if text.len() != 9 {
-        return None;
-    }
-    let mut bytes = [0; 9];
-    bytes.copy_from_slice(text);
-    Some(Cusip { bytes })
 }

@@ -10,12 +10,15 @@ ghost use Rattle.tb_words.specs.Items as spelled;
 ghost use Rattle.tb_words.specs.Items.{Text, items_of, places_in, values_in, is_csv, is_known};
 ghost use Rattle.tb_words.specs.Lines.{Line, Says, option_names, times};
 ghost use Rattle.tb_message.specs.declared.key.Key.{Key};
-ghost use Rattle.tb_words.specs.Commands.{IsKey, key_text};
+ghost use Rattle.tb_terms.specs.Cusips.{is_cusip_byte};
+ghost use Rattle.tb_terms.specs.declared.cusip.Cusip as declared;
+ghost use Rattle.tb_words.specs.Commands.{IsBill, IsKey, key_text};
 ghost use Rattle.tb_words.specs.Parts.{texts_of, names_of, only_of, standing_of, item_of};
 ghost use Rattle.tb_words.specs.Parts.{IsShapeOf, HasOptionsAlone, HasPlacesAlone};
 
 use crate::items::{Item, Items};
 use tb_message::Key;
+use tb_terms::Cusip;
 use tb_units::{Ident, read_within};
 
 /// The positional words of a line, at most two.
@@ -36,6 +39,8 @@ pub(crate) enum Options {
     Serving,
     /// The operator's name and a key.
     Keyed,
+    /// A bill's CUSIP alone.
+    Bill,
 }
 
 /// The positional words of a line, and whether `--csv` stands.
@@ -56,6 +61,7 @@ impl Options {
                 name == "--op" || name == "--port" || name == "--workers" || name == "--links"
             }
             Options::Keyed => name == "--op" || name == "--key",
+            Options::Bill => name == "--cusip",
         }
     }
 
@@ -222,4 +228,49 @@ fn read_key(text: &str) -> Option<Key>
     ensures none { IfNone result ((key : Key) → IsKey key → text.now ≢ key_text key) }
 {
     Key::read(text)
+}
+
+/// The CUSIP that stands alone under `--cusip`.
+pub(crate) fn bill_under(words: &[String]) -> Option<Cusip>
+    ensures bill { IfSome result (λ bill. IsBill bill
+        × (values_in (codes "--cusip") (items_of (map string_bytes words.now)) ≡ bill.bytes ∷ [])) }
+    ensures none { IfNone result ((bill : declared.Cusip) → IsBill bill
+        → values_in (codes "--cusip") (items_of (map string_bytes words.now)) ≢ bill.bytes ∷ []) }
+{
+    read_bill(only(words, "--cusip")?)
+}
+
+/// The CUSIP that a text is, if it is one of nine digits and capital letters.
+pub(crate) fn read_bill(text: &str) -> Option<Cusip>
+    ensures bill { IfSome result (λ bill. IsBill bill × (text.now ≡ bill.bytes)) }
+    ensures none { IfNone result ((bill : declared.Cusip) → IsBill bill → text.now ≢ bill.bytes) }
+{
+    let bill = nine_bytes(text)?;
+    if are_bill_bytes(&bill.bytes) {
+        Some(bill)
+    } else {
+        None
+    }
+}
+
+fn are_bill_bytes(bytes: &[u8]) -> bool
+    ensures { result ≡ list_all is_cusip_byte bytes.now }
+{
+    bytes
+        .iter()
+        .all(|byte| byte.is_ascii_digit() || byte.is_ascii_uppercase())
+}
+
+/// The nine bytes that a text is, as a CUSIP.
+pub(crate) fn nine_bytes(text: &str) -> Option<Cusip>
+    ensures bill { IfSome result (λ bill. (bill.bytes ≡ text.now) × (length bill.bytes ≡ 9)) }
+    ensures none { IfNone result (length text.now ≢ 9) }
+{
+    let text = text.as_bytes();
+    if text.len() != 9 {
+        return None;
+    }
+    let mut bytes = [0; 9];
+    bytes.copy_from_slice(text);
+    Some(Cusip { bytes })
 }

@@ -133,6 +133,18 @@ fn commands_have_their_values(rt: HostRuntime) {
         )
     );
     assert!(rt; reads_as(&rt, "follow take", Ok(Command::FollowTake)));
+    assert!(rt; reads_as(&rt, "register", Ok(Command::Register { cusip: None })));
+    assert!(rt;
+        reads_as(
+            &rt,
+            "register --cusip 912797AA5",
+            Ok(Command::Register {
+                cusip: Some(Cusip {
+                    bytes: *b"912797AA5",
+                }),
+            }),
+        )
+    );
     assert!(rt; reads_as(&rt, "award more", Err(WordsFault::Usage)));
 }
 
@@ -155,6 +167,9 @@ fn lines_inside_the_set_are_taken_by_both(rt: HostRuntime) {
     assert!(rt; taken(&rt, "migrate"));
     assert!(rt; taken(&rt, "follow send 0"));
     assert!(rt; taken(&rt, "follow take"));
+    assert!(rt; taken(&rt, "register"));
+    assert!(rt; taken(&rt, "register --cusip=912797AA4"));
+    assert!(rt; taken(&rt, "register --cusip 0ZZZZZZZ9"));
     assert!(rt; taken(&rt, "trial 1 1"));
     assert!(rt; taken(&rt, "trial 0 1000000"));
 }
@@ -240,6 +255,20 @@ fn words_of_follow_outside_the_set(rt: HostRuntime) {
     assert!(rt; refused(&rt, "follow 0 send"));
     assert!(rt; refused(&rt, "follow give 0"));
     assert!(rt; refused(&rt, "follow take --op root"));
+}
+
+#[test]
+fn words_of_register_outside_the_set(rt: HostRuntime) {
+    assert!(rt; refused(&rt, "register 912797AA5"));
+    assert!(rt; refused(&rt, "register --cusip"));
+    assert!(rt; refused(&rt, "register --cusip 912797AA"));
+    assert!(rt; refused(&rt, "register --cusip 912797AA50"));
+    assert!(rt; refused(&rt, "register --cusip 912797aa5"));
+    assert!(rt; refused(&rt, "register --cusip 912797/A5"));
+    assert!(rt; refused(&rt, "register --cusip 912797A@5"));
+    assert!(rt; refused(&rt, "register --cusip 912797AA5 --cusip 912797AA5"));
+    assert!(rt; refused(&rt, "register --op root"));
+    assert!(rt; refused(&rt, "register --csv"));
 }
 
 #[test]

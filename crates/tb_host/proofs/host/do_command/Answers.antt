@@ -1,6 +1,6 @@
 use Rattle.std.proofs.Common.{refl}
-use Rattle.tb_host.proofs.CauseLemmas.{report-cause, send-cause, serve-cause, trial-cause}
-use Rattle.tb_host.proofs.HostLemmas.{EndsAs-report, EndsAs-send}
+use Rattle.tb_host.proofs.CauseLemmas.{register-cause, report-cause, send-cause, serve-cause, trial-cause}
+use Rattle.tb_host.proofs.HostLemmas.{EndsAs-register, EndsAs-report, EndsAs-send}
 use Rattle.tb_host.proofs.host.do_command.Goals as goal
 
 pub returns-in-Serve-clause-causes : goal.returns-in-Serve-clause-causes
@@ -37,3 +37,15 @@ pub returns-in-Trial-clause-causes : goal.returns-in-Trial-clause-causes
 returns-in-Trial-clause-causes g c =
     trial-cause g.G.Gate.gate _ _ c.in-Trial.seed c.in-Trial.count c.trial.result c.ending-in-Trial.result
     c.ending-in-Trial.ensures c.trial.ensures.ends refl
+
+pub returns-in-Register-clause-ends : goal.returns-in-Register-clause-ends
+returns-in-Register-clause-ends g c =
+    EndsAs-register g.G.Gate.gate g.G.Conn.Source.source g.G.Conn.Sink.sink (g.C.Clock.clock c.args.clock)
+    c.args.command.now c.in-Register.cusip c.register-own.result.0 c.ending-in-Register.result _ _
+    c.in-Register.is c.ending-in-Register.ensures
+    (c.register-own.ensures.ends (g.I.Source.source c.args.input.now))
+
+pub returns-in-Register-clause-causes : goal.returns-in-Register-clause-causes
+returns-in-Register-clause-causes g c =
+    register-cause g.G.Gate.gate _ _ c.in-Register.cusip c.register-own.result.0 c.ending-in-Register.result
+    c.ending-in-Register.ensures (c.register-own.ensures.ends (g.I.Source.source c.args.input.now))

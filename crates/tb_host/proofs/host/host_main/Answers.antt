@@ -50,4 +50,5 @@ returns-clause-untouched g c = λ is.
       left.2,
       left.3,
       left.4,
+      left.5,
     )

@@ -1,7 +1,7 @@
 -- there are as many gates as the words plan workers
 use Rattle.std.proofs.Common.{arith}
 use Rattle.tb_host.proofs.PlanLemmas.{HasGates-planned}
-use Rattle.tb_host_tests.proofs.tests.serve_from.Goals as goal
+use Rattle.tb_host_tests.proofs.tests.keep_from.Goals as goal
 
 pub host_main-ended-requires-clause-gates : goal.host_main-ended-requires-clause-gates
 host_main-ended-requires-clause-gates g c κs within = λ said are.

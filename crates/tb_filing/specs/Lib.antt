@@ -1,0 +1,4 @@
+pub mod Rows
+pub mod Filing
+pub mod Texts
+pub mod Telling

@@ -1,0 +1,5 @@
+pub mod Rows
+pub mod Tables
+pub mod Making
+pub mod Keepers
+pub mod Memory

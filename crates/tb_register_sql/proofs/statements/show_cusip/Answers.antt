@@ -1,0 +1,22 @@
+-- Statement 4 is a query of the table.
+use Rattle.std.proofs.lemmas.Result.{IfOk-weaker}
+use Rattle.sqlite.specs.Held.{state}
+use Rattle.tb_register_sql.specs.Auctions.{of_cusip_text}
+use Rattle.tb_register_sql.proofs.EffectLemmas.{shows_cusip}
+use Rattle.tb_register_sql.proofs.AddedLemmas.{query_stays, of_cusip_is_plain}
+use Rattle.tb_register_sql.proofs.statements.show_cusip.Goals as goal
+
+pub returns-clause-rows : goal.returns-clause-rows
+returns-clause-rows g c clean was =
+    let old = state g.S.Store c.args.conn.now in
+    let new = state g.S.Store c.query_all.new.self in
+    IfOk-weaker c.query_all.result _ _
+    (λ rows shown. shows_cusip old new c.args.cusip.now.bytes rows.items was.schema shown)
+    (c.query_all.ensures.ok clean)
+
+pub returns-clause-same : goal.returns-clause-same
+returns-clause-same g c clean is_open was =
+    let old = state g.S.Store c.args.conn.now in
+    let new = state g.S.Store c.query_all.new.self in
+    query_stays old new of_cusip_text _ (λ rows. rows.items) c.query_all.result was is_open (of_cusip_is_plain old was)
+    (c.query_all.ensures.ok clean) (c.query_all.ensures.err clean)

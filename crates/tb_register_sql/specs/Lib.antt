@@ -1,0 +1,4 @@
+pub mod Auctions
+pub mod Shelves
+pub mod Memory
+pub mod Keepers

@@ -1,0 +1,6 @@
+//! Tests of tb_register through its public calls. They are a crate of their own, so that tb_register isn't proved a
+//! second time with them.
+#![tactic(auto)]
+
+#[cfg(test)]
+mod tests;
