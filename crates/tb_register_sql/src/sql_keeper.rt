@@ -65,17 +65,50 @@ pub(crate) fn count<T: Drop>(
 }
 
 impl<S: Alter + Drop> Keeper for SqlKeeper<S> {
-    ghost use Rattle.std.specs.Prelude.{None};
-    ghost use Rattle.tb_register.specs.Keepers.{KeeperState};
+    ghost use Rattle.std.specs.Prelude.{IfOk, map};
+    ghost use Rattle.std.specs.Option.{option_map};
+    ghost use Rattle.sqlite.specs.Held.{state};
+    ghost use Rattle.tb_register.specs.Keepers.{Gives, Puts, Refuses};
+    ghost use Rattle.tb_register.specs.Rows.{kept};
+    ghost use Rattle.tb_register.specs.Tables.{of_cusip, put_in, row_named};
+    ghost use Rattle.tb_register_sql.specs.Keepers.{untold};
+    ghost use Rattle.tb_register_sql.specs.Shelves.{IsShelf, IsSure, shelf_rows};
 
-    ghost keeper = { λ k. record { table = None; faults = k.faults.count } };
+    ghost keeper = { λ k. untold k.faults.count };
 
-    fn put(&mut self, row: &Row) -> Result<Option<Row>, KeeperFault> {
+    fn put(&mut self, row: &Row) -> Result<Option<Row>, KeeperFault>
+        ensures puts { IfOk result (Puts row.now (untold self.old.faults.count) (untold self.new.faults.count)) }
+        ensures refused { IfErr result (Refuses (untold self.old.faults.count) (untold self.new.faults.count)) }
+        // Over a store that is sure the row is put into the table of the connection.
+        ensures found { IsSure S.Store
+            → IsShelf self.old.shelf.is_made (state S.Store self.old.shelf.connection)
+            → IfOk result (λ found. option_map kept found
+            ≡ row_named row.now.auction (shelf_rows self.old.shelf.is_made (state S.Store self.old.shelf.connection))) }
+        ensures put { IsSure S.Store
+            → IsShelf self.old.shelf.is_made (state S.Store self.old.shelf.connection)
+            → OnOk result (shelf_rows self.new.shelf.is_made (state S.Store self.new.shelf.connection)
+            ≡ put_in (kept row.now) (shelf_rows self.old.shelf.is_made (state S.Store self.old.shelf.connection))) }
+        ensures shelf { IsSure S.Store
+            → IsShelf self.old.shelf.is_made (state S.Store self.old.shelf.connection)
+            → IsShelf self.new.shelf.is_made (state S.Store self.new.shelf.connection) }
+    {
         let answer = self.shelf.put(row);
         count(answer, &mut self.faults)
     }
 
-    fn of_cusip(&mut self, cusip: &Cusip) -> Result<Vec<Row>, KeeperFault> {
+    fn of_cusip(&mut self, cusip: &Cusip) -> Result<Vec<Row>, KeeperFault>
+        ensures gives { IfOk result (λ rows.
+            Gives cusip.now.bytes (untold self.old.faults.count) (untold self.new.faults.count) rows.items) }
+        ensures refused { IfErr result (Refuses (untold self.old.faults.count) (untold self.new.faults.count)) }
+        // Over a store that is sure these are the rows that the table of the connection has of the bill.
+        ensures rows { IsSure S.Store
+            → IsShelf self.old.shelf.is_made (state S.Store self.old.shelf.connection)
+            → IfOk result (λ rows. map kept rows.items
+            ≡ of_cusip cusip.now.bytes (shelf_rows self.old.shelf.is_made (state S.Store self.old.shelf.connection))) }
+        ensures shelf { IsSure S.Store
+            → IsShelf self.old.shelf.is_made (state S.Store self.old.shelf.connection)
+            → IsShelf self.new.shelf.is_made (state S.Store self.new.shelf.connection) }
+    {
         let answer = self.shelf.of_cusip(cusip);
         count(answer, &mut self.faults)
     }
