@@ -1,0 +1,181 @@
+//! The host over objects in memory: what it is given, and what comes of it.
+use std::alloc::Global;
+use std::sync::Wait;
+use std::test::Fail;
+use std::thread::Threads;
+use tb_disk::MemoryDisk;
+use tb_gates::{ListClock, ListGate, PairLink};
+use tb_host::*;
+use tb_link::{TextSink, TextSource};
+use tb_register::MemoryKeeper;
+use tb_units::Moment;
+
+/// What the clock gives, before the closings of the auction.
+const MORNING: Moment = Moment {
+    seconds: 1_730_700_000,
+};
+
+/// What the host runs on: threads, and memory.
+#[derive(Drop)]
+pub struct Host<'r, R> {
+    pub rt: &'r R,
+    pub alloc: Global,
+}
+
+/// How a run ended, what its sinks have taken, its disk and its gates.
+#[derive(Drop)]
+pub struct Outcome {
+    pub status: u8,
+    pub out: TextSink,
+    pub err: TextSink,
+    pub disk: MemoryDisk,
+    pub gates: Vec<ListGate>,
+}
+
+/// The run ended with this status, and has written this to its output and this to its errors.
+pub fn is_ended(run: &Outcome, status: u8, out: &[u8], err: &str) -> bool {
+    run.status == status && run.out.bytes() == out && run.err.bytes() == err.as_bytes()
+}
+
+/// A disk with these contents and room for so many bytes, of which the calls of these numbers fail: a failed write
+/// leaves the byte `torn` where something stood.
+pub fn disk_with<R>(
+    host: &Host<'_, R>,
+    contents: &[u8],
+    room: u64,
+    fails: &[u64],
+    torn: u8,
+) -> Result<MemoryDisk, Fail> {
+    if contents.len() as u64 > room {
+        return Err("no room for the contents")?;
+    }
+    let alloc = host.alloc;
+    Ok(MemoryDisk::new(alloc, contents, room, 100_000, fails.to_vec(alloc)?, torn)?)
+}
+
+/// A disk with these contents and room for more, of which no call fails.
+pub fn disk_of<R>(host: &Host<'_, R>, contents: &[u8]) -> Result<MemoryDisk, Fail> {
+    disk_with(host, contents, 50_000, &[], 0)
+}
+
+/// Runs the host on a text and a disk.
+pub fn run<R: Threads + Wait + Sync>(
+    host: &Host<'_, R>,
+    words: &[&str],
+    text: &str,
+    disk: MemoryDisk,
+) -> Result<Outcome, Fail> {
+    serve(host, words, text, disk, Vec::new(host.alloc))
+}
+
+/// Runs the host on a text, a disk and these gates, which are as many as the words say.
+pub fn serve<R: Threads + Wait + Sync>(
+    host: &Host<'_, R>,
+    words: &[&str],
+    text: &str,
+    disk: MemoryDisk,
+    mut gates: Vec<ListGate>,
+) -> Result<Outcome, Fail> {
+    let (rt, alloc) = (host.rt, host.alloc);
+    let mut owned = Vec::new(alloc);
+    for word in words {
+        owned.push(word.to_string(alloc)?)?;
+    }
+    let owned = owned.as_slice();
+    let plan = plan(alloc, owned)?;
+    if gates.len() != plan.workers as usize {
+        return Err("other gates")?;
+    }
+    let mut input = TextSource::new(text.as_bytes().to_vec(alloc)?, 4096, Vec::new(alloc));
+    let mut out = TextSink::new(alloc, 20_000, Vec::new(alloc))?;
+    let mut err = TextSink::new(alloc, 1_000, Vec::new(alloc))?;
+    let mut spare = MemoryDisk::new(alloc, b"spare", 5, 0, Vec::new(alloc), 0)?;
+    let mut keeper = MemoryKeeper::new(alloc, Vec::new(alloc));
+    let clock = ListClock::new(Vec::from_array(alloc, [MORNING])?);
+    let ended = host_main(
+        rt,
+        alloc,
+        owned,
+        &mut input,
+        &mut out,
+        &mut err,
+        disk,
+        &mut spare,
+        &mut gates,
+        clock,
+        &mut keeper,
+    );
+    Ok(Outcome {
+        status: ended.status,
+        out,
+        err,
+        disk: ended.disk,
+        gates,
+    })
+}
+
+/// What a link gives, in pieces of at most so many bytes, and which of its reads and writes fail.
+#[derive(Clone, Copy)]
+pub struct Given<'a> {
+    pub text: &'a str,
+    pub piece: usize,
+    pub failing_reads: &'a [u64],
+    pub failing_writes: &'a [u64],
+}
+
+/// A link that gives this text, and no call of it fails.
+pub fn whole(text: &str) -> Given<'_> {
+    Given {
+        text,
+        piece: 1_000,
+        failing_reads: &[],
+        failing_writes: &[],
+    }
+}
+
+/// A gate with these links.
+pub fn gate<R>(host: &Host<'_, R>, given: &[Given<'_>]) -> Result<ListGate, Fail> {
+    let alloc = host.alloc;
+    let mut links = Vec::new(alloc);
+    for link in given {
+        let text = link.text.as_bytes().to_vec(alloc)?;
+        let source = TextSource::new(text, link.piece.max(1), link.failing_reads.to_vec(alloc)?);
+        let sink = TextSink::new(alloc, 1_000, link.failing_writes.to_vec(alloc)?)?;
+        links.push(PairLink { source, sink })?;
+    }
+    if links.len() > 1_000_000 {
+        return Err("too many links")?;
+    }
+    Ok(ListGate::new(alloc, links, Vec::new(alloc))?)
+}
+
+/// The links of this gate took these replies, in order, and it has had all of them back.
+pub fn takes(run: &Outcome, gate: usize, replies: &[&str]) -> bool {
+    let Some(gate) = run.gates.get(gate) else {
+        return false;
+    };
+    for (link, reply) in gate.finished().iter().zip(replies) {
+        if link.sink.bytes() != reply.as_bytes() {
+            return false;
+        }
+    }
+    gate.finished().len() == replies.len()
+}
+
+/// The texts, one behind the other.
+pub fn joined<R>(host: &Host<'_, R>, texts: &[&str]) -> Result<String, Fail> {
+    let mut all = String::new(host.alloc);
+    for text in texts {
+        all.push_str(text)?;
+    }
+    Ok(all)
+}
+
+/// The same text so many times.
+pub fn repeated<R>(host: &Host<'_, R>, text: &str, count: u64) -> Result<String, Fail> {
+    let mut all = String::new(host.alloc);
+    for _ in 0..count {
+        all.push_str(text)?;
+    }
+    Ok(all)
+}
