@@ -315,6 +315,14 @@ class Client:
         """Pays the holders of a bill, once its payment date has begun."""
         return self._send("redeem", cusip=cusip)
 
+    def deposit(self, participant: str, cents: int) -> Accepted:
+        """Enters so much money of a submitter, in cents, that came in at the bank."""
+        return self._send("deposit", participant=participant, cents=cents)
+
+    def withdraw(self, participant: str, cents: int) -> Accepted:
+        """Enters so much money of a submitter, in cents, that went out: no more than its balance."""
+        return self._send("withdraw", participant=participant, cents=cents)
+
     # The submitters' messages.
 
     def bid(self, auction: str, bidder: str, rate: Rate, amount: int) -> Accepted:
@@ -345,6 +353,21 @@ class Client:
         """Releases so much of the pledge that the holder gave under this number."""
         return self._send("release", holder=holder, pledge=pledge, amount=amount)
 
+    def sell(self, cusip: str, to: str, amount: int, cents: int) -> Accepted:
+        """Offers par of a bill to another submitter for a price in cents, under the number of this message.
+
+        It locks nothing: that the par is free, and the price there, is looked at when the offer is bought.
+        """
+        return self._send("sell", cusip=cusip, to=to, amount=amount, cents=cents)
+
+    def buy(self, seller: str, offer: int) -> Accepted:
+        """Buys the seller's offer of this number: its par and its price move in this one message."""
+        return self._send("buy", seller=seller, offer=offer)
+
+    def retract(self, offer: int) -> Accepted:
+        """Takes the caller's offer of this number back for good."""
+        return self._send("retract", offer=offer)
+
     # Queries.
 
     def terms(self, auction: str) -> Terms:
@@ -372,6 +395,11 @@ class Client:
         """Each bill of which the caller holds something."""
         words = map(str.split, self._ask("holdings"))
         return [Holding(cusip, int(held), int(pledged), int(free)) for cusip, held, pledged, free in words]
+
+    def funds(self) -> Decimal:
+        """The caller's balance, in dollars with two decimals."""
+        (line,) = self._ask("funds")
+        return Decimal(line.split()[1])
 
     def redemption(self, cusip: str) -> Redemption:
         """What the holders of a bill were paid; for the operator."""

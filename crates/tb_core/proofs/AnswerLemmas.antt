@@ -60,6 +60,7 @@ IsReading-own h s auction (query.Awards other) (reading.Awards lines) legal asks
 IsReading-own h s auction (query.Bids other) (reading.Bids lines) legal asks not_yet passed is =
     is ∙ bid_lines-own s h other
 IsReading-own h s auction query.Holdings answer legal asks not_yet passed is = absurd cc
+IsReading-own h s auction query.Funds answer legal asks not_yet passed is = absurd cc
 IsReading-own h s auction (query.Redemption cusip) answer legal asks not_yet passed is = absurd cc
 IsReading-own h s auction (query.Terms other) answer legal asks not_yet passed is = absurd is
 IsReading-own h s auction (query.Results other) answer legal asks not_yet passed is = absurd is

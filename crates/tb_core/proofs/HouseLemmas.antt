@@ -11,7 +11,7 @@ use Rattle.tb_index.specs.Listed.{Listed}
 use Rattle.tb_ledger.specs.Settling.{HasScratch}
 use Rattle.tb_ledger.specs.Accounting.{TellsNext}
 use Rattle.tb_core.specs.Crediting.{movement_in}
-use Rattle.tb_core.specs.House.{AreTied, AreSame, HasEntered, HasRows, HasRoom, IsHouse, room_of}
+use Rattle.tb_core.specs.House.{AreTied, AreSame, EntersMoney, HasEntered, HasRows, HasRoom, IsHouse, room_of}
 use Rattle.tb_core.proofs.TiedLemmas.{AreTied-same, AreTied-push}
 use Rattle.std.specs.List.{filter}
 use Rattle.std.proofs.lemmas.Bool.{and_parts, cases_lt}
@@ -75,6 +75,10 @@ HasRoom-max one other tables first second = record {
         second.accounts.accounts;
     marks = omega (arith, first.accounts.marks, second.accounts.marks);
     redeems = omega (arith, first.accounts.redeems, second.accounts.redeems);
+  };
+  money = record {
+    balances = omega (arith, first.money.balances, second.money.balances);
+    offers = omega (arith, first.money.offers, second.money.offers);
   };
 }
 
@@ -147,15 +151,16 @@ scratch_push before after s n m entered has =
 pub house_push : (old new : Listed Entry) (before after : Tables) (e : Entry)
     → Follows old.list e
     → TellsNext (movement_in before e.submitter e.number e.message) before.accounts after.accounts
+    → EntersMoney e.submitter e.number e.message before after.funds
     → new.list ≡ old.list ++ e ∷ []
     → old.spare ≤ new.spare + 1
     → HasEntered e.submitter e.number e.message before after
     → after.last ≡ e.moment
     → ((room : ℕ) → HasRoom (room + 1) before → HasRoom room after)
     → (room : ℕ) → IsHouse old before (room + 1) → IsHouse new after room
-house_push old new before after e follows told list spare entered last keeps room house = record {
+house_push old new before after e follows told paid list spare entered last keeps room house = record {
   tied = subst (λ (h : List Entry). AreTied h after) (sym list)
-      (AreTied-push old.list before after e house.tied follows told entered last);
+      (AreTied-push old.list before after e house.tied follows told paid entered last);
   roomy = keeps room house.roomy;
   spare = omega (arith, house.spare, spare);
   scratch = scratch_push before after e.submitter e.number e.message entered house.scratch;
@@ -189,6 +194,10 @@ AreSame-both one two three first second = record {
   lasts = omega (arith, first.lasts, second.lasts);
   calendar = second.calendar ∙ first.calendar;
   accounts = λ movements told. second.accounts movements (first.accounts movements told);
+  funds = record {
+    balances = second.funds.balances ∙ first.funds.balances;
+    offers = second.funds.offers ∙ first.funds.offers;
+  };
 }
 
 -- where the rows stay and no room is lost, what fitted still fits

@@ -1,12 +1,15 @@
 pub mod ConservedLemmas
+pub mod FundedLemmas
 pub mod TiedLemmas
 pub mod ReadyLemmas
 pub mod ParRowLemmas
+pub mod OfferRowLemmas
 pub mod ShownLemmas
 pub mod BetweenLemmas
 pub mod HouseLemmas
 pub mod TakenBackLemmas
 pub mod EnterLemmas
+pub mod MoneyLemmas
 pub mod RowLemmas
 pub mod VerdictLemmas
 pub mod OwnLemmas

@@ -26,15 +26,17 @@ use Rattle.tb_history.specs.Roster.{registrations, announcements, announcement_o
 use Rattle.tb_history.specs.Holdings.{open_marks, issued}
 use Rattle.tb_history.specs.Tables.{par_rows}
 use Rattle.tb_history.specs.Legal.{IsLegal, Longer, Follows}
-use Rattle.tb_history.specs.Moves.{Numbering, credits_of, settled_as, movement_by, has_bill, participants_of, AreNumbered}
+use Rattle.tb_history.specs.declared.accounts.Offer.{Offer}
+use Rattle.tb_history.specs.Offers.{offers, offer_of}
+use Rattle.tb_history.specs.Moves.{Numbering, bought_as, credits_of, settled_as, movement_by, has_bill, participants_of, AreNumbered}
 use Rattle.tb_history.proofs.PartLemmas.{AllByRecursion-front, AllByRecursion-back}
 use Rattle.tb_history.proofs.GrowthLemmas.{announcements-snoc}
 use Rattle.tb_history.proofs.NumberingLemmas.{movements-grow}
 use Rattle.tb_history.proofs.IssuedLemmas.{IsLegal-issued}
-use Rattle.tb_history.proofs.AcceptedLemmas.{IsClear, Passes, accepted-passes}
+use Rattle.tb_history.proofs.AcceptedLemmas.{IsClear, Passes, accepted-passes, sender-registered}
 use Rattle.tb_history.proofs.LengthLemmas.{IsLegal-bounded, IsLegal-announcements}
 use Rattle.tb_history.proofs.PassLemmas.{AreTold, opens-told}
-use Rattle.tb_history.proofs.ToldLemmas.{sender-registered, transfer_rows-clear, other-number, bill-found, passes-message, IsLegal-told}
+use Rattle.tb_history.proofs.ToldLemmas.{transfer_rows-clear, other-number, bill-found, passes-message, IsLegal-told}
 use Rattle.tb_history.proofs.ConservedLemmas.{places-numbered}
 use Rattle.tb_core.specs.declared.tables.Tables.{Tables}
 use Rattle.tb_tables.specs.Auctions.{announced_in}
@@ -66,6 +68,19 @@ par_least amount par =
     let some : amount ≢ 0 = eqb-false amount 0 parts.0 in
     let whole : amount % 100 ≡ 0 = eqb-true (amount % 100) 0 (not-false (amount % 100 == 0) parts.1) in
     omega (arith, some, whole)
+
+-- what a purchase moves by the movements is done on the book
+ready-bought : (before : List Movement) (book : Book) (numbers : Numbering) (found : Option Offer)
+    → IsTold before book
+    → IfSome (bought_as numbers found) (movements.Passes before)
+    → IsReady (bought_as numbers found) book
+ready-bought before book numbers None told passes = tt
+ready-bought before book numbers (Some o) told passes =
+    let figures : HasFigures before book = HasFigures-told before book told in (
+      live_book before book (numbers.security o.cusip.bytes) told passes.0,
+      passes.1,
+      omega (arith, passes.2, figures.frees (numbers.holder o.seller) (numbers.security o.cusip.bytes)),
+    )
 
 -- what an accepted message moves is done on a book that tells what has moved
 ready-message : (h : List Entry) (s : List ℕ) (n : ℕ) (moment : Moment) (m : Message) (book : Book)
@@ -127,6 +142,13 @@ ready-message h s n moment (message.Redeem cusip) book legal passed told served 
     let passes = passes-message numbers participants h s n moment (message.Redeem cusip)
     (record { legal = legal; numbered = are; told = IsLegal-told numbers participants h legal are }) passed in
     live_book (moved_in h) book (numbers.security cusip.bytes) told passes
+ready-message h s n moment (message.Buy seller offer) book legal passed told served =
+    let numbers : Numbering = numbers_of h in
+    let participants : List ℕ = participants_of numbers (registrations h) in
+    let are : AreNumbered numbers participants h = places-numbered h in
+    ready-bought (moved_in h) book numbers (offer_of (offers h) seller offer) told
+    (passes-message numbers participants h s n moment (message.Buy seller offer)
+    (record { legal = legal; numbered = are; told = IsLegal-told numbers participants h legal are }) passed)
 ready-message h s n moment (message.Settle auction) book legal passed told served = absurd cc
 ready-message h s n moment other book legal passed told served = tt
 

@@ -26,6 +26,7 @@ use Rattle.tb_history.proofs.HistoryLemmas.{IsLegal-last}
 use Rattle.tb_history.proofs.GrowthLemmas.{registrations-snoc, enrolments-snoc, holidays-snoc, announcements-snoc, publications-snoc, settlements-snoc, redemptions-snoc, add_ons-snoc, bids-snoc, cancels-snoc, reports-snoc}
 use Rattle.tb_history.proofs.NumberingLemmas.{movements-grow}
 use Rattle.tb_results.specs.Biddings.{book_line_of}
+use Rattle.tb_cashbook.proofs.CashbookLemmas.{tells-back}
 use Rattle.tb_core.specs.declared.tables.Tables.{Tables}
 use Rattle.tb_ledger.specs.Accounting.{moved_in}
 use Rattle.tb_tables.specs.Calendar.{IsCalendar}
@@ -139,6 +140,8 @@ tied-back h moment before bid old new tied earlier taken =
       calendar_is = subst (λ (days : List Day). IsCalendar old.calendar.list days)
           (holidays-snoc h e ∙ append-nil _) tied.calendar_is;
       accounts_tell = subst (λ (ms : List Movement). IsTold ms old.accounts) (append-nil (moved_in h)) told;
+      funds_tell = tells-back h e old.funds last.legal last.follows
+          (record { cash = refl; purchase = refl; offered = refl; retracted = refl }) refl tied.funds_tell;
     })
 
 -- whatever bid the last entry is
@@ -183,6 +186,7 @@ HasRoom-back before room old new taken has =
         calendar = has.rows.calendar;
       };
       accounts = has.accounts;
+      money = has.money;
     })
 
 -- and what fitted still fits

@@ -1,6 +1,7 @@
 -- The tables stay tied to the history as it grows.
-use Rattle.std.proofs.Common.{◌≡◌, ℕ, ◌++◌, List, [], ◌∷◌, map, Option, Some, None, true, false, refl, sym, ap, ◌∙◌, subst, arith}
+use Rattle.std.proofs.Common.{◌≡◌, ℕ, ◌+◌, ◌++◌, List, [], ◌∷◌, map, Option, Some, None, true, false, refl, sym, ap, ◌∙◌, subst, arith}
 use Rattle.std.specs.Prelude.{option_to_list}
+use Rattle.std.specs.Option.{option_map}
 use Rattle.std.specs.List.{AllByRecursion}
 use Rattle.tb_terms.specs.declared.checking.TermsFault.{TermsFault}
 use Rattle.tb_terms.specs.Faults.{fault_of, fault_rows}
@@ -21,6 +22,14 @@ use Rattle.tb_tables.specs.Auctions.{IsInOrder, announced_in}
 use Rattle.tb_history.specs.declared.roster.Enrolment.{Enrolment}
 use Rattle.tb_history.specs.declared.bids.Bid.{Bid}
 use Rattle.tb_history.specs.declared.accounts.AddOn.{AddOn}
+use Rattle.tb_history.specs.declared.accounts.Offer.{Offer}
+use Rattle.tb_history.specs.Offers.{offers, offer_of}
+use Rattle.tb_history.specs.Funds.{withdrawals, cents_in}
+use Rattle.tb_funds.specs.declared.amount.Amount.{Amount}
+use Rattle.tb_funds.specs.Amounts.{amount_in, total_in}
+use Rattle.tb_funds.specs.Offers.{offer_in, open_in}
+use Rattle.tb_funds.specs.Funds.{Money, SameMoney, offer_of as offer_kept}
+use Rattle.tb_cashbook.specs.Cashbook.{TellsFunds, holder_in, kept_in}
 use Rattle.tb_history.specs.Holdings.{awarded_add_on, bidding_in, if_awarded}
 use Rattle.tb_ledger.specs.Credits.{add_on_for}
 use Rattle.tb_shelving.specs.Shelving.{HasShelved}
@@ -28,13 +37,13 @@ use Rattle.tb_units.specs.declared.day.Day.{Day}
 use Rattle.tb_movements.specs.Movements.{Movement, Credit, Settled}
 use Rattle.tb_movements.specs.Told.{IsTold}
 use Rattle.tb_history.specs.Entries.{entered_by}
-use Rattle.tb_history.specs.Moves.{Numbering, credit_of, add_on_credits, settled_as, movement_by}
+use Rattle.tb_history.specs.Moves.{Numbering, bought_as, credit_of, add_on_credits, settled_as, movement_by}
 use Rattle.tb_history.proofs.NumberingLemmas.{movements-grow}
 use Rattle.tb_terms.specs.declared.announcement.Announcement.{Announcement}
-use Rattle.tb_core.specs.Crediting.{settled_in, movement_in}
+use Rattle.tb_core.specs.Crediting.{settled_in, sold_in, movement_in}
 use Rattle.tb_tables.specs.Calendar.{IsCalendar}
 use Rattle.tb_ledger.specs.Accounting.{numbers_in, numbers_of, moved_in, TellsNext}
-use Rattle.tb_core.specs.House.{AreTied, AreSame, HasEntered}
+use Rattle.tb_core.specs.House.{AreTied, AreSame, EntersMoney, HasEntered}
 use Rattle.tb_tables.proofs.CalendarLemmas.{IsCalendar-push}
 use Rattle.tb_shelving.proofs.BookLemmas.{AreBooks-nil, AreBooks-push}
 use Rattle.tb_shelving.proofs.KeptLemmas.{AreBooks-kept}
@@ -91,6 +100,12 @@ settled-tied h tables (Some a) tied =
     (map (credit_of (numbers_of h) h a) (enrolments h) ++ credits)))
     (add_on_for-numbers h (if_awarded (bidding_in h a) (add_on_of (add_ons h) a.auction))))
 
+-- what a purchase of an offer moves
+bought-tied : (h : List Entry) (found : Option Offer)
+    → sold_in (option_map (kept_in h) found) ≡ bought_as (numbers_of h) found
+bought-tied h None = refl
+bought-tied h (Some o) = refl
+
 -- the tables say what the next entry moves
 pub movement-tied : (h : List Entry) (tables : Tables)
     → AreTied h tables
@@ -98,6 +113,11 @@ pub movement-tied : (h : List Entry) (tables : Tables)
 movement-tied h tables tied s n (message.Settle auction) =
     settled-tied h tables (announcement_of (announced_in tables.auctions.list) auction) tied
     ∙ ap (λ (all : List Announcement). settled_as (numbers_of h) h (announcement_of all auction)) tied.auctions_are
+movement-tied h tables tied s n (message.Buy seller offer) =
+    ap (λ (numbers : Numbering). sold_in (offer_kept (numbers.holder seller) offer tables.funds))
+    (numbers-tied h tables tied)
+    ∙ (ap sold_in (tied.funds_tell.offers seller offer)
+    ∙ bought-tied h (offer_of (offers h) seller offer))
 movement-tied h tables tied s n plain =
     ap (λ (numbers : Numbering). movement_by numbers [] s n plain) (numbers-tied h tables tied)
 
@@ -119,10 +139,11 @@ pub AreTied-push : (h : List Entry) (old new : Tables) (e : Entry)
     → AreTied h old
     → Follows h e
     → TellsNext (movement_in old e.submitter e.number e.message) old.accounts new.accounts
+    → EntersMoney e.submitter e.number e.message old new.funds
     → HasEntered e.submitter e.number e.message old new
     → new.last ≡ e.moment
     → AreTied (h ++ e ∷ []) new
-AreTied-push h old new e tied follows told entered last = record {
+AreTied-push h old new e tied follows told paid entered last = record {
   legal = Longer h e tied.legal follows;
   last_is = ap (λ (m : Moment). m.seconds) last ∙ sym (last_of-push 946702800 h e);
   submitters_are = grown _ _ _ _ _ entered.submitters tied.submitters_are (registrations-snoc h e);
@@ -142,6 +163,26 @@ AreTied-push h old new e tied follows told entered last = record {
       (IsCalendar-push old.calendar.list (holidays h)
       (entered_by e.message) new.calendar.list tied.calendar_is entered.calendar);
   accounts_tell = accounts_tell-push h old new e tied follows told;
+  funds_tell = paid h e (sym tied.submitters_are) (sym tied.auctions_are) refl refl refl
+      (record { legal = tied.legal; follows = follows; told = tied.funds_tell });
+}
+
+-- funds with the same balances and offers tell alike
+TellsFunds-same : (h : List Entry) (old new : Money) → SameMoney old new → TellsFunds h old → TellsFunds h new
+TellsFunds-same h old new same told = record {
+  balances = λ participant.
+      ap (amount_in (holder_in h participant)) same.balances ∙ told.balances participant;
+  total = ap (λ (all : List Amount). total_in all + cents_in (withdrawals h)) same.balances ∙ told.total;
+  offers = λ seller number.
+      ap (offer_in (holder_in h seller) number) same.offers ∙ told.offers seller number;
+  opens = λ seller. ap (open_in (holder_in h seller)) same.offers ∙ told.opens seller;
+  beyond = λ holder far.
+      let nothing = told.beyond holder far in
+      record {
+        balance = ap (amount_in holder) same.balances ∙ nothing.balance;
+        opens = ap (open_in holder) same.offers ∙ nothing.opens;
+        offers = λ number. ap (offer_in holder number) same.offers ∙ nothing.offers number;
+      };
 }
 
 -- tables with the same rows are tied alike
@@ -163,6 +204,7 @@ AreTied-same h old new tied same = record {
   books_are = AreBooks-kept h old.shelf new.shelf tied.books_are same.shelf;
   calendar_is = subst (λ (days : List Day). IsCalendar days (holidays h)) (sym same.calendar) tied.calendar_is;
   accounts_tell = same.accounts (moved_in h) tied.accounts_tell;
+  funds_tell = TellsFunds-same h old.funds new.funds same.funds tied.funds_tell;
 }
 
 -- empty tables are those of the empty history
@@ -175,11 +217,12 @@ pub AreTied-empty : (tables : Tables)
     → (tables.bids.list ≡ []) × (tables.cancels.list ≡ []) × (tables.reports.list ≡ [])
     → (tables.shelf.books ≡ []) × (tables.scratch.lasts ≡ 0)
     → IsTold [] tables.accounts
+    → TellsFunds [] tables.funds
     → tables.last.seconds ≡ 946702800
     → AreTied [] tables
 unfolding registrations enrolments holidays announcements publications settlements redemptions add_ons bids cancels
     reports
-AreTied-empty tables roster auctions bidding shelf accounts last = record {
+AreTied-empty tables roster auctions bidding shelf accounts funds last = record {
   legal = Empty;
   last_is = last;
   submitters_are = roster.0;
@@ -197,6 +240,7 @@ AreTied-empty tables roster auctions bidding shelf accounts last = record {
   calendar_is = subst (λ (days : List Day). IsCalendar days []) (sym roster.3)
       (record { same = λ number. refl; few = omega arith });
   accounts_tell = accounts;
+  funds_tell = funds;
 }
 
 -- an announcement none of whose rows holds has no fault

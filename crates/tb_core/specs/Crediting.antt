@@ -3,7 +3,9 @@ use Rattle.std.specs.Prelude.{ℕ, ◌≤◌, List, [], Option, Some, None, leng
 use Rattle.tb_terms.specs.declared.announcement.Announcement.{Announcement}
 use Rattle.tb_message.specs.declared.message.Message.{Message}
 use Rattle.tb_message.specs.declared.message.Message.TheVariants as message
-use Rattle.tb_movements.specs.Movements.{Movement, Settled}
+use Rattle.tb_movements.specs.Movements.{Movement, Settled, Transferred}
+use Rattle.tb_funds.specs.declared.offer.KeptOffer.{KeptOffer}
+use Rattle.tb_funds.specs.Funds.{offer_of}
 use Rattle.tb_history.specs.Roster.{announcement_of, add_on_of}
 use Rattle.tb_history.specs.Awarded.{Bidding, bidding_of}
 use Rattle.tb_history.specs.Moves.{movement_by}
@@ -24,11 +26,18 @@ settled_in tables (Some a) =
     (settled_for tables.submitters.list (bidding_on tables a) tables.bidders.list
     (add_on_of tables.add_ons.list a.auction)))
 
--- what the message of a sender under a number moves: no other movement than a settlement's depends on what stands
--- before it
+-- what a purchase of the offer that the funds have moves
+abbrev pub sold_in : Option KeptOffer → Option Movement
+sold_in None = None
+sold_in (Some kept) = Some (Transferred kept.seller kept.buyer kept.security kept.par.value)
+
+-- what the message of a sender under a number moves: no other movement than a settlement's and a purchase's depends on
+-- what stands before it
 abbrev pub movement_in : Tables → List ℕ → ℕ → Message → Option Movement
 movement_in tables sender number (message.Settle auction) =
     settled_in tables (announcement_of (announced_in tables.auctions.list) auction)
+movement_in tables sender number (message.Buy seller offer) =
+    sold_in (offer_of ((numbers_in tables.submitters.list tables.auctions.list).holder seller) offer tables.funds)
 movement_in tables sender number other =
     movement_by (numbers_in tables.submitters.list tables.auctions.list) [] sender number other
 

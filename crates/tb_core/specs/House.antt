@@ -7,8 +7,10 @@ use Rattle.tb_shelf.specs.Shelves.{IsChanged, IsLowered, Shelved}
 use Rattle.tb_units.specs.declared.moment.Moment.{Moment}
 use Rattle.tb_history.specs.declared.bids.Bid.{Bid}
 use Rattle.tb_history.specs.Readings.{place_of}
-use Rattle.tb_history.specs.Entries.{registered_by, enrolled_by, entered_by, announced_by, published_by, settled_by, redeemed_by, added_by, bid_by, cancelled_by, reported_by}
-use Rattle.tb_history.specs.Roster.{registrations, enrolments, holidays, announcements, publications, settlements, redemptions, add_ons}
+use Rattle.tb_history.specs.Entries.{registered_by, enrolled_by, entered_by, announced_by, published_by, settled_by}
+use Rattle.tb_history.specs.Entries.{redeemed_by, added_by, bid_by, cancelled_by, reported_by}
+use Rattle.tb_history.specs.Roster.{registrations, enrolments, holidays, announcements, publications, settlements}
+use Rattle.tb_history.specs.Roster.{redemptions, add_ons}
 use Rattle.tb_history.specs.LiveBids.{bids, cancels, reports}
 use Rattle.tb_history.specs.Legal.{IsLegal, last_of}
 use Rattle.tb_movements.specs.Told.{IsTold}
@@ -17,6 +19,8 @@ use Rattle.tb_ledger.specs.declared.scratch.Scratch.{Scratch}
 use Rattle.tb_core.specs.declared.tables.Tables.{Tables}
 use Rattle.tb_tables.specs.Auctions.{announced_in}
 use Rattle.tb_tables.specs.Calendar.{IsCalendar, AddsDays}
+use Rattle.tb_funds.specs.Funds.{Money, SameMoney}
+use Rattle.tb_cashbook.specs.Cashbook.{IsNext, TellsFunds}
 use Rattle.tb_ledger.specs.Accounting.{moved_in, TellsSame}
 use Rattle.tb_shelving.specs.Rooms.{Room}
 use Rattle.tb_ledger.specs.Settling.{HasScratch, IsTaken, KeepsScratch}
@@ -46,6 +50,7 @@ pub record AreTied (history : List Entry) (tables : Tables) : Type 0 where
   pub books_are : AreBooks history tables.shelf.books
   pub calendar_is : IsCalendar tables.calendar.list (holidays history)
   pub accounts_tell : IsTold (moved_in history) tables.accounts
+  pub funds_tell : TellsFunds history tables.funds
 
 -- so many adds are sure in each table, and in each book that stands ready
 pub record HasRows (room : ℕ) (tables : Tables) : Type 0 where
@@ -70,18 +75,47 @@ pub record HasAccountRoom (room bidders : ℕ) (book : Book) : Type 0 where
   pub marks : room ≤ book.spare_marks
   pub redeems : room ≤ book.spare_redeems
 
+-- so many messages may move money or make offers
+pub record HasMoneyRoom (room : ℕ) (money : Money) : Type 0 where
+  pub balances : room ≤ money.spare_balances
+  pub offers : room ≤ money.spare_offers
+
 -- so many messages may be entered
 pub record HasRoom (room : ℕ) (tables : Tables) : Type 0 where
   pub rows : HasRows room tables
   pub accounts : HasAccountRoom room (length tables.bidders.list) tables.accounts
+  pub money : HasMoneyRoom room tables.funds
 
--- the tables with other accounts, and another scratch list
-abbrev pub with_accounts : Tables → Book → Scratch → Tables
-with_accounts tables accounts scratch = record tables { accounts = accounts; scratch = scratch }
+-- the tables with other accounts and other funds, and another scratch list
+abbrev pub with_accounts : Tables → Book → Money → Scratch → Tables
+with_accounts tables accounts money scratch = record tables { accounts = accounts; funds = money; scratch = scratch }
 
--- nothing but the accounts is changed, and the room of settlements stays
+-- whatever history the tables' funds tell, they tell the message of a sender under its number too
+abbrev pub EntersMoney : List ℕ → ℕ → Message → Tables → Money → Type 0
+EntersMoney sender number message tables new =
+    (history : List Entry) (entry : Entry)
+    → registrations history ≡ tables.submitters.list
+    → announcements history ≡ announced_in tables.auctions.list
+    → entry.submitter ≡ sender
+    → entry.number ≡ number
+    → entry.message ≡ message
+    → IsNext history entry tables.funds
+    → TellsFunds (history ++ entry ∷ []) new
+
+-- there are such a history and such an entry
+pub record CanEnterMoney (sender : List ℕ) (number : ℕ) (message : Message) (tables : Tables) : Type 0 where
+  pub history : List Entry
+  pub entry : Entry
+  pub rosters : registrations history ≡ tables.submitters.list
+  pub bills : announcements history ≡ announced_in tables.auctions.list
+  pub submitter : entry.submitter ≡ sender
+  pub under : entry.number ≡ number
+  pub says : entry.message ≡ message
+  pub next : IsNext history entry tables.funds
+
+-- nothing but the accounts and the funds is changed, and the room of settlements stays
 pub record KeepsRows (old new : Tables) : Type 0 where
-  pub same : new ≡ with_accounts old new.accounts new.scratch
+  pub same : new ≡ with_accounts old new.accounts new.funds new.scratch
   pub scratch : KeepsScratch old.scratch new.scratch
 
 -- there are few participants and bills to number
@@ -124,6 +158,7 @@ pub record AreSame (old new : Tables) : Type 0 where
   pub lasts : old.scratch.lasts ≤ new.scratch.lasts
   pub calendar : new.calendar.list ≡ old.calendar.list
   pub accounts : TellsSame old.accounts new.accounts
+  pub funds : SameMoney old.funds new.funds
 
 -- the message is a bid
 abbrev pub IsBid : Message → Type 0

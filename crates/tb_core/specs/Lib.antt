@@ -5,3 +5,5 @@ pub mod Shown
 pub mod House
 pub mod CloseAwards
 pub mod Bidden
+pub mod Funded
+pub mod Offered

@@ -13,16 +13,21 @@ ghost use Rattle.tb_history.specs.Roster as roster;
 ghost use Rattle.tb_history.specs.Tables.{par_rows, rows_of};
 ghost use Rattle.tb_history.specs.Verdict.{is_permitted, verdict_on};
 ghost use Rattle.tb_history.specs.Legal.{Follows, IsLegal, last_of};
-ghost use Rattle.tb_history.specs.OwnPart.{own_part, moves_par};
+ghost use Rattle.tb_history.specs.OwnPart.{own_part, depends_on_others};
 ghost use Rattle.tb_history.specs.LiveBids.{bids, cancels};
 ghost use Rattle.tb_history.specs.Answer.{asked_rows, asks_on, auction_rows, query_refusal, submitter_of};
 ghost use Rattle.tb_history.specs.Holdings.{bidding_in};
 ghost use Rattle.tb_history.specs.Moves.{has_bill};
 ghost use Rattle.tb_history.specs.Readings.{AreAwards, AreHoldings, AreResults, IsReading, IsRedemption, OfAnnounced, bid_lines};
 ghost use Rattle.tb_results.specs.Biddings.{AreBooked};
+ghost use Rattle.tb_units.specs.declared.cents.Cents.{Cents};
+ghost use Rattle.tb_history.specs.Funds.{balance_of};
 ghost use Rattle.tb_core.specs.Conserved.{IsConserved};
+ghost use Rattle.tb_core.specs.Funded.{IsFunded};
 ghost use Rattle.tb_core.specs.CloseAwards.{IsClose};
 ghost use Rattle.tb_core.specs.House.{EndsWithBid, IsHouse, room_of};
+ghost use Rattle.tb_core.specs.Offered.{found_offer, is_gone};
+ghost use Rattle.tb_tables.specs.Auctions.{announcement_in};
 ghost use Rattle.tb_shelving.specs.Rooms.{Fits, KeepsRoom, TakesRoom, behind, behind_all};
 
 use crate::books::book_of;
@@ -34,23 +39,25 @@ use crate::tables::Tables;
 use std::alloc::Global;
 use std::marker::Model;
 use tb_book::Book;
+use tb_funds::{Offer, State};
 use tb_history::{Awards, Bids, Holdings, Reading, Redemption, Results};
 use tb_index::Counted;
 use tb_ledger::{find_pledge, free_par, holder_number, open_pledges};
 use tb_message::{Entry, Message, Query, Verdict};
 use tb_refusals::{
-    add_on_refusal, announce_refusal, auction_refusal, bid_refusal, cancel_refusal, enrol_refusal,
-    holiday_refusal, is_permitted, may_ask, pledge_refusal, position_refusal, publish_refusal,
-    redeem_refusal, redemption_refusal, register_refusal, release_refusal, repeated,
-    settle_refusal, transfer_refusal,
+    add_on_refusal, announce_refusal, auction_refusal, bid_refusal, buy_refusal, cancel_refusal,
+    deposit_refusal, enrol_refusal, holiday_refusal, is_permitted, may_ask, pledge_refusal,
+    position_refusal, publish_refusal, redeem_refusal, redemption_refusal, register_refusal,
+    release_refusal, repeated, retract_refusal, sell_refusal, settle_refusal, transfer_refusal,
+    withdraw_refusal,
 };
 use tb_tables::{
     Entries, bill_terms, count_sent, find_add_on, find_bid, find_kept, find_submitter, has_bill,
-    has_cancel, has_name, has_submitter, is_enrolled, is_operator, is_same, terms_of,
+    has_cancel, has_name, has_submitter, is_enrolled, is_operator, is_same, terms_at, terms_of,
     unsettled_terms,
 };
 use tb_terms::{Announcement, Cusip, EasternDays, Refusal, Terms};
-use tb_units::{Dollars, Ident, Moment, OutOfMemory, Rate};
+use tb_units::{Cents, Dollars, Ident, Moment, OutOfMemory, Rate};
 
 /// All that was accepted. Contracts see the history, which is legal, and for which messages there is room.
 pub struct Host {
@@ -264,10 +271,11 @@ impl Host {
         message: &Message,
     ) -> Verdict
         ensures verdict { result ≡ verdict_on self.now.history submitter.now number moment message.now }
-        // Par is conserved over all that was accepted.
+        // Par is conserved over all that was accepted, and so is money.
         ensures conserved { IsConserved self.now.history }
+        ensures funded { IsFunded self.now.history }
         // Replies are sealed: they are those on the sender's own part of the history.
-        ensures sealed { moves_par message.now ≡ false
+        ensures sealed { depends_on_others message.now ≡ false
             → result ≡ verdict_on (own_part submitter.now self.now.history) submitter.now number moment message.now }
     {
         let _ = &self.days;
@@ -280,6 +288,7 @@ impl Host {
         requires fits { Fits self.old.room (entry.message ∷ []) }
         ensures history { self.new.history ≡ self.old.history ++ entry ∷ [] }
         ensures conserved { IsConserved self.new.history }
+        ensures funded { IsFunded self.new.history }
         ensures room { TakesRoom entry.message self.old.room self.new.room }
     {
         enter(
@@ -321,8 +330,9 @@ impl Host {
             → IfOk result (λ reading. IsReading (own_part submitter.now self.now.history)
             submitter.now query.now reading) }
         ensures close { IfOk result (λ reading. IsClose self.now.history query.now reading) }
-        // Par is conserved over all that is read.
+        // Par and money are conserved over all that is read.
         ensures conserved { IsConserved self.now.history }
+        ensures funded { IsFunded self.now.history }
     {
         let _ = &self.days;
         if let Some(refusal) = self.query_refusal(submitter, query) {
@@ -356,7 +366,7 @@ impl Host {
             Query::Results(auction) => self.auction_refusal(auction, true),
             Query::Awards(auction) => self.auction_refusal(auction, true),
             Query::Bids(auction) => self.auction_refusal(auction, false),
-            Query::Holdings => None,
+            Query::Holdings | Query::Funds => None,
             Query::Redemption(cusip) => self.redemption_refusal(cusip),
         }
     }
@@ -391,6 +401,7 @@ impl Host {
             Query::Bids(auction) => Ok(Reading::Bids(self.bids(alloc, caller, auction)?)),
             Query::Holdings => Ok(Reading::Holdings(self.holdings(alloc, caller)?)),
             Query::Redemption(cusip) => Ok(Reading::Redemption(self.redemption(alloc, cusip)?)),
+            Query::Funds => Ok(Reading::Funds(self.balance(caller))),
         }
     }
 
@@ -447,6 +458,14 @@ impl Host {
         ensures { IfOk result (λ lines. IsRedemption self.now.history cusip.now lines) }
     {
         redemption_lines(alloc, &self.tables, cusip)
+    }
+
+    // The participant's balance.
+    fn balance(&self, participant: &Ident) -> Cents
+        ensures { result.value ≡ balance_of self.now.history participant.now }
+    {
+        let holder = holder_number(&self.tables.submitters, participant);
+        self.tables.funds.balance(holder)
     }
 
     // The book of an announced auction.
@@ -534,6 +553,16 @@ impl Host {
                 holder,
                 amount,
             } => self.add_on(moment, auction, holder, *amount),
+            Message::Deposit { participant, .. } => self.deposit(participant),
+            Message::Withdraw { participant, cents } => self.withdraw(participant, *cents),
+            Message::Sell {
+                cusip,
+                to,
+                amount,
+                ..
+            } => self.sell(sender, moment, cusip, to, *amount),
+            Message::Buy { seller, offer } => self.buy(sender, moment, seller, *offer),
+            Message::Retract { offer } => self.retract(sender, *offer),
         }
     }
 
@@ -709,5 +738,89 @@ impl Host {
         let known = has_submitter(&self.tables.submitters, holder);
         let standing = find_add_on(&self.tables.add_ons, auction).is_some();
         add_on_refusal(terms, known, standing, moment, amount)
+    }
+
+    fn deposit(&self, participant: &Ident) -> Option<Refusal>
+        ensures { (sender : List ℕ) (moment : Moment) (cents : Cents)
+            → result ≡ refusal_in (rows_of self.now.history sender moment (message.Deposit participant.now cents)) }
+    {
+        deposit_refusal(has_submitter(&self.tables.submitters, participant))
+    }
+
+    fn withdraw(&self, participant: &Ident, cents: Cents) -> Option<Refusal>
+        ensures { (sender : List ℕ) (moment : Moment)
+            → result ≡ refusal_in (rows_of self.now.history sender moment (message.Withdraw participant.now cents)) }
+    {
+        let known = has_submitter(&self.tables.submitters, participant);
+        withdraw_refusal(known, self.balance(participant), cents)
+    }
+
+    fn sell(
+        &self,
+        sender: &Ident,
+        moment: Moment,
+        cusip: &Cusip,
+        to: &Ident,
+        amount: Dollars,
+    ) -> Option<Refusal>
+        ensures { (price : Cents)
+            → result ≡ refusal_in
+            (rows_of self.now.history sender.now moment (message.Sell cusip.now to.now amount price)) }
+    {
+        let terms = bill_terms(&self.tables.auctions, cusip);
+        let known = has_submitter(&self.tables.submitters, to);
+        let own = is_same(to, sender);
+        let redeemed = has_bill(&self.tables.redeemed, cusip);
+        let seller = holder_number(&self.tables.submitters, sender);
+        let open_offers = self.tables.funds.open_offers(seller);
+        sell_refusal(terms, known, own, redeemed, open_offers, moment, amount)
+    }
+
+    // The seller's offer of this number, and what became of it.
+    fn offer(&self, seller: &Ident, number: u64) -> Option<(Offer, State)>
+        ensures { result ≡ found_offer self.now.history seller.now number }
+    {
+        let holder = holder_number(&self.tables.submitters, seller);
+        self.tables.funds.find(holder, number)
+    }
+
+    fn buy(&self, sender: &Ident, moment: Moment, seller: &Ident, number: u64) -> Option<Refusal>
+        ensures { result ≡ refusal_in
+            (rows_of self.now.history sender.now moment (message.Buy seller.now number)) }
+    {
+        let Some((offer, state)) = self.offer(seller, number) else {
+            return Some(Refusal::UnknownOffer);
+        };
+        let caller = holder_number(&self.tables.submitters, sender);
+        let terms = terms_at(&self.tables.auctions, offer.security);
+        let redeemed = self.is_redeemed(&terms);
+        let free = self.tables.accounts.free(offer.seller, offer.security);
+        let balance = self.balance(sender);
+        buy_refusal(
+            Some((offer, state)),
+            caller,
+            redeemed,
+            terms,
+            free,
+            balance,
+            moment,
+        )
+    }
+
+    // Whether the bill of these terms is redeemed.
+    fn is_redeemed(&self, terms: &Option<Terms>) -> bool
+        ensures { result ≡ is_gone self.now.history (announcement_in terms.now) }
+    {
+        match terms {
+            Some(terms) => has_bill(&self.tables.redeemed, &terms.announcement.cusip),
+            None => false,
+        }
+    }
+
+    fn retract(&self, sender: &Ident, number: u64) -> Option<Refusal>
+        ensures { (moment : Moment)
+            → result ≡ refusal_in (rows_of self.now.history sender.now moment (message.Retract number)) }
+    {
+        retract_refusal(self.offer(sender, number))
     }
 }

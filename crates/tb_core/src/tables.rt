@@ -10,13 +10,25 @@ ghost use Rattle.tb_message.specs.declared.message.Entry.{Entry};
 ghost use Rattle.tb_history.specs.Roster.{announcement_of, announcements};
 ghost use Rattle.tb_tables.specs.Auctions.{IsInOrder, announced_in};
 ghost use Rattle.tb_ledger.specs.Accounting.{IsReady, TellsNext};
-ghost use Rattle.tb_core.specs.Crediting.{HasSettleRoom, movement_in, settled_in};
+ghost use Rattle.tb_funds.specs.Funds as funds;
+ghost use Rattle.tb_funds.specs.Funds.{offer_of};
+ghost use Rattle.tb_ledger.specs.Accounting.{numbers_in};
+ghost use Rattle.tb_cashbook.specs.Cashbook.{TellsFunds};
+ghost use Rattle.tb_core.specs.Crediting.{HasSettleRoom, movement_in, settled_in, sold_in};
 ghost use Rattle.tb_core.specs.House.{AreFew, AreSame, AreTied, HasEntered, HasRoom, HasRows, IsTakenBack, KeepsRows};
+ghost use Rattle.tb_core.specs.House.{CanEnterMoney, EntersMoney, HasMoneyRoom};
 
 use std::alloc::Global;
+use tb_cashbook::{
+    enter_deposit, enter_offer, enter_purchase, enter_retraction, enter_withdrawal, no_funds,
+};
+use tb_funds::{Funds, Offer};
 use tb_holdings::Accounts;
 use tb_index::{Chained, Keyed, Latest, TwiceKeyed};
-use tb_ledger::{Scratch, account, bill_number, credit_awards, cut_auction, reserve_accounts};
+use tb_ledger::{
+    Scratch, account, bill_number, credit_awards, cut_auction, enter_transfer, holder_number,
+    reserve_accounts,
+};
 use tb_message::{Entry, Message};
 use tb_movements::empty_book;
 use tb_shelf::Shelf;
@@ -49,6 +61,7 @@ pub struct Tables {
     pub shelf: Shelf,
     pub scratch: Scratch,
     pub accounts: Accounts,
+    pub funds: Funds,
     pub last: Moment,
 }
 
@@ -62,6 +75,7 @@ impl Tables {
         ensures bids { (result.bids.list ≡ []) × (result.cancels.list ≡ []) × (result.reports.list ≡ []) }
         ensures shelf { (result.shelf.books ≡ []) × (result.scratch.lasts ≡ 0) }
         ensures accounts { IsTold [] result.accounts }
+        ensures funds { TellsFunds [] result.funds }
         ensures last { result.last.seconds ≡ 946702800 }
     {
         Tables {
@@ -80,6 +94,7 @@ impl Tables {
             shelf: Shelf::new(alloc),
             scratch: Scratch::new(alloc),
             accounts: empty_book(alloc),
+            funds: no_funds(alloc),
             last: Moment {
                 seconds: Moment::FIRST,
             },
@@ -105,6 +120,7 @@ impl Tables {
         self.settled.reserve(more)?;
         self.redeemed.reserve(more)?;
         self.add_ons.reserve(more)?;
+        self.funds.reserve(more as u64, more as u64)?;
         reserve_accounts(&mut self.accounts, self.bidders.rows().len(), more)?;
         self.shelf.prepare(0, more as u64)
     }
@@ -183,6 +199,7 @@ impl Tables {
         ensures told { TellsNext (settled_in self.old (Some terms.now.announcement))
             self.old.accounts self.new.accounts }
         ensures room { TakesRoom (length self.old.bidders.list + 1) 0 0 self.old.accounts self.new.accounts }
+        ensures funds { self.new.funds ≡ self.old.funds }
     {
         if let Some(book) = self.shelf.book(&terms.announcement.auction) {
             let outcome = cut_auction(&mut self.scratch, &self.bidders, &self.reports, terms, book);
@@ -215,9 +232,36 @@ impl Tables {
             (settled_in self.old (announcement_of (announced_in self.old.auctions.list) auction.now))
             self.old.accounts self.new.accounts }
         ensures room { TakesRoom (length self.old.bidders.list + 1) 0 0 self.old.accounts self.new.accounts }
+        ensures funds { self.new.funds ≡ self.old.funds }
     {
         if let Some(terms) = terms_of(&self.auctions, auction) {
             self.settle_by(&terms);
+        }
+    }
+
+    // Moves the par of the seller's offer of this number.
+    fn sell(&mut self, seller: &Ident, number: u64)
+        requires numbered { AreFew self.old }
+        requires accounts { 0 < self.old.accounts.spare_accounts }
+        requires ready { IsReady
+            (sold_in (offer_of ((numbers_in self.old.submitters.list self.old.auctions.list).holder seller.now) number
+            self.old.funds)) self.old.accounts }
+        ensures keeps { KeepsRows self.old self.new }
+        ensures told { TellsNext
+            (sold_in (offer_of ((numbers_in self.old.submitters.list self.old.auctions.list).holder seller.now) number
+            self.old.funds)) self.old.accounts self.new.accounts }
+        ensures room { TakesRoom 1 1 1 self.old.accounts self.new.accounts }
+        ensures funds { self.new.funds ≡ self.old.funds }
+    {
+        let seller = holder_number(&self.submitters, seller);
+        if let Some((offer, _)) = self.funds.find(seller, number) {
+            enter_transfer(
+                &mut self.accounts,
+                offer.seller,
+                offer.buyer,
+                offer.security,
+                offer.par,
+            );
         }
     }
 
@@ -232,9 +276,11 @@ impl Tables {
         ensures told { TellsNext (movement_in self.old sender.now number message.now)
             self.old.accounts self.new.accounts }
         ensures room { TakesRoom (length self.old.bidders.list + 1) 1 1 self.old.accounts self.new.accounts }
+        ensures funds { self.new.funds ≡ self.old.funds }
     {
         match message {
             Message::Settle { auction } => self.settle(auction),
+            Message::Buy { seller, offer } => self.sell(seller, *offer),
             _ => account(
                 &mut self.accounts,
                 &self.submitters,
@@ -262,6 +308,7 @@ impl Tables {
         ensures entered { HasEntered sender.now number message.now self.old self.new }
         ensures room { (room : ℕ) → HasRows (room + 1) self.old → HasRows room self.new }
         ensures accounts { self.new.accounts ≡ self.old.accounts }
+        ensures funds { self.new.funds ≡ self.old.funds }
         ensures last { self.new.last ≡ moment }
     {
         enter_line(
@@ -286,6 +333,73 @@ impl Tables {
         enter_redeemed(&mut self.redeemed, message);
         enter_add_on(&mut self.add_ons, message);
         self.last = moment;
+    }
+
+    // Does to the funds what a message of a sender under its number says.
+    fn enter_money(&mut self, sender: &Ident, number: u64, message: &Message)
+        requires room { HasMoneyRoom 1 self.old.funds }
+        requires numbered { AreFew self.old }
+        requires next { CanEnterMoney sender.now number message.now self.old }
+        ensures told { EntersMoney sender.now number message.now self.old self.new.funds }
+        ensures keeps { KeepsRows self.old self.new }
+        ensures accounts { self.new.accounts ≡ self.old.accounts }
+        ensures room { funds.TakesRoom 1 1 self.old.funds self.new.funds }
+    {
+        match message {
+            Message::Deposit { participant, cents } => {
+                let holder = holder_number(&self.submitters, participant);
+                enter_deposit(&mut self.funds, holder, *cents);
+            }
+            Message::Withdraw { participant, cents } => {
+                let holder = holder_number(&self.submitters, participant);
+                enter_withdrawal(&mut self.funds, holder, *cents);
+            }
+            Message::Sell {
+                cusip,
+                to,
+                amount,
+                price,
+            } => {
+                let offer = Offer {
+                    seller: holder_number(&self.submitters, sender),
+                    number,
+                    buyer: holder_number(&self.submitters, to),
+                    security: bill_number(&self.auctions, cusip),
+                    par: *amount,
+                    price: *price,
+                };
+                enter_offer(&mut self.funds, offer);
+            }
+            Message::Buy { seller, offer } => {
+                let seller = holder_number(&self.submitters, seller);
+                enter_purchase(&mut self.funds, seller, *offer);
+            }
+            Message::Retract { offer } => {
+                let seller = holder_number(&self.submitters, sender);
+                enter_retraction(&mut self.funds, seller, *offer);
+            }
+            // No other message changes the funds.
+            _ => {}
+        }
+    }
+
+    // Moves what a message of a sender under its number moves, par and money: both, since nothing here is refused.
+    fn move_all(&mut self, sender: &Ident, number: u64, message: &Message)
+        requires tied { (history : List Entry) × AreTied history self.old }
+        requires room { HasRoom 1 self.old }
+        requires settling { settles message.now ≡ true → HasSettleRoom self.old }
+        requires numbered { AreFew self.old }
+        requires ready { IsReady (movement_in self.old sender.now number message.now) self.old.accounts }
+        requires next { CanEnterMoney sender.now number message.now self.old }
+        ensures keeps { KeepsRows self.old self.new }
+        ensures told { TellsNext (movement_in self.old sender.now number message.now)
+            self.old.accounts self.new.accounts }
+        ensures funds { EntersMoney sender.now number message.now self.old self.new.funds }
+        ensures room { TakesRoom (length self.old.bidders.list + 1) 1 1 self.old.accounts self.new.accounts }
+        ensures spends { funds.TakesRoom 1 1 self.old.funds self.new.funds }
+    {
+        self.move_par(sender, number, message);
+        self.enter_money(sender, number, message);
     }
 
     /// Takes the last bid back with its line, where the entry before it has this moment.
@@ -317,13 +431,15 @@ impl Tables {
         requires settling { settles message.now ≡ true → HasSettleRoom self.old }
         requires numbered { AreFew self.old }
         requires ready { IsReady (movement_in self.old sender.now number message.now) self.old.accounts }
+        requires next { CanEnterMoney sender.now number message.now self.old }
         ensures entered { HasEntered sender.now number message.now self.old self.new }
         ensures told { TellsNext (movement_in self.old sender.now number message.now)
             self.old.accounts self.new.accounts }
+        ensures funds { EntersMoney sender.now number message.now self.old self.new.funds }
         ensures room { (room : ℕ) → HasRoom (room + 1) self.old → HasRoom room self.new }
         ensures last { self.new.last ≡ moment }
     {
-        self.move_par(sender, number, message);
+        self.move_all(sender, number, message);
         self.enter_rows(days, sender, number, moment, message);
     }
 }

@@ -5,4 +5,6 @@
 #[cfg(test)]
 mod add_on_tests;
 #[cfg(test)]
+mod offer_tests;
+#[cfg(test)]
 mod tests;

@@ -23,12 +23,12 @@ pub(crate) const CLOSING: Moment = Moment {
 };
 
 // 7 November 2024, when the auction's bills are issued, at midnight, Eastern time.
-const ISSUE: Moment = Moment {
+pub(crate) const ISSUE: Moment = Moment {
     seconds: 1_730_955_600,
 };
 
 // 6 February 2025, when they mature.
-const MATURITY: Moment = Moment {
+pub(crate) const MATURITY: Moment = Moment {
     seconds: 1_738_818_000,
 };
 
@@ -51,7 +51,7 @@ pub(crate) fn registered(number: u64, submitter: &str, key: &str) -> Option<Entr
     })
 }
 
-fn enrolled(number: u64, bidder: &str) -> Option<Entry>
+pub(crate) fn enrolled(number: u64, bidder: &str) -> Option<Entry>
     requires { (1 ≤ number) × (number ≤ 10 ^ 9) }
     ensures range { IfSome result IsInRange }
 {
@@ -117,7 +117,7 @@ pub(crate) fn bid(number: u64, hundreds: u32) -> Option<Entry>
 }
 
 // A competitive bid at 5.330 percent.
-fn competitive(number: u64) -> Option<Entry>
+pub(crate) fn competitive(number: u64) -> Option<Entry>
     requires { (1 ≤ number) × (number ≤ 10 ^ 9) }
     ensures range { IfSome result IsInRange }
 {

@@ -13,7 +13,7 @@ use Rattle.tb_history.specs.OwnPart.{own_part}
 use Rattle.tb_history.proofs.SealedLemmas.{IsLegal-sealed}
 use Rattle.tb_desk.specs.declared.reply.Reply.{Reply}
 use Rattle.tb_desk.specs.declared.reply.Reply.TheVariants as reply
-use Rattle.tb_desk.specs.Turn.{Held, Asked, Replies, added, IsAnswered, IsDoubted, IsTurn, MoveNoPar}
+use Rattle.tb_desk.specs.Turn.{Held, Asked, Replies, added, IsAnswered, IsDoubted, IsTurn, DependOnNoOthers}
 use Rattle.tb_desk.specs.Desks.{replies_of}
 
 -- the later of a moment and the last one is the running moment
@@ -100,7 +100,7 @@ turn-sure gate disk asked held after replies at (inr (resolves, inr doubted)) gi
 
 -- the verdict on a single message is sealed
 pub sealed-one : (at : List Entry) (submitter : List ℕ) (number : ℕ) (moment : Moment) (message : Message) → IsLegal at
-    → MoveNoPar ((number, message) ∷ [])
+    → DependOnNoOthers ((number, message) ∷ [])
     → verdict_on at submitter number (running at moment) message ∷ []
     ≡ verdict_on (own_part submitter at) submitter number (running at moment) message ∷ []
 sealed-one at submitter number moment message legal still =

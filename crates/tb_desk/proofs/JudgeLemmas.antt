@@ -21,10 +21,10 @@ use Rattle.tb_history.specs.Verdict.{refused, is_permitted, number_rows, verdict
 use Rattle.tb_history.specs.Legal.{IsLegal, Longer, Follows, last_of}
 use Rattle.tb_core.specs.House.{IsBid, EndsWithBid}
 use Rattle.tb_history.proofs.HistoryLemmas.{IsLegal-front, last_of-push}
-use Rattle.tb_history.specs.OwnPart.{own_part, is_own, moves_par}
+use Rattle.tb_history.specs.OwnPart.{own_part, is_own, depends_on_others}
 use Rattle.tb_history.proofs.SameLemmas.{is_same-refl}
 use Rattle.tb_history.proofs.SealedLemmas.{IsLegal-sealed}
-use Rattle.tb_desk.specs.Turn.{added_by, added, verdicts_on, group_on, AreNumbered, MoveNoPar}
+use Rattle.tb_desk.specs.Turn.{added_by, added, verdicts_on, group_on, AreNumbered, DependOnNoOthers}
 
 -- where a row's cause doesn't hold, the rows behind it decide
 row-accepted : (b : Bool) (first rest : Verdict) (n : ℕ) (m : Moment)
@@ -295,11 +295,11 @@ own_part-added history submitter moment asked v =
 -- the verdicts on a list of messages are sealed
 pub sealed-all : (history : List Entry) (submitter : List ℕ) (moment : Moment) (messages : List (ℕ × Message))
     → IsLegal (history ++ group_on history submitter moment messages)
-    → MoveNoPar messages
+    → DependOnNoOthers messages
     → verdicts_on history submitter moment messages ≡ verdicts_on (own_part submitter history) submitter moment messages
 sealed-all history submitter moment [] legal still = refl
 sealed-all history submitter moment (asked ∷ others) legal still =
-    let Still : ℕ × Message → Type 0 = λ (one : ℕ × Message). moves_par one.1 ≡ false in
+    let Still : ℕ × Message → Type 0 = λ (one : ℕ × Message). depends_on_others one.1 ≡ false in
     let own : List Entry = own_part submitter history in
     let v : Verdict = verdict_on history submitter asked.0 moment asked.1 in
     let here : List Entry = added_by submitter moment asked v in

@@ -11,7 +11,7 @@ use Rattle.tb_message.specs.declared.verdict.Verdict.TheVariants.{Accepted, Repe
 use Rattle.tb_message.specs.Spelling.{IsNumbered}
 use Rattle.tb_core.specs.House.{IsBid}
 use Rattle.tb_history.specs.Legal.{IsLegal, running}
-use Rattle.tb_history.specs.OwnPart.{own_part, moves_par}
+use Rattle.tb_history.specs.OwnPart.{own_part, depends_on_others}
 use Rattle.tb_history.specs.Verdict.{verdict_on}
 use Rattle.tb_desk.specs.Stands.{StandsForEither, is_open}
 
@@ -112,17 +112,17 @@ IsTurn gate disk asked old new replies at =
     (IsStuck old new replies × (at ≡ old.history))
     ⊎ (Resolves gate disk old at × (IsAnswered at asked new replies ⊎ IsDoubted at asked new replies))
 
--- none of the messages moves par
-abbrev pub MoveNoPar : List (ℕ × Message) → Type 0
-MoveNoPar messages = All (λ (asked : ℕ × Message). moves_par asked.1 ≡ false) messages
+-- none of the messages depends on others
+abbrev pub DependOnNoOthers : List (ℕ × Message) → Type 0
+DependOnNoOthers messages = All (λ (asked : ℕ × Message). depends_on_others asked.1 ≡ false) messages
 
--- A turn, told with the history on which its verdicts stand. They are sealed: where the messages move no par, they
--- are those on the sender's own part of that history.
+-- A turn, told with the history on which its verdicts stand. They are sealed: where no message depends on what others
+-- did, they are those on the sender's own part of that history.
 pub record Turns (gate : ℕ) (disk : DiskState) (asked : Asked) (old new : Held) (replies : Replies) : Type 0 where
   pub at : List Entry
   pub legal : IsLegal at
   pub turn : IsTurn gate disk asked old new replies at
-  pub sealed : MoveNoPar asked.messages → verdicts at asked
+  pub sealed : DependOnNoOthers asked.messages → verdicts at asked
       ≡ verdicts_on (own_part asked.submitter at) asked.submitter (running at asked.moment) asked.messages
 
 -- a crash during a turn leaves one of these

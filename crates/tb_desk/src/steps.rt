@@ -12,7 +12,7 @@ ghost use Rattle.tb_core.specs.Rooms.{Fits};
 ghost use Rattle.tb_desk.specs.declared.reply.Reply.TheVariants as reply;
 ghost use Rattle.tb_desk.specs.declared.reply.GroupReply.TheVariants as group;
 ghost use Rattle.tb_desk.specs.Stands.{Stands, StandsForEither, CrashesLeave};
-ghost use Rattle.tb_desk.specs.Turn.{Held, Asked, messages_of, asked_of, Resolves, IsAnswered, IsDoubted, IsOneOf, Turns, Replies, AreNumbered, AreBids, MoveNoPar, verdicts_on};
+ghost use Rattle.tb_desk.specs.Turn.{Held, Asked, messages_of, asked_of, Resolves, IsAnswered, IsDoubted, IsOneOf, Turns, Replies, AreNumbered, AreBids, DependOnNoOthers, verdicts_on};
 ghost use Rattle.tb_desk.specs.Desks.{replies_of, Tells};
 
 use crate::groups::{add_group, apply, apply_all, is_empty, take_back};
@@ -181,7 +181,7 @@ fn answer_group<D: Disk>(
         (record { history = host.new.history; doubt = doubt.new.items }) replies
         ⊎ IsDoubted host.old.history (record { submitter = submitter.now; moment = moment; messages = messages.now })
         (record { history = host.new.history; doubt = doubt.new.items }) replies) }
-    ensures sealed { MoveNoPar messages.now
+    ensures sealed { DependOnNoOthers messages.now
         → verdicts_on host.old.history submitter.now (running host.old.history moment) messages.now
         ≡ verdicts_on (own_part submitter.now host.old.history) submitter.now (running host.old.history moment)
         messages.now }

@@ -7,6 +7,8 @@ mod group_tests;
 #[cfg(test)]
 mod migrate_tests;
 #[cfg(test)]
+mod sale_tests;
+#[cfg(test)]
 mod tests;
 #[cfg(test)]
 mod walk_tests;

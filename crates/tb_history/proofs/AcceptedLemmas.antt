@@ -2,7 +2,7 @@
 use Rattle.std.proofs.Common.{◌≡◌, ℕ, Bool, true, false, not, cond, Option, Some, None}
 use Rattle.std.proofs.Common.{inl, inr, List, [], ◌∷◌, ◌++◌, map, refl, nat_le}
 use Rattle.std.specs.List.{AllByRecursion}
-use Rattle.std.proofs.lemmas.Bool.{cases_Bool, not-false}
+use Rattle.std.proofs.lemmas.Bool.{both_ways, cases_Bool, not-false, or_cases}
 use Rattle.tb_units.specs.declared.moment.Moment.{Moment}
 use Rattle.tb_terms.specs.declared.refusal.Refusal.{Refusal}
 use Rattle.tb_terms.specs.declared.refusal.Refusal.TheVariants as refusal
@@ -10,8 +10,12 @@ use Rattle.tb_message.specs.declared.message.Entry.{Entry}
 use Rattle.tb_message.specs.declared.message.Message.{Message}
 use Rattle.tb_message.specs.declared.verdict.Verdict.{Verdict}
 use Rattle.tb_message.specs.declared.verdict.Verdict.TheVariants as verdict
+use Rattle.tb_message.specs.Kinds as party
+use Rattle.tb_message.specs.Kinds.{party_of}
+use Rattle.tb_message.specs.Messages.{kind_of}
 use Rattle.tb_terms.specs.Rows.{Row, first_of}
-use Rattle.tb_history.specs.Roster.{registrations, is_caller, kept, sent_by}
+use Rattle.tb_history.specs.Entries.{is_same, operator}
+use Rattle.tb_history.specs.Roster.{registrations, is_caller, is_registered, kept, sent_by}
 use Rattle.tb_history.specs.Tables.{rows_of}
 use Rattle.tb_history.specs.Same.{same_message}
 use Rattle.tb_history.specs.Verdict.{refused, is_permitted, number_rows, verdict_on}
@@ -75,3 +79,15 @@ accepted-passes history submitter n moment message accepted =
       quota = quota.0;
       rows = rows-clear (rows_of history submitter moment message) n moment quota.1;
     }
+
+-- whoever sends what submitters send is registered
+pub sender-registered : (history : List Entry) (submitter : List ℕ) (sent : Message)
+    → is_caller (registrations history) submitter ≡ true
+    → is_permitted submitter sent ≡ true
+    → party_of (kind_of sent) ≡ party.submitter
+    → is_registered (registrations history) submitter ≡ true
+sender-registered history submitter sent caller permitted theirs =
+    elim (or_cases (is_same submitter operator) (is_registered (registrations history) submitter) caller) [
+      | inl is ↦ absurd (both_ways (not (is_same submitter operator)) (rw is refl) (rw theirs at permitted))
+      | inr known ↦ known
+    ]

@@ -40,15 +40,15 @@ use Rattle.tb_history.proofs.PassLemmas.{IsToldBy, held-told, pledged-told}
 use Rattle.tb_history.proofs.StableLemmas.{or_false}
 use Rattle.tb_history.proofs.HistoryLemmas.{IsLegal-front}
 use Rattle.tb_history.proofs.MovedLemmas.{redeems-message}
-use Rattle.tb_history.proofs.ToldLemmas.{IsLegal-told, has_bill-append}
-use Rattle.tb_history.proofs.GrowthLemmas.{registered-append}
+use Rattle.tb_history.proofs.ToldLemmas.{IsLegal-told}
+use Rattle.tb_history.proofs.GrowthLemmas.{registered-append, has_bill-append}
 
 -- the place of the first element with a name
 abbrev pub place_by : {X : Type 0} → (X → List ℕ) → List X → List ℕ → ℕ
 place_by name_of xs name = position_or_len (λ x. is_same (name_of x) name) xs
 
 -- is within where there is one
-place-within : {X : Type 0} (test : X → Bool) (xs : List X)
+pub place-within : {X : Type 0} (test : X → Bool) (xs : List X)
     → list_any test xs ≡ true
     → position_or_len test xs < length xs
 place-within test [] some = absurd cc
@@ -130,13 +130,13 @@ numbering_with name bytes history = record {
 }
 
 -- the name in front has its own
-numbered-name : (name bytes : List ℕ) (history : List Entry) → IsNumbered (numbering_with name bytes history) name
+pub numbered-name : (name bytes : List ℕ) (history : List Entry) → IsNumbered (numbering_with name bytes history) name
 numbered-name name bytes history other =
     place_by-own (λ (n : List ℕ). n) (name ∷ names_of (registrations history)) name other
     (or_left (is_same name name) _ (is_same-refl name))
 
 -- so has the bill in front
-numbered-bill : (name bytes : List ℕ) (history : List Entry) → IsBillNumbered (numbering_with name bytes history) bytes
+pub numbered-bill : (name bytes : List ℕ) (history : List Entry) → IsBillNumbered (numbering_with name bytes history) bytes
 numbered-bill name bytes history other =
     place_by-own (λ (b : List ℕ). b) (bytes ∷ bills_of (announcements history)) bytes other
     (or_left (is_same bytes bytes) _ (is_same-refl bytes))
@@ -213,7 +213,7 @@ unfolding registrations
 submitters-nil = AllPairs-nil (λ (one other : Registration). is_same other.submitter one.submitter ≡ false)
 
 -- so it is in every legal history
-IsLegal-submitters : (history : List Entry) → IsLegal history → AreSubmitters (registrations history)
+pub IsLegal-submitters : (history : List Entry) → IsLegal history → AreSubmitters (registrations history)
 IsLegal-submitters history legal =
     by_entries (λ history. AreSubmitters (registrations history)) submitters-nil submitters-push history legal
 
@@ -275,7 +275,7 @@ sum_by-each f g (x ∷ xs) same =
     ∙ sym (sum_by-cons g x xs))
 
 -- a legal history by places behind a name and a bill
-tells-with : (name bytes : List ℕ) (history : List Entry)
+pub tells-with : (name bytes : List ℕ) (history : List Entry)
     → IsLegal history
     → IsToldBy (numbering_with name bytes history)
     (participants_of (numbering_with name bytes history) (registrations history)) history

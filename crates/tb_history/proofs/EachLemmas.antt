@@ -2,15 +2,19 @@
 use Rattle.std.proofs.Common.{◌≡◌, List, [], ◌∷◌, ◌++◌, refl}
 use Rattle.std.specs.List.{AllByRecursion}
 use Rattle.tb_message.specs.declared.message.Entry.{Entry}
-use Rattle.tb_history.specs.Entries.{added_by, announced_by, bid_by, enrolled_by, pledged_by, settled_by}
+use Rattle.tb_history.specs.Entries.{added_by, announced_by, bid_by, deposited_by, enrolled_by, offered_by, pledged_by}
+use Rattle.tb_history.specs.Entries.{purchased_by, retracted_by, settled_by, withdrawn_by}
 use Rattle.tb_history.specs.Roster.{add_ons, announcements, enrolments, settlements}
 use Rattle.tb_history.specs.LiveBids.{bids}
 use Rattle.tb_history.specs.Holdings.{marks}
+use Rattle.tb_history.specs.Offers.{offers, purchases, retractions}
+use Rattle.tb_history.specs.Funds.{deposits, withdrawals}
 use Rattle.tb_history.specs.Legal.{IsLegal, Follows}
 use Rattle.tb_history.proofs.PartLemmas.{AllByRecursion-append, AllByRecursion-weaker}
 use Rattle.tb_history.proofs.AcceptedLemmas.{Passes, accepted-passes}
-use Rattle.tb_history.proofs.GrowthLemmas.{add_ons-snoc, announcements-snoc, bids-snoc, enrolments-snoc, marks-snoc}
-use Rattle.tb_history.proofs.GrowthLemmas.{settlements-snoc}
+use Rattle.tb_history.proofs.GrowthLemmas.{add_ons-snoc, announcements-snoc, bids-snoc, deposits-snoc, enrolments-snoc}
+use Rattle.tb_history.proofs.GrowthLemmas.{marks-snoc, offers-snoc, purchases-snoc, retractions-snoc, settlements-snoc}
+use Rattle.tb_history.proofs.GrowthLemmas.{withdrawals-snoc}
 use Rattle.tb_history.proofs.LegalLemmas.{by_entries}
 
 -- the list of what a history says grows by what each entry says
@@ -73,3 +77,28 @@ marks-grow = record { none = refl; more = marks-snoc }
 pub add_ons-grow : Grows add_ons (λ (entry : Entry). added_by entry.message)
 unfolding add_ons
 add_ons-grow = record { none = refl; more = add_ons-snoc }
+
+-- deposits
+pub deposits-grow : Grows deposits (λ (entry : Entry). deposited_by entry.message)
+unfolding deposits
+deposits-grow = record { none = refl; more = deposits-snoc }
+
+-- withdrawals
+pub withdrawals-grow : Grows withdrawals (λ (entry : Entry). withdrawn_by entry.message)
+unfolding withdrawals
+withdrawals-grow = record { none = refl; more = withdrawals-snoc }
+
+-- offers
+pub offers-grow : Grows offers (λ (entry : Entry). offered_by entry.submitter entry.number entry.message)
+unfolding offers
+offers-grow = record { none = refl; more = offers-snoc }
+
+-- purchases
+pub purchases-grow : Grows purchases (λ (entry : Entry). purchased_by entry.submitter entry.message)
+unfolding purchases
+purchases-grow = record { none = refl; more = purchases-snoc }
+
+-- retractions
+pub retractions-grow : Grows retractions (λ (entry : Entry). retracted_by entry.submitter entry.message)
+unfolding retractions
+retractions-grow = record { none = refl; more = retractions-snoc }

@@ -11,11 +11,15 @@ use Rattle.tb_history.specs.declared.roster.Enrolment.{Enrolment}
 use Rattle.tb_history.specs.declared.roster.Registration.{Registration}
 use Rattle.tb_history.specs.Entries.{is_same, registered_by, enrolled_by, entered_by, announced_by}
 use Rattle.tb_history.specs.Entries.{published_by, settled_by, redeemed_by, bid_by, cancelled_by, reported_by}
-use Rattle.tb_history.specs.Entries.{transferred_by, pledged_by, released_by, added_by}
+use Rattle.tb_history.specs.Entries.{transferred_by, pledged_by, released_by, added_by, deposited_by, withdrawn_by}
+use Rattle.tb_history.specs.Entries.{offered_by, purchased_by, retracted_by}
 use Rattle.tb_history.specs.Roster.{registrations, enrolments, holidays, announcements, publications, settlements}
 use Rattle.tb_history.specs.Roster.{redemptions, add_ons, is_under, is_enrolled, is_registered, announcement_of}
 use Rattle.tb_history.specs.LiveBids.{bids, cancels, reports}
 use Rattle.tb_history.specs.Holdings.{transfers, marks, releases}
+use Rattle.tb_history.specs.Offers.{offers, purchases, retractions}
+use Rattle.tb_history.specs.Funds.{deposits, withdrawals}
+use Rattle.tb_history.specs.Moves.{has_bill}
 
 -- what the lists say of one more entry
 flat_map-snoc : {X Y : Type 0} (says : X → List Y) (xs : List X) (x : X)
@@ -116,6 +120,44 @@ unfolding add_ons
 add_ons-snoc history next_entry =
     flat_map-snoc (λ (entry : Entry). added_by entry.message) history next_entry
 
+-- a deposit
+pub deposits-snoc : (history : List Entry) (next_entry : Entry)
+    → deposits (history ++ next_entry ∷ []) ≡ deposits history ++ deposited_by next_entry.message
+unfolding deposits
+deposits-snoc history next_entry =
+    flat_map-snoc (λ (entry : Entry). deposited_by entry.message) history next_entry
+
+-- a withdrawal
+pub withdrawals-snoc : (history : List Entry) (next_entry : Entry)
+    → withdrawals (history ++ next_entry ∷ []) ≡ withdrawals history ++ withdrawn_by next_entry.message
+unfolding withdrawals
+withdrawals-snoc history next_entry =
+    flat_map-snoc (λ (entry : Entry). withdrawn_by entry.message) history next_entry
+
+-- an offer
+pub offers-snoc : (history : List Entry) (next_entry : Entry)
+    → offers (history ++ next_entry ∷ [])
+    ≡ offers history ++ offered_by next_entry.submitter next_entry.number next_entry.message
+unfolding offers
+offers-snoc history next_entry =
+    flat_map-snoc (λ (entry : Entry). offered_by entry.submitter entry.number entry.message) history next_entry
+
+-- a purchase
+pub purchases-snoc : (history : List Entry) (next_entry : Entry)
+    → purchases (history ++ next_entry ∷ [])
+    ≡ purchases history ++ purchased_by next_entry.submitter next_entry.message
+unfolding purchases
+purchases-snoc history next_entry =
+    flat_map-snoc (λ (entry : Entry). purchased_by entry.submitter entry.message) history next_entry
+
+-- a retraction
+pub retractions-snoc : (history : List Entry) (next_entry : Entry)
+    → retractions (history ++ next_entry ∷ [])
+    ≡ retractions history ++ retracted_by next_entry.submitter next_entry.message
+unfolding retractions
+retractions-snoc history next_entry =
+    flat_map-snoc (λ (entry : Entry). retracted_by entry.submitter entry.message) history next_entry
+
 -- who is registered stays so among more
 pub registered-append : (one other : List Registration) (name : List ℕ)
     → is_registered one name ≡ true
@@ -123,6 +165,14 @@ pub registered-append : (one other : List Registration) (name : List ℕ)
 registered-append one other name known =
     rw (list_any-append (λ (registration : Registration). is_same registration.submitter name) one other)
     (or_left (is_registered one name) (is_registered other name) known)
+
+-- and so does a bill that is announced
+pub has_bill-append : (one other : List Announcement) (bytes : List ℕ)
+    → has_bill one bytes ≡ true
+    → has_bill (one ++ other) bytes ≡ true
+has_bill-append one other bytes known =
+    rw (list_any-append (λ (announcement : Announcement). is_same announcement.cusip.bytes bytes) one other)
+    (or_left (has_bill one bytes) (has_bill other bytes) known)
 
 -- what is found stays found among more
 pub find-append : {X : Type 0} (test : X → Bool) (xs ys : List X) (x : X)

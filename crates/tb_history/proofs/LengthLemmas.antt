@@ -36,7 +36,7 @@ abbrev pub IsAmong : List (List ℕ) → Entry → Type 0
 IsAmong names e = list_any (λ name. is_same e.submitter name) names ≡ true
 
 -- an entry counts for its sender
-counts : Entry → List ℕ → ℕ
+unfoldable pub counts : Entry → List ℕ → ℕ
 counts e name = cond (is_same e.submitter name) 1 0
 
 -- an entry adds one for its sender
@@ -121,7 +121,7 @@ registered-few history sender moment (message.Register submitter key) clear few 
 registered-few history sender moment other clear few = omega (arith, few)
 
 -- one entry more
-sent_by-push : (history : List Entry) (next_entry : Entry) (name : List ℕ)
+pub sent_by-push : (history : List Entry) (next_entry : Entry) (name : List ℕ)
     → sent_by (history ++ next_entry ∷ []) name ≡ sent_by history name + counts next_entry name
 unfolding sent_by counts
 sent_by-push history next_entry name =

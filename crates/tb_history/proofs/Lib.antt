@@ -23,6 +23,10 @@ pub mod MovedLemmas
 pub mod PassLemmas
 pub mod EachLemmas
 pub mod AddOnLemmas
+pub mod OfferLemmas
+pub mod FundsLemmas
+pub mod TradeLemmas
+pub mod OpenLemmas
 pub mod ToldLemmas
 pub mod NumberingLemmas
 pub mod ConservedLemmas

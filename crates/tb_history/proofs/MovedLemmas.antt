@@ -18,12 +18,14 @@ use Rattle.tb_message.specs.declared.message.Message.TheVariants as message
 use Rattle.tb_history.specs.declared.roster.Enrolment.{Enrolment}
 use Rattle.tb_history.specs.declared.accounts.Transfer.{Transfer}
 use Rattle.tb_history.specs.declared.accounts.Release.{Release}
+use Rattle.tb_history.specs.declared.accounts.Offer.{Offer}
 use Rattle.tb_history.specs.declared.accounts.AddOn.{AddOn}
 use Rattle.tb_history.specs.Entries.{is_same, redeemed_by, transferred_by, pledged_by, released_by}
 use Rattle.tb_history.specs.Roster.{enrolments, announcements, announcement_of, is_redeemed}
 use Rattle.tb_history.specs.Holdings.{award_in, awards_of, awarded_add_on, par_added, transfers, received_by, sent_from}
-use Rattle.tb_history.specs.Moves.{Numbering, credit_of, add_on_credits, credits_of, settled_as, movement_by}
-use Rattle.tb_history.specs.Moves.{IsNumbered, IsBillNumbered, as_moved}
+use Rattle.tb_history.specs.Offers.{offers, offer_of}
+use Rattle.tb_history.specs.Moves.{Numbering, credit_of, add_on_credits, credits_of, settled_as, bought_as}
+use Rattle.tb_history.specs.Moves.{movement_by, IsNumbered, IsBillNumbered, as_moved}
 use Rattle.tb_history.proofs.GrowthLemmas.{transfers-snoc}
 use Rattle.tb_history.proofs.CreditedLemmas.{awards_among, newly_of, newly_settled}
 
@@ -32,9 +34,30 @@ one_kept : {X : Type 0} (f : X → ℕ) (b : Bool) (x : X) → 0 + cond b (f x) 
 one_kept f true x = refl
 one_kept f false x = refl
 
--- nothing and a number is the number
+-- nothing before a number
 before_none : (x : ℕ) → x ≡ 0 + x
 before_none x = omega arith
+
+-- or behind it
+behind_none : (x : ℕ) → x ≡ x + 0
+behind_none x = omega arith
+
+-- the par of an offer
+abbrev pub offered_par : Offer → ℕ
+offered_par o = o.amount.value
+
+-- the offer is the participant's, of the bill
+abbrev pub is_sold_by : List ℕ → Cusip → Offer → Bool
+is_sold_by participant cusip o = is_same o.seller participant && is_same o.cusip.bytes cusip.bytes
+
+-- or is made to it
+abbrev pub is_bought_by : List ℕ → Cusip → Offer → Bool
+is_bought_by participant cusip o = is_same o.buyer participant && is_same o.cusip.bytes cusip.bytes
+
+-- the offer that a message buys
+abbrev pub newly_sold : List Entry → Message → List Offer
+newly_sold history (message.Buy seller offer) = option_to_list (offer_of (offers history) seller offer)
+newly_sold history other = []
 
 -- the par of a transfer, a pledge or a release
 abbrev pub transferred : Transfer → ℕ
@@ -78,6 +101,53 @@ settled-takes : (numbers : Numbering) (history : List Entry) (found : Option Ann
 settled-takes numbers history None holder security = refl
 settled-takes numbers history (Some a) holder security = refl
 
+-- a purchase takes from the seller
+bought-takes : (numbers : Numbering) (found : Option Offer) (participant : List ℕ) (cusip : Cusip)
+    → IsNumbered numbers participant
+    → IsBillNumbered numbers cusip.bytes
+    → sum_by (taken (numbers.holder participant) (numbers.security cusip.bytes))
+    (option_to_list (bought_as numbers found))
+    ≡ 0 + sum_by offered_par (filter (is_sold_by participant cusip) (option_to_list found))
+bought-takes numbers None participant cusip own bills = refl
+bought-takes numbers (Some o) participant cusip own bills =
+    rw (own o.seller, bills o.cusip.bytes) (one_kept offered_par (is_sold_by participant cusip o) o ∙ before_none _)
+
+-- and brings to the buyer
+bought-brings : (numbers : Numbering) (found : Option Offer) (participant : List ℕ) (cusip : Cusip)
+    → IsNumbered numbers participant
+    → IsBillNumbered numbers cusip.bytes
+    → sum_by (brought (numbers.holder participant) (numbers.security cusip.bytes))
+    (option_to_list (bought_as numbers found))
+    ≡ 0 + (0 + sum_by offered_par (filter (is_bought_by participant cusip) (option_to_list found)))
+bought-brings numbers None participant cusip own bills = refl
+bought-brings numbers (Some o) participant cusip own bills =
+    rw (own o.buyer, bills o.cusip.bytes)
+    (one_kept offered_par (is_bought_by participant cusip o) o ∙ (before_none _ ∙ before_none _))
+
+-- it issues nothing
+bought-issues : (numbers : Numbering) (found : Option Offer) (security : ℕ)
+    → sum_by (issues security) (option_to_list (bought_as numbers found)) ≡ 0
+bought-issues numbers None security = refl
+bought-issues numbers (Some o) security = refl
+
+-- redeems nothing
+bought-redeems : (numbers : Numbering) (found : Option Offer) (security : ℕ)
+    → list_any (redeems security) (option_to_list (bought_as numbers found)) ≡ false
+bought-redeems numbers None security = refl
+bought-redeems numbers (Some o) security = refl
+
+-- makes no pledge
+bought-marks : (numbers : Numbering) (found : Option Offer)
+    → filter_map mark_made (option_to_list (bought_as numbers found)) ≡ []
+bought-marks numbers None = refl
+bought-marks numbers (Some o) = refl
+
+-- and releases nothing
+bought-releases : (numbers : Numbering) (found : Option Offer) (holder number : ℕ)
+    → sum_by (releases_of holder number) (option_to_list (bought_as numbers found)) ≡ 0
+bought-releases numbers None holder number = refl
+bought-releases numbers (Some o) holder number = refl
+
 -- whatever the message is
 pub taken-message : (numbers : Numbering) (history : List Entry) (submitter : List ℕ) (number : ℕ) (sent : Message)
     (participant : List ℕ) (cusip : Cusip)
@@ -86,13 +156,17 @@ pub taken-message : (numbers : Numbering) (history : List Entry) (submitter : Li
     → sum_by (taken (numbers.holder participant) (numbers.security cusip.bytes))
     (option_to_list (movement_by numbers history submitter number sent))
     ≡ sum_by transferred (filter (comes_from participant cusip) (transferred_by submitter sent))
+    + sum_by offered_par (filter (is_sold_by participant cusip) (newly_sold history sent))
 taken-message numbers history submitter number (message.Transfer bill to amount) participant cusip own bills =
     rw (own submitter, bills bill.bytes)
     (one_kept transferred (is_same submitter participant && is_same bill.bytes cusip.bytes)
-    (record { from = submitter; to = to; cusip = bill; amount = amount }))
+    (record { from = submitter; to = to; cusip = bill; amount = amount })
+    ∙ behind_none _)
 taken-message numbers history submitter number (message.Settle auction) participant cusip own bills =
     settled-takes numbers history (announcement_of (announcements history) auction) (numbers.holder participant)
     (numbers.security cusip.bytes)
+taken-message numbers history submitter number (message.Buy seller offer) participant cusip own bills =
+    bought-takes numbers (offer_of (offers history) seller offer) participant cusip own bills
 taken-message numbers history submitter number other participant cusip own bills = refl
 
 -- the credits of a settlement are the awards of the participant's bidders
@@ -200,14 +274,17 @@ pub brought-message : (numbers : Numbering) (history : List Entry) (submitter : 
     → sum_by (brought (numbers.holder participant) (numbers.security cusip.bytes))
     (option_to_list (movement_by numbers history submitter number sent))
     ≡ newly_settled (λ name. is_same name participant) history cusip sent
-    + sum_by transferred (filter (goes_to participant cusip) (transferred_by submitter sent))
+    + (sum_by transferred (filter (goes_to participant cusip) (transferred_by submitter sent))
+    + sum_by offered_par (filter (is_bought_by participant cusip) (newly_sold history sent)))
 brought-message numbers history submitter number (message.Transfer bill to amount) participant cusip own bills =
     rw (own to, bills bill.bytes)
     (one_kept transferred (is_same to participant && is_same bill.bytes cusip.bytes)
     (record { from = submitter; to = to; cusip = bill; amount = amount })
-    ∙ before_none _)
+    ∙ (behind_none _ ∙ before_none _))
 brought-message numbers history submitter number (message.Settle auction) participant cusip own bills =
     settled-brings numbers history (announcement_of (announcements history) auction) participant cusip own bills
+brought-message numbers history submitter number (message.Buy seller offer) participant cusip own bills =
+    bought-brings numbers (offer_of (offers history) seller offer) participant cusip own bills
 brought-message numbers history submitter number other participant cusip own bills = refl
 
 -- it issues what the message settles
@@ -228,6 +305,8 @@ pub issues-message : (numbers : Numbering) (history : List Entry) (submitter : L
     ≡ newly_settled (λ name. true) history cusip sent
 issues-message numbers history submitter number (message.Settle auction) cusip bills =
     settled-issues numbers history (announcement_of (announcements history) auction) cusip bills
+issues-message numbers history submitter number (message.Buy seller offer) cusip bills =
+    bought-issues numbers (offer_of (offers history) seller offer) (numbers.security cusip.bytes)
 issues-message numbers history submitter number other cusip bills = refl
 
 -- it redeems what the message redeems
@@ -246,6 +325,8 @@ pub redeems-message : (numbers : Numbering) (history : List Entry) (submitter : 
 redeems-message numbers history submitter number (message.Redeem bill) cusip bills = rw (bills bill.bytes) refl
 redeems-message numbers history submitter number (message.Settle auction) cusip bills =
     settled-redeems numbers history (announcement_of (announcements history) auction) (numbers.security cusip.bytes)
+redeems-message numbers history submitter number (message.Buy seller offer) cusip bills =
+    bought-redeems numbers (offer_of (offers history) seller offer) (numbers.security cusip.bytes)
 redeems-message numbers history submitter number other cusip bills = refl
 
 -- a settlement makes no pledge
@@ -261,6 +342,8 @@ pub marks-message : (numbers : Numbering) (history : List Entry) (submitter : Li
 marks-message numbers history submitter number (message.Settle auction) =
     settled-marks numbers history (announcement_of (announcements history) auction)
 marks-message numbers history submitter number (message.Pledge cusip to amount) = refl
+marks-message numbers history submitter number (message.Buy seller offer) =
+    bought-marks numbers (offer_of (offers history) seller offer)
 marks-message numbers history submitter number other = refl
 
 -- the release is of the holder's pledge of this number
@@ -295,4 +378,6 @@ releases-message numbers history submitter n (message.Release of pledge amount) 
     (record { holder = of; pledge = pledge; amount = amount }))
 releases-message numbers history submitter n (message.Settle auction) holder number own =
     settled-releases numbers history (announcement_of (announcements history) auction) (numbers.holder holder) number
+releases-message numbers history submitter n (message.Buy seller offer) holder number own =
+    bought-releases numbers (offer_of (offers history) seller offer) (numbers.holder holder) number
 releases-message numbers history submitter n other holder number own = refl

@@ -15,24 +15,28 @@ use Rattle.tb_message.specs.declared.message.Message.TheVariants as message
 use Rattle.tb_history.specs.declared.roster.Registration.{Registration}
 use Rattle.tb_history.specs.declared.roster.Enrolment.{Enrolment}
 use Rattle.tb_history.specs.declared.accounts.Mark.{Mark}
+use Rattle.tb_history.specs.declared.accounts.Offer.{Offer}
 use Rattle.tb_history.specs.declared.accounts.AddOn.{AddOn}
 use Rattle.tb_history.specs.Entries.{is_same, registered_by, announced_by, pledged_by}
 use Rattle.tb_history.specs.Roster.{registrations, enrolments, announcements, announcement_of, bill_of, is_registered}
 use Rattle.tb_history.specs.Holdings.{award_in, awarded_add_on, marks, mark_of}
 use Rattle.tb_history.specs.Tables.{mark_rows, left_in, par_rows}
 use Rattle.tb_history.specs.Legal.{IsLegal, Follows}
-use Rattle.tb_history.specs.Moves.{Numbering, numbering_of, credit_of, add_on_credits, settled_as, movement_by}
+use Rattle.tb_history.specs.Offers.{offers, offer_of}
+use Rattle.tb_history.specs.Moves.{Numbering, numbering_of, credit_of, add_on_credits, settled_as, bought_as}
+use Rattle.tb_history.specs.Moves.{movement_by}
 use Rattle.tb_history.specs.Moves.{movements_by, meaning_by, has_bill}
 use Rattle.tb_history.proofs.PartLemmas.{AllByRecursion-front}
 use Rattle.tb_history.proofs.SameLemmas.{is_same-equal}
-use Rattle.tb_history.proofs.GrowthLemmas.{registrations-snoc, announcements-snoc, registered-append}
-use Rattle.tb_history.proofs.AcceptedLemmas.{IsClear, Passes, accepted-passes}
+use Rattle.tb_history.proofs.GrowthLemmas.{registrations-snoc, announcements-snoc, registered-append, has_bill-append}
+use Rattle.tb_history.proofs.AcceptedLemmas.{IsClear, Passes, accepted-passes, sender-registered}
 use Rattle.tb_history.proofs.LegalLemmas.{by_entries}
 use Rattle.tb_history.proofs.EachLemmas.{IsLegal-each, marks-grow}
 use Rattle.tb_history.proofs.ClosedLemmas.{found-in}
-use Rattle.tb_history.proofs.ToldLemmas.{has_bill-append, sender-registered, transfer_rows-clear}
+use Rattle.tb_history.proofs.ToldLemmas.{transfer_rows-clear}
 use Rattle.tb_history.proofs.ToldLemmas.{IsLegal-enrolled, bill-found, redeem-bill}
 use Rattle.tb_history.proofs.AddOnLemmas.{awarded-known}
+use Rattle.tb_history.proofs.OfferLemmas.{IsOffered, offer-known}
 
 -- the place of what is there stays behind which more comes
 place-append : {X : Type 0} (test : X → Bool) (xs ys : List X)
@@ -66,7 +70,7 @@ Agree-front one other history entry agree = record {
 }
 
 -- places in a longer roster agree with those in the roster
-Agree-places : (history : List Entry) (entry : Entry)
+pub Agree-places : (history : List Entry) (entry : Entry)
     → Agree (numbering_of (registrations (history ++ entry ∷ [])) (announcements (history ++ entry ∷ [])))
     (numbering_of (registrations history) (announcements history)) history
 Agree-places history entry = record {
@@ -159,6 +163,21 @@ settled-agree one other history auction (Some a) legal agree is =
     add_on-agree None same = refl
     add_on-agree (Some x) same = rw (agree.holders x.holder (awarded-known history a x legal same).holder) refl
 
+-- and so is what a purchase moves
+bought-agree : (one other : Numbering) (history : List Entry) (seller : List ℕ) (offer : ℕ) (found : Option Offer)
+    → IsLegal history
+    → Agree one other history
+    → offer_of (offers history) seller offer ≡ found
+    → bought_as one found ≡ bought_as other found
+bought-agree one other history seller offer None legal agree is = refl
+bought-agree one other history seller offer (Some o) legal agree is =
+    let known : IsOffered history o = offer-known history seller offer o legal is in
+    rw (
+      agree.holders o.seller known.seller,
+      agree.holders o.buyer known.buyer,
+      agree.bills o.cusip.bytes known.bill,
+    ) refl
+
 -- what an accepted message moves is the same by numberings that agree
 movement-agree : (one other : Numbering) (history : List Entry) (submitter : List ℕ) (number : ℕ) (moment : Moment)
     (sent : Message)
@@ -199,6 +218,8 @@ movement-agree one other history submitter number moment (message.Release holder
 movement-agree one other history submitter number moment (message.Redeem cusip) legal agree passed =
     rw (agree.bills cusip.bytes (redeem-bill history submitter moment cusip
     (bill_of (announcements history) cusip) refl passed.rows)) refl
+movement-agree one other history submitter number moment (message.Buy seller offer) legal agree passed =
+    bought-agree one other history seller offer (offer_of (offers history) seller offer) legal agree refl
 movement-agree one other history submitter number moment other_kind legal agree passed = refl
 
 -- so the movements are, with an accepted entry more

@@ -1,5 +1,5 @@
 -- The movements of a legal history are legal, and tell what it says of accounts.
-use Rattle.std.proofs.Common.{◌≡◌, ℕ, ◌+◌, ◌==◌, ◌&&◌, nat_lt, Bool, true, false, cond, Some, is_some, inl, inr}
+use Rattle.std.proofs.Common.{◌≡◌, ℕ, ◌==◌, ◌&&◌, nat_lt, Bool, true, false, cond, Some, is_some, inl, inr}
 use Rattle.std.proofs.Common.{List, [], ◌∷◌, length, map, sum_by, All, refl, sym, ap, ◌∙◌, arith}
 use Rattle.std.specs.Option.{option_map}
 use Rattle.std.specs.List.{AllByRecursion, count_by, find, filter, list_any}
@@ -16,7 +16,7 @@ use Rattle.tb_history.specs.declared.accounts.Mark.{Mark}
 use Rattle.tb_history.specs.declared.accounts.Release.{Release}
 use Rattle.tb_history.specs.Entries.{is_same}
 use Rattle.tb_history.specs.Roster.{redemptions, is_redeemed}
-use Rattle.tb_history.specs.Holdings.{marks, releases, credited_to, issued, received_by, sent_from, held_of}
+use Rattle.tb_history.specs.Holdings.{marks, releases, issued, par_to, par_from, held_of}
 use Rattle.tb_history.specs.Holdings.{mark_of, left_of, pledged_of, free_of, open_marks}
 use Rattle.tb_history.specs.Legal.{IsLegal}
 use Rattle.tb_history.specs.Moves.{Numbering, movements_by, IsNumbered, IsBillNumbered, AreNumbered, as_moved}
@@ -42,12 +42,12 @@ pub record AreTold (numbers : Numbering) (participants : List ℕ) (history : Li
       → IsNumbered numbers participant
       → IsBillNumbered numbers cusip.bytes
       → sum_by (brought (numbers.holder participant) (numbers.security cusip.bytes)) (movements_by numbers history)
-      ≡ credited_to history participant cusip + received_by history participant cusip
+      ≡ par_to history participant cusip
   pub takes : (participant : List ℕ) (cusip : Cusip)
       → IsNumbered numbers participant
       → IsBillNumbered numbers cusip.bytes
       → sum_by (taken (numbers.holder participant) (numbers.security cusip.bytes)) (movements_by numbers history)
-      ≡ sent_from history participant cusip
+      ≡ par_from history participant cusip
   pub issued_is : (cusip : Cusip)
       → IsBillNumbered numbers cusip.bytes
       → sum_by (issues (numbers.security cusip.bytes)) (movements_by numbers history) ≡ issued history cusip

@@ -21,7 +21,7 @@ use Rattle.tb_history.specs.Roster.{registrations, announcements, announcement_o
 use Rattle.tb_history.specs.LiveBids.{bids, cancels, is_live}
 use Rattle.tb_history.specs.Verdict.{verdict_on}
 use Rattle.tb_history.specs.Legal.{IsLegal, running}
-use Rattle.tb_history.specs.OwnPart.{own_part, moves_par}
+use Rattle.tb_history.specs.OwnPart.{own_part, depends_on_others}
 use Rattle.tb_history.specs.Answer.{may_ask, auction_rows, asked_rows, query_refusal, caller_of}
 use Rattle.tb_history.specs.Answer.{verdict_for, refusal_for}
 use Rattle.tb_history.specs.Readings.{bid_line, bid_lines}
@@ -45,6 +45,7 @@ asked_rows-own submitter history orderly (query.Awards auction) =
 asked_rows-own submitter history orderly (query.Bids auction) =
     rw (announcements-own submitter history orderly, publications-own submitter history orderly) refl
 asked_rows-own submitter history orderly query.Holdings = refl
+asked_rows-own submitter history orderly query.Funds = refl
 asked_rows-own submitter history orderly (query.Redemption cusip) =
     rw (announcements-own submitter history orderly, redemptions-own submitter history orderly) refl
 
@@ -113,7 +114,7 @@ refusal_for-own history name submitter key q legal caller =
 pub verdict_for-own : (history : List Entry) (name submitter : List ℕ) (key : Key) (number : ℕ) (moment other : Moment)
     (message : Message)
     → IsLegal history
-    → moves_par message ≡ false
+    → depends_on_others message ≡ false
     → caller_of (registrations history) name key ≡ Some submitter
     → running history moment ≡ running (own_part submitter history) other
     → verdict_for history (caller_of (registrations history) name key) number moment message

@@ -360,6 +360,9 @@ IsReading-one history caller query.Holdings (reading.Holdings one) (reading.Hold
     ap reading.Holdings (AreHoldingLines-one history caller _ one other is is')
 IsReading-one history caller (query.Redemption cusip) (reading.Redemption one) (reading.Redemption other) is is' =
     ap reading.Redemption (ArePaidLines-one history cusip _ one other is is')
+IsReading-one history caller query.Funds (reading.Funds one) (reading.Funds other) is is' =
+    ap reading.Funds (same_cents one other (is ∙ sym is'))
+IsReading-one history caller query.Funds (reading.Funds one) other is is' = absurd is'
 IsReading-one history caller (query.Terms auction) (reading.Terms one) other is is' = absurd is'
 IsReading-one history caller (query.Results auction) (reading.Results one) other is is' = absurd is'
 IsReading-one history caller (query.Awards auction) (reading.Awards one) other is is' = absurd is'
@@ -372,3 +375,4 @@ IsReading-one history caller (query.Awards auction) one other is is' = absurd is
 IsReading-one history caller (query.Bids auction) one other is is' = absurd is
 IsReading-one history caller query.Holdings one other is is' = absurd is
 IsReading-one history caller (query.Redemption cusip) one other is is' = absurd is
+IsReading-one history caller query.Funds one other is is' = absurd is

@@ -17,11 +17,12 @@ use Rattle.tb_history.specs.LiveBids.{bids, cancels, reports, standing_of}
 use Rattle.tb_terms.specs.Rows.{Row, first_of}
 use Rattle.tb_history.specs.Tables.{rows_of, bid_rows}
 use Rattle.tb_history.specs.Verdict.{refused, verdict_on, is_permitted, number_rows}
-use Rattle.tb_history.specs.OwnPart.{own_part, moves_par}
+use Rattle.tb_history.specs.OwnPart.{own_part, depends_on_others}
 use Rattle.tb_history.specs.Legal.{IsLegal}
 use Rattle.tb_history.proofs.LegalLemmas.{IsOrderly, IsLegal-orderly}
 use Rattle.tb_history.proofs.OwnLemmas.{registrations-own, enrolments-own, announcements-own, publications-own}
-use Rattle.tb_history.proofs.OwnLemmas.{holidays-own, settlements-own, redemptions-own, add_ons-own, kept-own, sent_by-own}
+use Rattle.tb_history.proofs.OwnLemmas.{holidays-own, settlements-own, redemptions-own, add_ons-own, kept-own}
+use Rattle.tb_history.proofs.OwnLemmas.{sent_by-own}
 use Rattle.tb_history.proofs.OwnLemmas.{bid_of-own, is_cancelled-own, is_party-same, standing_of-own}
 use Rattle.tb_history.proofs.SameLemmas.{is_same-refl}
 
@@ -46,11 +47,11 @@ bid_rows-own submitter history orderly (Some a) moment auction bidder rate amoun
       | inr unknown ↦ rw unknown refl
     ]
 
--- the rows of a message that moves no par tell alike on the own part
+-- the rows of a message that doesn't depend on others tell alike on the own part
 rows_of-own : (sender : List ℕ) (history : List Entry)
     → IsOrderly history
     → (moment : Moment) (sent : Message) (last : Verdict)
-    → moves_par sent ≡ false
+    → depends_on_others sent ≡ false
     → outcome (rows_of (own_part sender history) sender moment sent) last
     ≡ outcome (rows_of history sender moment sent) last
 rows_of-own sender history orderly moment (message.Register submitter key) last still =
@@ -95,6 +96,12 @@ rows_of-own sender history orderly moment (message.AddOn auction holder amount) 
       registrations-own sender history orderly,
       add_ons-own sender history orderly,
     ) refl
+rows_of-own sender history orderly moment (message.Deposit participant cents) last still =
+    rw (registrations-own sender history orderly) refl
+rows_of-own sender history orderly moment (message.Withdraw participant cents) last still = cc
+rows_of-own sender history orderly moment (message.Sell cusip to amount price) last still = cc
+rows_of-own sender history orderly moment (message.Buy seller offer) last still = cc
+rows_of-own sender history orderly moment (message.Retract offer) last still = cc
 rows_of-own sender history orderly moment (message.Transfer cusip to amount) last still = cc
 rows_of-own sender history orderly moment (message.Pledge cusip to amount) last still = cc
 rows_of-own sender history orderly moment (message.Release holder pledge amount) last still = cc
@@ -111,7 +118,7 @@ first_of-append (row ∷ rows) one other last same =
 pub verdict_on-own : (submitter : List ℕ) (history : List Entry)
     → IsOrderly history
     → (number : ℕ) (moment : Moment) (sent : Message)
-    → moves_par sent ≡ false
+    → depends_on_others sent ≡ false
     → verdict_on (own_part submitter history) submitter number moment sent
     ≡ verdict_on history submitter number moment sent
 verdict_on-own submitter history orderly number moment sent still =
@@ -131,7 +138,7 @@ verdict_on-own submitter history orderly number moment sent still =
 pub IsLegal-sealed : (submitter : List ℕ) (history : List Entry)
     → IsLegal history
     → (number : ℕ) (moment : Moment) (sent : Message)
-    → moves_par sent ≡ false
+    → depends_on_others sent ≡ false
     → verdict_on history submitter number moment sent
     ≡ verdict_on (own_part submitter history) submitter number moment sent
 IsLegal-sealed submitter history legal number moment sent still =

@@ -1,11 +1,11 @@
 -- Every entry of a legal history moves what passes on the movements before it.
-use Rattle.std.proofs.Common.{◌≡◌, ◌≢◌, ℕ, ◌+◌, ◌≤◌, ◌==◌, ◌&&◌, ◌||◌, Bool, true, false, not, nat_le}
+use Rattle.std.proofs.Common.{◌≡◌, ◌≢◌, ℕ, ◌+◌, ◌≤◌, ◌==◌, ◌&&◌, ◌||◌, Bool, true, false, nat_le}
 use Rattle.std.proofs.Common.{Option, Some, None, inl, inr, List, [], ◌∷◌, ◌++◌, map, sum_by, All}
 use Rattle.std.proofs.Common.{refl, sym, ap, ◌∙◌, subst, arith, append-nil}
 use Rattle.std.specs.Prelude.{IfSome, IsSomeAnd, Contains, option_to_list, filter_map}
 use Rattle.std.specs.Option.{option_map}
 use Rattle.std.specs.List.{AllByRecursion, find, filter, flat_map, list_any}
-use Rattle.std.proofs.lemmas.Bool.{cases_Bool, both_ways, or_cases, or_left, or_right, eq-eqb, ltb-false, not-false}
+use Rattle.std.proofs.lemmas.Bool.{cases_Bool, both_ways, or_left, or_right, eq-eqb, ltb-false, not-false}
 use Rattle.std.proofs.lemmas.List.Elements.{All-push, All-nil, filter-append, filter_map-append}
 use Rattle.std.proofs.lemmas.List.Folds.{list_any-append}
 use Rattle.std.proofs.lemmas.List.Sums.{sum_by-append}
@@ -23,29 +23,28 @@ use Rattle.tb_movements.proofs.TranslationLemmas.{movements_of-push}
 use Rattle.tb_message.specs.declared.message.Entry.{Entry}
 use Rattle.tb_message.specs.declared.message.Message.{Message}
 use Rattle.tb_message.specs.declared.message.Message.TheVariants as message
-use Rattle.tb_message.specs.Kinds as party
-use Rattle.tb_message.specs.Kinds.{party_of}
-use Rattle.tb_message.specs.Messages.{kind_of}
 use Rattle.tb_history.specs.declared.roster.Enrolment.{Enrolment}
 use Rattle.tb_history.specs.declared.accounts.Mark.{Mark}
 use Rattle.tb_history.specs.declared.accounts.Release.{Release}
+use Rattle.tb_history.specs.declared.accounts.Offer.{Offer}
 use Rattle.tb_history.specs.declared.accounts.AddOn.{AddOn}
-use Rattle.tb_history.specs.Entries.{is_same, operator, registered_by, enrolled_by}
+use Rattle.tb_history.specs.Entries.{is_same, registered_by, enrolled_by}
 use Rattle.tb_history.specs.Entries.{announced_by, redeemed_by, pledged_by, released_by}
 use Rattle.tb_history.specs.Roster.{registrations, enrolments, announcements, redemptions, announcement_of, bill_of}
-use Rattle.tb_history.specs.Roster.{is_of_bill, is_caller, is_registered, is_redeemed, is_settled, kept}
+use Rattle.tb_history.specs.Roster.{is_of_bill, is_registered, is_redeemed, is_settled, kept}
 use Rattle.tb_history.specs.Holdings.{transfers, marks, releases, awarded_add_on, credited_to, issued}
 use Rattle.tb_history.specs.Holdings.{mark_of, left_of, free_of, open_marks}
-use Rattle.tb_history.specs.Tables.{rows_of, transfer_rows, par_rows, mark_rows, left_in}
-use Rattle.tb_history.specs.Verdict.{is_permitted}
+use Rattle.tb_history.specs.Offers.{offers, purchases, sales, offer_of}
+use Rattle.tb_history.specs.Tables.{rows_of, transfer_rows, par_rows, buy_rows, mark_rows, left_in}
 use Rattle.tb_history.specs.Legal.{IsLegal, Follows}
-use Rattle.tb_history.specs.Moves.{Numbering, credit_of, add_on_credits, settled_as, movement_by, movements_by}
-use Rattle.tb_history.specs.Moves.{meaning_by, IsNumbered, as_moved, has_bill, AreNumbered}
+use Rattle.tb_history.specs.Moves.{Numbering, credit_of, add_on_credits, settled_as, bought_as, movement_by}
+use Rattle.tb_history.specs.Moves.{movements_by, meaning_by, IsNumbered, as_moved, has_bill, AreNumbered}
 use Rattle.tb_history.proofs.PartLemmas.{AllByRecursion-append, AllByRecursion-front}
 use Rattle.tb_history.proofs.SameLemmas.{is_same-equal, is_same-refl}
 use Rattle.tb_history.proofs.GrowthLemmas.{registrations-snoc, announcements-snoc}
 use Rattle.tb_history.proofs.GrowthLemmas.{redemptions-snoc, marks-snoc, releases-snoc, registered-append}
-use Rattle.tb_history.proofs.AcceptedLemmas.{IsClear, Passes, accepted-passes}
+use Rattle.tb_history.proofs.GrowthLemmas.{has_bill-append}
+use Rattle.tb_history.proofs.AcceptedLemmas.{IsClear, Passes, accepted-passes, sender-registered}
 use Rattle.tb_history.proofs.LegalLemmas.{by_entries}
 use Rattle.tb_history.proofs.EachLemmas.{IsLegal-each, enrolments-grow}
 use Rattle.tb_history.proofs.ClosedLemmas.{found-in}
@@ -54,16 +53,10 @@ use Rattle.tb_history.proofs.SettledLemmas.{settled_by-published, redeem-clear, 
 use Rattle.tb_history.proofs.CreditedLemmas.{par_settled-push, credited_to-settled, issued-settled}
 use Rattle.tb_history.proofs.MovedLemmas.{sent-push, received-push, taken-message, brought-message, issues-message}
 use Rattle.tb_history.proofs.MovedLemmas.{redeems-message, marks-message, is_release_of, releases-message}
+use Rattle.tb_history.proofs.MovedLemmas.{offered_par, is_sold_by, is_bought_by}
 use Rattle.tb_history.proofs.PassLemmas.{found_any, IsKnown, AreTold, IsToldBy, free-told, left-told, mark-told}
 use Rattle.tb_history.proofs.AddOnLemmas.{awarded-known}
-
--- a bill that is announced stays so among more
-pub has_bill-append : (one other : List Announcement) (bytes : List ℕ)
-    → has_bill one bytes ≡ true
-    → has_bill (one ++ other) bytes ≡ true
-has_bill-append one other bytes known =
-    rw (list_any-append (λ (announcement : Announcement). is_same announcement.cusip.bytes bytes) one other)
-    (or_left (has_bill one bytes) (has_bill other bytes) known)
+use Rattle.tb_history.proofs.OfferLemmas.{IsOffered, offer-known, IsBuyable, buy_rows-clear, sales-sum}
 
 -- numbers for a longer history are numbers for its beginning
 AreNumbered-front : (numbers : Numbering) (participants : List ℕ) (history : List Entry) (entry : Entry)
@@ -81,18 +74,6 @@ AreNumbered-front numbers participants history entry are =
       bills = λ bytes known. are.bills bytes (rw (announcements-snoc history entry)
           (has_bill-append (announcements history) (announced_by entry.message) bytes known));
     }
-
--- whoever sends what submitters send is registered
-pub sender-registered : (history : List Entry) (submitter : List ℕ) (sent : Message)
-    → is_caller (registrations history) submitter ≡ true
-    → is_permitted submitter sent ≡ true
-    → party_of (kind_of sent) ≡ party.submitter
-    → is_registered (registrations history) submitter ≡ true
-sender-registered history submitter sent caller permitted theirs =
-    elim (or_cases (is_same submitter operator) (is_registered (registrations history) submitter) caller) [
-      | inl is ↦ absurd (both_ways (not (is_same submitter operator)) (rw is refl) (rw theirs at permitted))
-      | inr known ↦ known
-    ]
 
 -- what an accepted transfer has passed
 pub record IsTransferable (history : List Entry) (submitter : List ℕ) (cusip : Cusip) (to : List ℕ)
@@ -230,6 +211,25 @@ redeem-bill history submitter moment cusip None is clear =
 redeem-bill history submitter moment cusip (Some a) is clear =
     found_any (is_of_bill cusip) (announcements history) (rw is refl)
 
+-- a purchase is of par that is free to its seller
+passes-bought : (numbers : Numbering) (participants : List ℕ) (history : List Entry) (submitter seller : List ℕ)
+    (offer : ℕ) (moment : Moment) (found : Option Offer)
+    → IsToldBy numbers participants history
+    → offer_of (offers history) seller offer ≡ found
+    → AllByRecursion IsClear (buy_rows history found submitter moment)
+    → IfSome (bought_as numbers found) (movements.Passes (movements_by numbers history))
+passes-bought numbers participants history submitter seller offer moment None tells is clear = tt
+passes-bought numbers participants history submitter seller offer moment (Some o) tells is clear =
+    let known : IsOffered history o = offer-known history seller offer o tells.legal is in
+    let buyable : IsBuyable history submitter o = buy_rows-clear history submitter moment o clear in
+    let own = tells.numbered.names o.seller known.seller in
+    let bills = tells.numbered.bills o.cusip.bytes known.bill in
+    let free = free-told numbers participants history o.seller o.cusip tells.told own bills in (
+      tells.told.redeemed o.cusip bills ∙ buyable.live,
+      other-number numbers o.seller o.buyer own known.apart,
+      omega (arith, free, buyable.covered),
+    )
+
 -- whatever the message moves passes
 pub passes-message : (numbers : Numbering) (participants : List ℕ) (history : List Entry) (submitter : List ℕ)
     (number : ℕ) (moment : Moment) (sent : Message)
@@ -277,6 +277,9 @@ passes-message numbers participants history submitter number moment (message.Red
     tells.told.redeemed cusip (tells.numbered.bills cusip.bytes (redeem-bill history submitter moment cusip
     (bill_of (announcements history) cusip) refl passed.rows))
     ∙ (redeem-clear history submitter moment cusip passed.rows).1
+passes-message numbers participants history submitter number moment (message.Buy seller offer) tells passed =
+    passes-bought numbers participants history submitter seller offer moment (offer_of (offers history) seller offer)
+    tells refl passed.rows
 passes-message numbers participants history submitter number moment other tells passed = tt
 
 -- each bidder's participant is registered
@@ -334,6 +337,18 @@ reaches-settled numbers participants history (Some a) are legal =
     add_on-reaches None is = tt
     add_on-reaches (Some x) is = (are.listed x.holder (awarded-known history a x legal is).holder, tt)
 
+-- a purchase has participants
+reaches-bought : (numbers : Numbering) (participants : List ℕ) (history : List Entry) (seller : List ℕ) (offer : ℕ)
+    (found : Option Offer)
+    → AreNumbered numbers participants history
+    → IsLegal history
+    → offer_of (offers history) seller offer ≡ found
+    → IfSome (bought_as numbers found) (movements.Reaches participants)
+reaches-bought numbers participants history seller offer None are legal is = tt
+reaches-bought numbers participants history seller offer (Some o) are legal is =
+    let known : IsOffered history o = offer-known history seller offer o legal is in
+    (are.listed o.seller known.seller, are.listed o.buyer known.buyer)
+
 -- so does what a message moves
 reaches-message : (numbers : Numbering) (participants : List ℕ) (history : List Entry) (submitter : List ℕ) (number : ℕ)
     (moment : Moment) (sent : Message)
@@ -354,6 +369,8 @@ reaches-message numbers participants history submitter number moment (message.Pl
 reaches-message numbers participants history submitter number moment
     (message.Release holder pledge amount) are legal passed = tt
 reaches-message numbers participants history submitter number moment (message.Redeem cusip) are legal passed = tt
+reaches-message numbers participants history submitter number moment (message.Buy seller offer) are legal passed =
+    reaches-bought numbers participants history seller offer (offer_of (offers history) seller offer) are legal refl
 reaches-message numbers participants history submitter number moment other are legal passed = tt
 
 -- a pledge is of a participant and a bill with numbers
@@ -423,6 +440,7 @@ AreTold-push numbers participants history entry tells follows =
             tells.told.brings participant cusip own bills,
             brought-message numbers history entry.submitter entry.number entry.message participant cusip own bills,
             received-push history entry participant cusip,
+            sales-sum offered_par (is_bought_by participant cusip) history entry tells.legal follows,
             credited_to-settled history participant cusip,
             credited_to-settled (history ++ entry ∷ []) participant cusip,
             par_settled-push (λ name. is_same name participant) history entry cusip
@@ -435,6 +453,7 @@ AreTold-push numbers participants history entry tells follows =
             tells.told.takes participant cusip own bills,
             taken-message numbers history entry.submitter entry.number entry.message participant cusip own bills,
             sent-push history entry participant cusip,
+            sales-sum offered_par (is_sold_by participant cusip) history entry tells.legal follows,
           );
       issued_is = λ cusip bills.
           omega (
@@ -485,7 +504,7 @@ AreTold-push numbers participants history entry tells follows =
 
 -- the empty history moves nothing
 AreTold-nil : (numbers : Numbering) (participants : List ℕ) → AreTold numbers participants []
-unfolding credited_to issued announcements transfers marks releases redemptions
+unfolding credited_to issued announcements transfers offers purchases sales marks releases redemptions
 AreTold-nil numbers participants = record {
   legal = IsLegal-none;
   reaches = All-nil (movements.Reaches participants);

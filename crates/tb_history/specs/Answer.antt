@@ -54,6 +54,7 @@ asked_rows history (query.Awards auction) =
 asked_rows history (query.Bids auction) =
     auction_rows (announcement_of (announcements history) auction) false (is_published history auction)
 asked_rows history query.Holdings = []
+asked_rows history query.Funds = []
 asked_rows history (query.Redemption cusip) =
     (refusal.UnknownSecurity, is_none (bill_of (announcements history) cusip))
     ∷ (refusal.NotRedeemed, not (is_redeemed (redemptions history) cusip))
@@ -85,4 +86,5 @@ asks_on auction (query.Results of) = is_same of auction
 asks_on auction (query.Awards of) = is_same of auction
 asks_on auction (query.Bids of) = is_same of auction
 asks_on auction query.Holdings = false
+asks_on auction query.Funds = false
 asks_on auction (query.Redemption cusip) = false

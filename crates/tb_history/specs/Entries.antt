@@ -17,6 +17,10 @@ use Rattle.tb_history.specs.declared.bids.Report.{Report}
 use Rattle.tb_history.specs.declared.accounts.Transfer.{Transfer}
 use Rattle.tb_history.specs.declared.accounts.Mark.{Mark}
 use Rattle.tb_history.specs.declared.accounts.Release.{Release}
+use Rattle.tb_history.specs.declared.accounts.Offer.{Offer}
+use Rattle.tb_history.specs.declared.accounts.Purchase.{Purchase}
+use Rattle.tb_history.specs.declared.accounts.Retraction.{Retraction}
+use Rattle.tb_history.specs.declared.accounts.Cash.{Cash}
 use Rattle.tb_history.specs.declared.accounts.AddOn.{AddOn}
 
 -- two names, or two CUSIPs, are one
@@ -102,6 +106,33 @@ released_by other = []
 abbrev pub added_by : Message → List AddOn
 added_by (message.AddOn auction holder amount) = record { auction = auction; holder = holder; amount = amount } ∷ []
 added_by other = []
+
+-- money that comes to a participant
+abbrev pub deposited_by : Message → List Cash
+deposited_by (message.Deposit participant cents) = record { participant = participant; cents = cents } ∷ []
+deposited_by other = []
+
+-- and money that goes from it
+abbrev pub withdrawn_by : Message → List Cash
+withdrawn_by (message.Withdraw participant cents) = record { participant = participant; cents = cents } ∷ []
+withdrawn_by other = []
+
+-- an offer of the sender under its number
+abbrev pub offered_by : List ℕ → ℕ → Message → List Offer
+offered_by submitter number (message.Sell cusip to amount price) =
+    record { seller = submitter; number = number; buyer = to; cusip = cusip; amount = amount; price = price } ∷ []
+offered_by submitter number other = []
+
+-- a purchase by the sender
+abbrev pub purchased_by : List ℕ → Message → List Purchase
+purchased_by submitter (message.Buy seller offer) =
+    record { buyer = submitter; seller = seller; offer = offer } ∷ []
+purchased_by submitter other = []
+
+-- the sender's offer, taken back
+abbrev pub retracted_by : List ℕ → Message → List Retraction
+retracted_by submitter (message.Retract offer) = record { seller = submitter; offer = offer } ∷ []
+retracted_by submitter other = []
 
 -- a sender is of the party
 abbrev pub is_of_party : Party → List ℕ → Bool

@@ -11,10 +11,12 @@ use Rattle.tb_history.specs.declared.roster.Enrolment.{Enrolment}
 use Rattle.tb_history.specs.declared.accounts.Transfer.{Transfer}
 use Rattle.tb_history.specs.declared.accounts.Mark.{Mark}
 use Rattle.tb_history.specs.declared.accounts.Release.{Release}
+use Rattle.tb_history.specs.declared.accounts.Offer.{Offer}
 use Rattle.tb_history.specs.declared.accounts.AddOn.{AddOn}
 use Rattle.tb_history.specs.Entries.{is_same, transferred_by, pledged_by, released_by, redeemed_by}
 use Rattle.tb_history.specs.Roster.{enrolments, announcements, redemptions, is_of_bill, is_settled, is_redeemed}
 use Rattle.tb_history.specs.Roster.{add_ons, add_on_of}
+use Rattle.tb_history.specs.Offers.{sales}
 use Rattle.tb_history.specs.LiveBids.{bids, cancels, reports}
 use Rattle.tb_history.specs.Awarded.{Bidding, bidding_of, awarded, par_in_all}
 
@@ -95,12 +97,33 @@ sent_from history participant cusip =
     sum_by (λ (t : Transfer). t.amount.value)
     (filter (λ (t : Transfer). is_same t.from participant && is_same t.cusip.bytes cusip.bytes) (transfers history))
 
+-- the par of the bill that the participant bought
+abbrev pub bought_by : List Entry → List ℕ → Cusip → ℕ
+bought_by history participant cusip =
+    sum_by (λ (o : Offer). o.amount.value)
+    (filter (λ (o : Offer). is_same o.buyer participant && is_same o.cusip.bytes cusip.bytes) (sales history))
+
+-- and the par of its offers that were bought
+abbrev pub sold_by : List Entry → List ℕ → Cusip → ℕ
+sold_by history participant cusip =
+    sum_by (λ (o : Offer). o.amount.value)
+    (filter (λ (o : Offer). is_same o.seller participant && is_same o.cusip.bytes cusip.bytes) (sales history))
+
+-- what came to the participant, by awards, transfers and purchases
+abbrev pub par_to : List Entry → List ℕ → Cusip → ℕ
+par_to history participant cusip =
+    credited_to history participant cusip
+    + (received_by history participant cusip + bought_by history participant cusip)
+
+-- what went from it, by transfers and sales
+abbrev pub par_from : List Entry → List ℕ → Cusip → ℕ
+par_from history participant cusip = sent_from history participant cusip + sold_by history participant cusip
+
 -- what the participant holds of the bill: nothing once it is redeemed
 unfoldable pub held_of : List Entry → List ℕ → Cusip → ℕ
 held_of history participant cusip =
     if is_redeemed (redemptions history) cusip then 0
-    else credited_to history participant cusip
-    + received_by history participant cusip - sent_from history participant cusip
+    else par_to history participant cusip - par_from history participant cusip
 
 -- the message redeems the bill
 abbrev pub redeems : Cusip → Message → Bool

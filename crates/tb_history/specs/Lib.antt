@@ -3,6 +3,8 @@ pub mod Entries
 pub mod Roster
 pub mod LiveBids
 pub mod Awarded
+pub mod Offers
+pub mod Funds
 pub mod Holdings
 pub mod Same
 pub mod Tables
@@ -13,3 +15,4 @@ pub mod Answer
 pub mod Readings
 pub mod Moves
 pub mod SoundBids
+pub mod Trades

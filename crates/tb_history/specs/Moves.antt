@@ -12,10 +12,12 @@ use Rattle.tb_message.specs.declared.message.Message.TheVariants as message
 use Rattle.tb_history.specs.declared.roster.Registration.{Registration}
 use Rattle.tb_history.specs.declared.roster.Enrolment.{Enrolment}
 use Rattle.tb_history.specs.declared.accounts.Mark.{Mark}
+use Rattle.tb_history.specs.declared.accounts.Offer.{Offer}
 use Rattle.tb_history.specs.declared.accounts.AddOn.{AddOn}
 use Rattle.tb_history.specs.Entries.{is_same}
 use Rattle.tb_history.specs.Roster.{registrations, enrolments, announcements, is_registered, announcement_of}
 use Rattle.tb_history.specs.Holdings.{award_in, awarded_add_on}
+use Rattle.tb_history.specs.Offers.{offers, offer_of}
 
 -- numbers of participants by their names, and of bills by their CUSIPs
 pub record Numbering : Type 0 where
@@ -48,6 +50,13 @@ abbrev pub settled_as : Numbering → List Entry → Option Announcement → Opt
 settled_as numbers before None = None
 settled_as numbers before (Some a) = Some (Settled (numbers.security a.cusip.bytes) (credits_of numbers before a))
 
+-- what a purchase of the offer that is found moves: a transfer from its seller to its buyer
+abbrev pub bought_as : Numbering → Option Offer → Option Movement
+bought_as numbers None = None
+bought_as numbers (Some o) =
+    Some (Transferred (numbers.holder o.seller) (numbers.holder o.buyer) (numbers.security o.cusip.bytes)
+    o.amount.value)
+
 -- what a message of a sender under a number moves, on the entries before it
 abbrev pub movement_by : Numbering → List Entry → List ℕ → ℕ → Message → Option Movement
 movement_by numbers before sender number (message.Settle auction) =
@@ -59,6 +68,8 @@ movement_by numbers before sender number (message.Pledge cusip to amount) =
 movement_by numbers before sender number (message.Release holder pledge amount) =
     Some (Released (numbers.holder holder) pledge (numbers.holder sender) amount.value)
 movement_by numbers before sender number (message.Redeem cusip) = Some (Redeemed (numbers.security cusip.bytes))
+movement_by numbers before sender number (message.Buy seller offer) =
+    bought_as numbers (offer_of (offers before) seller offer)
 movement_by numbers before sender number other = None
 
 -- what an entry moves

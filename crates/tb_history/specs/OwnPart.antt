@@ -14,9 +14,14 @@ is_own submitter entry = is_same entry.submitter submitter || is_same entry.subm
 abbrev pub own_part : List ℕ → List Entry → List Entry
 own_part submitter history = filter (is_own submitter) history
 
--- a transfer, a pledge or a release: what is free, and what is left of a pledge, others bring about too
-abbrev pub moves_par : Message → Bool
-moves_par (message.Transfer cusip to amount) = true
-moves_par (message.Pledge cusip to amount) = true
-moves_par (message.Release holder pledge amount) = true
-moves_par other = false
+-- what is free, what is left of a pledge, which offers are open and what a balance is, others bring about too; no such
+-- message is on an auction
+abbrev pub depends_on_others : Message → Bool
+depends_on_others (message.Transfer cusip to amount) = true
+depends_on_others (message.Pledge cusip to amount) = true
+depends_on_others (message.Release holder pledge amount) = true
+depends_on_others (message.Withdraw participant cents) = true
+depends_on_others (message.Sell cusip to amount price) = true
+depends_on_others (message.Buy seller offer) = true
+depends_on_others (message.Retract offer) = true
+depends_on_others other = false

@@ -37,6 +37,7 @@ use Rattle.tb_history.specs.LiveBids.{bids, cancels, is_live, par_of, noncompeti
 use Rattle.tb_history.specs.Awarded.{Bidding, stop_of, sought_in, awarded}
 use Rattle.tb_history.specs.Holdings.{bidding_in, bidders_of, if_awarded, par_added, held_of, pledged_of, free_of}
 use Rattle.tb_history.specs.Holdings.{paid_to}
+use Rattle.tb_history.specs.Funds.{balance_of}
 
 -- a bid as its submitter reads it
 abbrev pub bid_line : List Cancel → Bid → BidLine
@@ -243,4 +244,5 @@ IsReading history caller (query.Bids auction) (reading.Bids lines) =
     lines ≡ bid_lines (bids history) (cancels history) caller auction
 IsReading history caller query.Holdings (reading.Holdings lines) = AreHoldings history caller lines
 IsReading history caller (query.Redemption cusip) (reading.Redemption lines) = IsRedemption history cusip lines
+IsReading history caller query.Funds (reading.Funds cents) = cents.value ≡ balance_of history caller
 IsReading history caller query reading = ⊥

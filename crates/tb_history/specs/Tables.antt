@@ -6,7 +6,7 @@ use Rattle.std.specs.List.{list_any}
 use Rattle.tb_units.specs.declared.day.Day.{Day}
 use Rattle.tb_units.specs.declared.rate.Rate.{Rate}
 use Rattle.tb_units.specs.declared.moment.Moment.{Moment}
-use Rattle.tb_units.specs.Amounts.{dollars_of}
+use Rattle.tb_units.specs.Amounts.{dollars_of, cents_of}
 use Rattle.tb_terms.specs.declared.announcement.Announcement.{Announcement}
 use Rattle.tb_terms.specs.declared.cusip.Cusip.{Cusip}
 use Rattle.tb_terms.specs.declared.refusal.Refusal.TheVariants as refusal
@@ -21,6 +21,7 @@ use Rattle.tb_history.specs.declared.roster.Registration.{Registration}
 use Rattle.tb_history.specs.declared.roster.Enrolment.{Enrolment}
 use Rattle.tb_history.specs.declared.bids.Bid.{Bid}
 use Rattle.tb_history.specs.declared.accounts.Mark.{Mark}
+use Rattle.tb_history.specs.declared.accounts.Offer.{Offer}
 use Rattle.tb_terms.specs.Rows.{Row}
 use Rattle.tb_rules.specs.BidRule.{Standing, bid_rule, position_rule, late, is_no_par, closing_for}
 use Rattle.tb_history.specs.Values.{day_of, first_from}
@@ -30,6 +31,8 @@ use Rattle.tb_history.specs.Roster.{is_registered, enrolment_of, is_under, is_en
 use Rattle.tb_history.specs.Roster.{bill_of, is_published, is_settled, is_redeemed, unsettled_of, add_ons, add_on_of}
 use Rattle.tb_history.specs.LiveBids.{bids, cancels, reports, bid_of, is_cancelled, standing_of}
 use Rattle.tb_history.specs.Holdings.{free_of, open_marks, mark_of, left_of}
+use Rattle.tb_history.specs.Offers.{offers, offer_of, is_closed, open_offers}
+use Rattle.tb_history.specs.Funds.{balance_of}
 
 -- a roster of so many has reached its limit
 abbrev pub full : ℕ → ℕ → Row
@@ -189,6 +192,44 @@ add_on_rows (Some a) known standing moment amount =
     ∷ late moment (c_closing a)
     ∷ []
 
+-- the money that is there is enough
+abbrev pub funds_row : ℕ → ℕ → Row
+funds_row balance cents = (refusal.InsufficientFunds (cents_of balance), nat_lt balance cents)
+
+-- the bill is past its maturity
+abbrev pub matured_rows : Option Announcement → Moment → List Row
+matured_rows None moment = []
+matured_rows (Some a) moment = (refusal.Matured, nat_le (start_of a.maturity.number) moment.seconds) ∷ []
+
+-- sell: as transfer, but for what is free, and how many offers of the sender are open
+abbrev pub sell_rows : Option Announcement → Bool → Bool → Bool → Moment → ℕ → ℕ → List Row
+sell_rows None known self redeemed moment amount open_now = (refusal.UnknownSecurity, true) ∷ []
+sell_rows (Some a) known self redeemed moment amount open_now =
+    (refusal.UnknownParticipant, not known)
+    ∷ (refusal.NotMultiple, is_no_par amount)
+    ∷ (refusal.SelfTransfer, self)
+    ∷ (refusal.AlreadyRedeemed, redeemed)
+    ∷ (refusal.Matured, nat_le (start_of a.maturity.number) moment.seconds)
+    ∷ (refusal.OfferQuota, nat_le 1000 open_now)
+    ∷ []
+
+-- buy: the seller's offer of this number
+abbrev pub buy_rows : List Entry → Option Offer → List ℕ → Moment → List Row
+buy_rows history None sender moment = (refusal.UnknownOffer, true) ∷ []
+buy_rows history (Some o) sender moment =
+    (refusal.NotBuyer, not (is_same o.buyer sender))
+    ∷ (refusal.OfferClosed, is_closed history o.seller o.number)
+    ∷ (refusal.AlreadyRedeemed, is_redeemed (redemptions history) o.cusip)
+    ∷ matured_rows (bill_of (announcements history) o.cusip) moment
+    ++ (refusal.OfferUncovered, nat_lt (free_of history o.seller o.cusip) o.amount.value)
+    ∷ funds_row (balance_of history sender) o.price.value
+    ∷ []
+
+-- retract: the sender's offer of this number, and whether it is bought or retracted
+abbrev pub retract_rows : Option Offer → Bool → List Row
+retract_rows None closed = (refusal.UnknownOffer, true) ∷ []
+retract_rows (Some o) closed = (refusal.OfferClosed, closed) ∷ []
+
 -- the rows of a message of a sender at a moment
 abbrev pub rows_of : List Entry → List ℕ → Moment → Message → List Row
 rows_of history sender moment (message.Register submitter key) = register_rows (registrations history) submitter key
@@ -221,3 +262,16 @@ rows_of history sender moment (message.Redeem cusip) =
 rows_of history sender moment (message.AddOn auction holder amount) =
     add_on_rows (announcement_of (announcements history) auction) (is_registered (registrations history) holder)
     (is_some (add_on_of (add_ons history) auction)) moment amount.value
+rows_of history sender moment (message.Deposit participant cents) =
+    (refusal.UnknownParticipant, not (is_registered (registrations history) participant)) ∷ []
+rows_of history sender moment (message.Withdraw participant cents) =
+    (refusal.UnknownParticipant, not (is_registered (registrations history) participant))
+    ∷ funds_row (balance_of history participant) cents.value
+    ∷ []
+rows_of history sender moment (message.Sell cusip to amount price) =
+    sell_rows (bill_of (announcements history) cusip) (is_registered (registrations history) to) (is_same to sender)
+    (is_redeemed (redemptions history) cusip) moment amount.value (open_offers history sender)
+rows_of history sender moment (message.Buy seller offer) =
+    buy_rows history (offer_of (offers history) seller offer) sender moment
+rows_of history sender moment (message.Retract offer) =
+    retract_rows (offer_of (offers history) sender offer) (is_closed history sender offer)

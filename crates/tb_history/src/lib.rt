@@ -7,6 +7,7 @@ mod accounts;
 mod bids;
 mod conserved;
 mod figures;
+mod funds;
 mod histories;
 mod reading;
 mod readings;
@@ -15,10 +16,11 @@ mod sealed;
 mod sound;
 mod stable;
 
-pub use accounts::{AddOn, Mark, Release, Transfer};
+pub use accounts::{AddOn, Cash, Mark, Offer, Purchase, Release, Retraction, Transfer};
 pub use bids::{Bid, Cancel, Report};
 pub use conserved::{movements_tell_holdings, par_is_conserved};
 pub use figures::{awards_come_close, figures_are_the_circulars};
+pub use funds::{money_is_conserved, purchases_move_both};
 pub use histories::{histories_grow, payment_days_are_first, same_messages_are_equal};
 pub use reading::{Awards, Bids, Holdings, Listing, Reading, Redemption};
 pub use readings::{

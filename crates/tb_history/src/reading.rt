@@ -5,7 +5,7 @@ use crate::readings::{AddOnLine, AwardLine, BidLine, HoldingLine, PaidLine, Resu
 use std::alloc::Global;
 use std::marker::Model;
 use tb_terms::Announcement;
-use tb_units::OutOfMemory;
+use tb_units::{Cents, OutOfMemory};
 
 /// What a query is answered.
 #[derive(Debug, Drop)]
@@ -16,6 +16,7 @@ pub enum Reading {
     Bids(Bids),
     Holdings(Holdings),
     Redemption(Redemption),
+    Funds(Cents),
 }
 
 /// A submitter's bidders with a live bid in an auction, in the order of enrolment, and the add-on, where it is the

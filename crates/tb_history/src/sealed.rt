@@ -11,17 +11,17 @@ ghost use Rattle.tb_history.specs.Roster.{registrations, announcements, announce
 ghost use Rattle.tb_history.specs.LiveBids.{bids, cancels};
 ghost use Rattle.tb_history.specs.Verdict.{verdict_on};
 ghost use Rattle.tb_history.specs.Legal.{IsLegal, running};
-ghost use Rattle.tb_history.specs.OwnPart.{own_part, moves_par};
+ghost use Rattle.tb_history.specs.OwnPart.{own_part, depends_on_others};
 ghost use Rattle.tb_history.specs.Answer.{caller_of, verdict_for, refusal_for, query_refusal};
 ghost use Rattle.tb_history.specs.Readings.{bid_lines};
 
 /// Holds of every legal history, submitter and moment. It does nothing.
 pub fn replies_are_sealed()
-    // The verdict on a message that moves no par is that on the sender's own part of the history. So neither repeats
-    // nor used numbers nor quotas tell of others.
+    // The verdict on a message that doesn't depend on others is that on the sender's own part of the history. So
+    // neither repeats nor used numbers nor quotas tell of others.
     ensures verdicts { (history : List Entry) (submitter : List ℕ) (number : ℕ) (moment : Moment) (message : Message)
         → IsLegal history
-        → moves_par message ≡ false
+        → depends_on_others message ≡ false
         → verdict_on history submitter number moment message
         ≡ verdict_on (own_part submitter history) submitter number moment message }
     // Two histories with one own part give one verdict.
@@ -30,7 +30,7 @@ pub fn replies_are_sealed()
         → IsLegal one
         → IsLegal other
         → own_part submitter one ≡ own_part submitter other
-        → moves_par message ≡ false
+        → depends_on_others message ≡ false
         → verdict_on one submitter number moment message ≡ verdict_on other submitter number moment message }
     // A key is the same caller's on every own part.
     ensures keys { (history : List Entry) (name submitter : List ℕ) (key : Key)
@@ -41,7 +41,7 @@ pub fn replies_are_sealed()
     ensures by_key { (history : List Entry) (name submitter : List ℕ) (key : Key) (number : ℕ) (moment other : Moment)
         (message : Message)
         → IsLegal history
-        → moves_par message ≡ false
+        → depends_on_others message ≡ false
         → caller_of (registrations history) name key ≡ Some submitter
         → running history moment ≡ running (own_part submitter history) other
         → verdict_for history (caller_of (registrations history) name key) number moment message

@@ -228,6 +228,7 @@ announced-of history caller auction (query.Awards named) other whose is = absurd
 announced-of history caller auction (query.Terms named) read whose is = absurd whose
 announced-of history caller auction (query.Bids named) read whose is = absurd whose
 announced-of history caller auction query.Holdings read whose is = absurd whose
+announced-of history caller auction query.Funds read whose is = absurd whose
 announced-of history caller auction (query.Redemption cusip) read whose is = absurd whose
 
 -- a reading of it, where the query isn't refused

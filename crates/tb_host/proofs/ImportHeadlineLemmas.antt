@@ -10,8 +10,8 @@ use Rattle.tb_message.specs.declared.message.Message.TheVariants as message
 use Rattle.tb_message.specs.declared.verdict.Verdict.{Verdict}
 use Rattle.tb_core.specs.House.{IsBid}
 use Rattle.tb_history.specs.Legal.{IsLegal, running}
-use Rattle.tb_history.specs.OwnPart.{moves_par, own_part}
-use Rattle.tb_desk.specs.Turn.{AreBids, Asked, MoveNoPar, group, verdicts, verdicts_on}
+use Rattle.tb_history.specs.OwnPart.{depends_on_others, own_part}
+use Rattle.tb_desk.specs.Turn.{AreBids, Asked, DependOnNoOthers, group, verdicts, verdicts_on}
 use Rattle.tb_desk.proofs.JudgeLemmas.{sealed-all}
 use Rattle.tb_host.specs.DiskRun.{Stays}
 use Rattle.tb_host.specs.Headline.{Begins}
@@ -24,13 +24,13 @@ use Rattle.tb_host.proofs.HeadlineLemmas.{AddsUp-legal, bids-in-time, kept-told}
 use Rattle.tb_host.proofs.ImportLemmas.{import-grown}
 use Rattle.tb_host.proofs.TurnLemmas.{at-grown}
 
--- a bid moves no par
-bid-still : (m : Message) → IsBid m → moves_par m ≡ false
+-- a bid doesn't depend on others
+bid-still : (m : Message) → IsBid m → depends_on_others m ≡ false
 bid-still (message.Bid auction bidder rate amount) bid = refl
 bid-still other bid = absurd bid
 
 -- so bids move none
-bids-still : (rows : List SentRow) → AreBids rows → MoveNoPar rows
+bids-still : (rows : List SentRow) → AreBids rows → DependOnNoOthers rows
 bids-still rows bids = λ k d within. bid-still (get_or rows k d).1 (bids k d within)
 
 -- A run of rows was answered on its history, which begins with the first and led to this one; with that the last

@@ -10,7 +10,7 @@ use Rattle.tb_message.specs.declared.query.Request.{Request}
 use Rattle.tb_message.specs.declared.query.Request.TheVariants as request
 use Rattle.tb_history.specs.Answer.{asks_on, query_refusal}
 use Rattle.tb_history.specs.Legal.{IsLegal, running}
-use Rattle.tb_history.specs.OwnPart.{moves_par, own_part}
+use Rattle.tb_history.specs.OwnPart.{depends_on_others, own_part}
 use Rattle.tb_history.specs.Roster.{is_published}
 use Rattle.tb_history.specs.Verdict.{verdict_on}
 use Rattle.tb_history.proofs.QueryLemmas.{query_refusal-own}
@@ -19,10 +19,10 @@ use Rattle.tb_core.proofs.AnswerLemmas.{IsReading-own}
 use Rattle.tb_host.specs.Replies.{IsSaid, IsSealed, IsTold}
 use Rattle.tb_host.specs.Turns.{told}
 
--- the verdict on a message that moves no par
+-- the verdict on a message that doesn't depend on others
 pub verdict-own : (history : List Entry) (caller : List ℕ) (moment other : Moment) (number : ℕ) (message : Message)
     → IsLegal history
-    → moves_par message ≡ false
+    → depends_on_others message ≡ false
     → running history moment ≡ running (own_part caller history) other
     → verdict_on history caller number (running history moment) message
     ≡ verdict_on (own_part caller history) caller number (running (own_part caller history) other) message

@@ -18,7 +18,7 @@ use Rattle.tb_history.specs.declared.roster.Registration.{Registration}
 use Rattle.tb_history.specs.Answer.{asks_on}
 use Rattle.tb_history.specs.Holdings.{bidding_in, held_of, issued}
 use Rattle.tb_history.specs.Legal.{IsLegal, IsOther, running}
-use Rattle.tb_history.specs.OwnPart.{own_part, moves_par}
+use Rattle.tb_history.specs.OwnPart.{own_part, depends_on_others}
 use Rattle.tb_history.specs.Readings.{IsReading}
 use Rattle.tb_history.specs.Roster.{registrations, announcements, redemptions, announcement_of, is_published, is_redeemed}
 use Rattle.tb_desk.specs.Stands.{StandsForHistory}
@@ -124,10 +124,10 @@ TellsByTheRule fixed last calls =
 
 -- ---- until publication replies depend only on the submitter's own messages, the operator's and the moments
 
--- what is asked shows nothing of others: a message that moves no par, a query on an auction that isn't published, and
--- what is no request
+-- what is asked shows nothing of others: a message that doesn't depend on others, a query on an auction that isn't
+-- published, and what is no request
 abbrev pub AsksSealed : List Entry → Ask → Type 0
-AsksSealed history (ask.Message number message) = moves_par message ≡ false
+AsksSealed history (ask.Message number message) = depends_on_others message ≡ false
 AsksSealed history (ask.Query query) =
     (auction : List ℕ) × (asks_on auction query ≡ true) × (is_published history auction ≡ false)
 AsksSealed history ask.BadJson = Unit {0}

@@ -33,7 +33,7 @@ use Rattle.tb_message.specs.declared.verdict.Verdict.TheVariants as verdict
 use Rattle.tb_message.specs.Requests.{AnswerOf, FaultOf}
 use Rattle.tb_history.specs.Answer.{asks_on, query_refusal}
 use Rattle.tb_history.specs.Legal.{running}
-use Rattle.tb_history.specs.OwnPart.{moves_par}
+use Rattle.tb_history.specs.OwnPart.{depends_on_others}
 use Rattle.tb_history.specs.Readings.{IsReading}
 use Rattle.tb_history.specs.Roster.{is_published}
 use Rattle.tb_history.specs.Verdict.{verdict_on}
@@ -103,10 +103,10 @@ IsAnswered old None moment json reply new = (reply ≡ refused refusal.UnknownKe
 IsAnswered old (Some caller) moment json reply new =
     (asked : Result Request Refusal) × Asks json asked × IsReply old caller moment asked reply new
 
--- the reply shows nothing of others: to a message that moves no par, to a query on an auction that isn't published,
--- and to a text that is no request
+-- the reply shows nothing of others: to a message that doesn't depend on others, to a query on an auction that isn't
+-- published, and to a text that is no request
 abbrev pub IsSealed : List Entry → Result Request Refusal → Type 0
-IsSealed history (Ok (request.Message number message)) = moves_par message ≡ false
+IsSealed history (Ok (request.Message number message)) = depends_on_others message ≡ false
 IsSealed history (Ok (request.Query query)) =
     (auction : List ℕ) × (asks_on auction query ≡ true) × (is_published history auction ≡ false)
 IsSealed history (Err why) = Unit {0}

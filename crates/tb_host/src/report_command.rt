@@ -113,8 +113,10 @@ fn printed(alloc: Global, reading: &Reading, csv: bool) -> Result<Vec<u8>, OutOf
     match reading {
         Reading::Awards(awards) => export_awards(alloc, awards),
         Reading::Holdings(holdings) => export_holdings(alloc, holdings),
-        Reading::Terms(_) | Reading::Results(_) | Reading::Bids(_) | Reading::Redemption(_) => {
-            text(alloc, reading)
-        }
+        Reading::Terms(_)
+        | Reading::Results(_)
+        | Reading::Bids(_)
+        | Reading::Redemption(_)
+        | Reading::Funds(_) => text(alloc, reading),
     }
 }

@@ -6,6 +6,7 @@ ghost use Rattle.tb_holdings.specs.Marks.{new_mark};
 ghost use Rattle.tb_movements.specs.Movements.{Transferred, Pledged, Released, Redeemed};
 ghost use Rattle.tb_history.specs.Entries.{is_same};
 ghost use Rattle.tb_history.specs.Moves.{movement_by};
+ghost use Rattle.tb_history.specs.Trades.{is_purchase};
 ghost use Rattle.tb_tables.specs.Kinds.{settles};
 ghost use Rattle.tb_tables.specs.Auctions.{announced_in};
 ghost use Rattle.tb_ledger.specs.Accounting.{numbers_in, IsReady, TellsNext, TellsSame};
@@ -113,7 +114,8 @@ pub fn find_pledge(
     accounts.mark(holder_number(submitters, name), number)
 }
 
-fn enter_transfer(accounts: &mut Accounts, from: u32, to: u32, security: u32, par: Dollars)
+/// Moves par from one participant to another: what a transfer says, or a purchase.
+pub fn enter_transfer(accounts: &mut Accounts, from: u32, to: u32, security: u32, par: Dollars)
     requires room { 0 < accounts.old.spare_accounts }
     requires ready { IsReady (Some (Transferred from to security par.value)) accounts.old }
     ensures told { TellsNext (Some (Transferred from to security par.value)) accounts.old accounts.new }
@@ -155,8 +157,8 @@ fn enter_redemption(accounts: &mut Accounts, security: u32)
     let _ = redeem(accounts, security);
 }
 
-/// Moves what a message of a sender under its number moves, unless it settles an auction. None that moves par is
-/// refused.
+/// Moves what a message of a sender under its number moves, unless it settles an auction or buys an offer. None that
+/// moves par is refused.
 pub fn account(
     accounts: &mut Accounts,
     submitters: &Submitters,
@@ -166,6 +168,7 @@ pub fn account(
     message: &Message,
 )
     requires plain { settles message.now ≡ false }
+    requires unbought { is_purchase message.now ≡ false }
     requires submitters { length submitters.now.list < 2 ^ 32 }
     requires auctions { length auctions.now.list < 2 ^ 32 }
     requires accounts { 0 < accounts.old.spare_accounts }
@@ -204,7 +207,7 @@ pub fn account(
             let security = bill_number(auctions, cusip);
             enter_redemption(accounts, security);
         }
-        // These move nothing, and the caller rules a settlement out.
+        // These move nothing, and the caller rules a settlement and a purchase out.
         Message::Register { .. }
         | Message::Enrol { .. }
         | Message::Holiday { .. }
@@ -214,6 +217,11 @@ pub fn account(
         | Message::Position { .. }
         | Message::Publish { .. }
         | Message::Settle { .. }
-        | Message::AddOn { .. } => {}
+        | Message::AddOn { .. }
+        | Message::Deposit { .. }
+        | Message::Withdraw { .. }
+        | Message::Sell { .. }
+        | Message::Buy { .. }
+        | Message::Retract { .. } => {}
     }
 }

@@ -8,7 +8,8 @@ mod scratch;
 mod settling;
 
 pub use accounts::{
-    account, bill_number, find_pledge, free_par, holder_number, open_pledges, reserve_accounts,
+    account, bill_number, enter_transfer, find_pledge, free_par, holder_number, open_pledges,
+    reserve_accounts,
 };
 pub use crediting::credit_awards;
 pub use positions::positions_in;

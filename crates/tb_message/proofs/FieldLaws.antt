@@ -13,7 +13,7 @@ use Rattle.std.proofs.lemmas.Nat.{be_bytes_2, be_bytes_4, be_bytes_8, from_be_by
 use Rattle.std.proofs.lemmas.Nat.{from_be_bytes-to_be_bytes_4, from_be_bytes-to_be_bytes_8}
 use Rattle.tb_units.proofs.ByteLemmas.{AreBytes, take-bytes, drop-bytes, rest-bytes}
 use Rattle.tb_message.specs.declared.version.Version.TheVariants.{First, Second}
-use Rattle.tb_message.specs.Forms.{Form, name, cusip, amount, number, position, rate, day}
+use Rattle.tb_message.specs.Forms.{Form, name, cusip, amount, money, number, position, rate, day}
 use Rattle.tb_message.specs.Forms.{minute, moment, Part, text, whole, signed, is_of}
 use Rattle.tb_message.specs.Spelling.{spelled}
 use Rattle.tb_message.specs.Reading.{front_at, whole_at, field_at, part_at, ranged}
@@ -162,6 +162,7 @@ field_takes name [] x fits e = absurd cc
 field_takes name (size ∷ bytes) x fits e = name_takes size bytes x fits e
 field_takes cusip bytes x fits e = text_takes 9 (spelled cusip) bytes x (λ t. refl) fits e
 field_takes amount bytes x fits e = whole_takes w64 (spelled amount) bytes x wide64 (λ n. refl) fits e
+field_takes money bytes x fits e = whole_takes w64 (spelled money) bytes x wide64 (λ n. refl) fits e
 field_takes number bytes x fits e = whole_takes w64 (spelled number) bytes x wide64 (λ n. refl) fits e
 field_takes position bytes x fits e = position_takes bytes x fits e
 field_takes rate bytes x fits e = whole_takes w32 (spelled rate) bytes x wide32 (λ n. refl) fits e
@@ -206,6 +207,9 @@ field_again cusip (text t) rest fits =
     rw (front_again 9 t rest nine) refl
 field_again amount (whole n) rest fits =
     let most : n ≤ 10 ^ 12 = grind (arith, nat_tests) in
+    whole_again w64 n rest wide64 (from_be_bytes-to_be_bytes_8 n (omega arith))
+field_again money (whole n) rest fits =
+    let most : n ≤ 10 ^ 14 = grind (arith, nat_tests) in
     whole_again w64 n rest wide64 (from_be_bytes-to_be_bytes_8 n (omega arith))
 field_again number (whole n) rest fits =
     let most : n ≤ 10 ^ 15 = grind (arith, nat_tests) in

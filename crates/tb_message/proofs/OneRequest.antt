@@ -22,6 +22,7 @@ queries (query.Results a) (query.Results b) k p = cc
 queries (query.Awards a) (query.Awards b) k p = cc
 queries (query.Bids a) (query.Bids b) k p = cc
 queries query.Holdings query.Holdings k p = refl
+queries query.Funds query.Funds k p = refl
 queries (query.Redemption a) (query.Redemption b) k p = let i = same_cusip a b cc in cc
 queries one other k p = cc
 

@@ -16,7 +16,7 @@ use Rattle.tb_message.specs.declared.version.Version.{Version}
 use Rattle.tb_message.specs.declared.version.Version.TheVariants.{First, Second}
 use Rattle.tb_message.specs.Kinds.{kinds, tag_of, kind_of_tag, forms_of}
 use Rattle.tb_message.specs.Messages.{kind_of, parts_of}
-use Rattle.tb_message.specs.Forms.{Form, name, cusip, amount, number, position, rate, day}
+use Rattle.tb_message.specs.Forms.{Form, name, cusip, amount, money, number, position, rate, day}
 use Rattle.tb_message.specs.Forms.{minute, moment, Part, text, whole, signed, is_of}
 use Rattle.tb_message.specs.Spelling.{spelled, spelled_all, AreOf, heads_in, head_of, IsInRange, spelling, spelling_in, spellings, spellings_in, IsNoRecordIn}
 use Rattle.tb_message.specs.Reading.{part_at, parts_at, message_at, tagged_at, entry_at}
@@ -71,7 +71,7 @@ parts_again (form ∷ forms) (part ∷ parts) rest fits =
 -- ---- tags
 
 -- a kind's tag is of that kind
-kind_of_tag-tag_of : (kind : Kind) → kind_of_tag (tag_of kind) ≡ Some kind
+pub kind_of_tag-tag_of : (kind : Kind) → kind_of_tag (tag_of kind) ≡ Some kind
 kind_of_tag-tag_of kind.Register = refl
 kind_of_tag-tag_of kind.Enrol = refl
 kind_of_tag-tag_of kind.Holiday = refl
@@ -87,6 +87,11 @@ kind_of_tag-tag_of kind.Pledge = refl
 kind_of_tag-tag_of kind.Release = refl
 kind_of_tag-tag_of kind.Redeem = refl
 kind_of_tag-tag_of kind.AddOn = refl
+kind_of_tag-tag_of kind.Deposit = refl
+kind_of_tag-tag_of kind.Withdraw = refl
+kind_of_tag-tag_of kind.Sell = refl
+kind_of_tag-tag_of kind.Buy = refl
+kind_of_tag-tag_of kind.Retract = refl
 
 -- two kinds of one tag are one
 pub tag_of-one : (one other : Kind) → tag_of one ≡ tag_of other → one ≡ other
@@ -279,6 +284,7 @@ unfolding spelled
 spelled-few name (text t) fits = omega (arith, is_name-length t fits)
 spelled-few cusip (text t) fits = let nine : length t ≡ 9 = grind (arith, nat_tests) in omega (arith, nine)
 spelled-few amount (whole n) fits = lit≤ tt
+spelled-few money (whole n) fits = lit≤ tt
 spelled-few number (whole n) fits = lit≤ tt
 spelled-few position (signed z) fits = lit≤ tt
 spelled-few rate (whole n) fits = lit≤ tt

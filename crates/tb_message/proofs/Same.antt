@@ -1,6 +1,6 @@
 -- Entries with the same values are the same entry.
 use Rattle.std.proofs.Common.{◌≡◌, Some, None, ap}
-use Rattle.tb_units.specs.Same.{same_dollars, same_rate, same_day, same_moment}
+use Rattle.tb_units.specs.Same.{same_dollars, same_cents, same_rate, same_day, same_moment}
 use Rattle.tb_terms.specs.declared.announcement.Announcement.{Announcement}
 use Rattle.tb_terms.specs.Same.{same_cusip, AgreeInAll, same_announcement}
 use Rattle.tb_message.specs.declared.message.Message.{Message}
@@ -54,6 +54,12 @@ messages (message.Pledge a b x) (message.Pledge c d y) k p = let i = same_cusip 
 messages (message.Release a b x) (message.Release c d y) k p = let j = same_dollars x y cc in cc
 messages (message.Redeem a) (message.Redeem b) k p = let i = same_cusip a b cc in cc
 messages (message.AddOn a b x) (message.AddOn c d y) k p = let j = same_dollars x y cc in cc
+messages (message.Deposit a x) (message.Deposit b y) k p = let j = same_cents x y cc in cc
+messages (message.Withdraw a x) (message.Withdraw b y) k p = let j = same_cents x y cc in cc
+messages (message.Sell a b x v) (message.Sell c d y w) k p = let i = same_cusip a c cc in
+    let j = same_dollars x y cc in let l = same_cents v w cc in cc
+messages (message.Buy a b) (message.Buy c d) k p = cc
+messages (message.Retract a) (message.Retract b) k p = cc
 messages (message.Bid a b (Some r) x) other k p = cc
 messages (message.Bid a b None x) other k p = cc
 messages one (message.Bid c d (Some s) y) k p = cc

@@ -10,6 +10,7 @@ pub data Form : Type 0 where
   name : Form
   cusip : Form
   amount : Form
+  money : Form
   number : Form
   position : Form
   rate : Form
@@ -33,6 +34,7 @@ abbrev pub is_of : Form → Part → Bool
 is_of name (text t) = is_name t
 is_of cusip (text t) = length t == 9
 is_of amount (whole n) = nat_le n (10 ^ 12)
+is_of money (whole n) = nat_le 1 n && nat_le n (10 ^ 14)
 is_of number (whole n) = nat_le 1 n && nat_le n (10 ^ 15)
 is_of position (signed z) = nat_le (unsigned_abs z) (10 ^ 12)
 is_of rate (whole n) = nat_le n 199999

@@ -5,10 +5,10 @@ use Rattle.tb_terms.specs.declared.refusal.Field.{Field}
 use Rattle.tb_terms.specs.declared.refusal.Field.TheVariants.{Submitter, Key, Bidder, Day, Auction, Cusip, Offering}
 use Rattle.tb_terms.specs.declared.refusal.Field.TheVariants.{Minimum, Ceiling, Floor, Threshold, Date, NcClose}
 use Rattle.tb_terms.specs.declared.refusal.Field.TheVariants.{CClose, Issue, Maturity, Rate, Amount, Bid, Position}
-use Rattle.tb_terms.specs.declared.refusal.Field.TheVariants.{To, Holder, Pledge}
+use Rattle.tb_terms.specs.declared.refusal.Field.TheVariants.{To, Holder, Pledge, Participant, Cents, Seller, Offer}
 use Rattle.tb_message.specs.declared.kind.Kind.{Kind}
 use Rattle.tb_message.specs.declared.kind.Kind.TheVariants as kind
-use Rattle.tb_message.specs.Forms.{Form, name, cusip, amount, number, position, rate, day, minute}
+use Rattle.tb_message.specs.Forms.{Form, name, cusip, amount, money, number, position, rate, day, minute}
 
 -- who may send a message or ask a query
 pub data Party : Type 0 where
@@ -41,6 +41,11 @@ row_of kind.Pledge = (12, codes "pledge", submitter, (Cusip, cusip) ∷ (To, nam
 row_of kind.Release = (13, codes "release", submitter, (Holder, name) ∷ (Pledge, number) ∷ (Amount, amount) ∷ [])
 row_of kind.Redeem = (14, codes "redeem", operator, (Cusip, cusip) ∷ [])
 row_of kind.AddOn = (15, codes "addon", operator, (Auction, name) ∷ (Holder, name) ∷ (Amount, amount) ∷ [])
+row_of kind.Deposit = (16, codes "deposit", operator, (Participant, name) ∷ (Cents, money) ∷ [])
+row_of kind.Withdraw = (17, codes "withdraw", operator, (Participant, name) ∷ (Cents, money) ∷ [])
+row_of kind.Sell = (18, codes "sell", submitter, (Cusip, cusip) ∷ (To, name) ∷ (Amount, amount) ∷ (Cents, money) ∷ [])
+row_of kind.Buy = (19, codes "buy", submitter, (Seller, name) ∷ (Offer, number) ∷ [])
+row_of kind.Retract = (20, codes "retract", submitter, (Offer, number) ∷ [])
 
 abbrev pub tag_of : Kind → ℕ
 tag_of kind = (row_of kind).0
@@ -61,7 +66,7 @@ abbrev pub kinds : List Kind
 kinds =
     kind.Register ∷ kind.Enrol ∷ kind.Holiday ∷ kind.Announce ∷ kind.Bid ∷ kind.Noncompetitive ∷ kind.Cancel
     ∷ kind.Position ∷ kind.Publish ∷ kind.Settle ∷ kind.Transfer ∷ kind.Pledge ∷ kind.Release ∷ kind.Redeem
-    ∷ kind.AddOn ∷ []
+    ∷ kind.AddOn ∷ kind.Deposit ∷ kind.Withdraw ∷ kind.Sell ∷ kind.Buy ∷ kind.Retract ∷ []
 
 -- the kind of a tag; no other number is one
 abbrev pub kind_of_tag : ℕ → Option Kind

@@ -22,6 +22,11 @@ kind_of (message.Pledge cusip to amount) = kind.Pledge
 kind_of (message.Release holder pledge amount) = kind.Release
 kind_of (message.Redeem cusip) = kind.Redeem
 kind_of (message.AddOn auction holder amount) = kind.AddOn
+kind_of (message.Deposit participant cents) = kind.Deposit
+kind_of (message.Withdraw participant cents) = kind.Withdraw
+kind_of (message.Sell cusip to amount price) = kind.Sell
+kind_of (message.Buy seller offer) = kind.Buy
+kind_of (message.Retract offer) = kind.Retract
 
 -- the values of the members in order
 abbrev pub parts_of : Message → List Part
@@ -44,3 +49,8 @@ parts_of (message.Pledge cusip to amount) = text cusip.bytes ∷ text to ∷ who
 parts_of (message.Release holder pledge amount) = text holder ∷ whole pledge ∷ whole amount.value ∷ []
 parts_of (message.Redeem cusip) = text cusip.bytes ∷ []
 parts_of (message.AddOn auction holder amount) = text auction ∷ text holder ∷ whole amount.value ∷ []
+parts_of (message.Deposit participant cents) = text participant ∷ whole cents.value ∷ []
+parts_of (message.Withdraw participant cents) = text participant ∷ whole cents.value ∷ []
+parts_of (message.Sell cusip to amount price) = text cusip.bytes ∷ text to ∷ whole amount.value ∷ whole price.value ∷ []
+parts_of (message.Buy seller offer) = text seller ∷ whole offer ∷ []
+parts_of (message.Retract offer) = whole offer ∷ []

@@ -18,6 +18,7 @@ query_row_of kind.Awards = (codes "awards", submitter, (Auction, name) ∷ [])
 query_row_of kind.Bids = (codes "bids", submitter, (Auction, name) ∷ [])
 query_row_of kind.Holdings = (codes "holdings", submitter, [])
 query_row_of kind.Redemption = (codes "redemption", operator, (Cusip, cusip) ∷ [])
+query_row_of kind.Funds = (codes "funds", submitter, [])
 
 abbrev pub query_text : QueryKind → List ℕ
 query_text kind = (query_row_of kind).0
@@ -29,7 +30,8 @@ abbrev pub query_members_of : QueryKind → List (Field × Form)
 query_members_of kind = (query_row_of kind).2
 
 abbrev pub query_kinds : List QueryKind
-query_kinds = kind.Terms ∷ kind.Results ∷ kind.Awards ∷ kind.Bids ∷ kind.Holdings ∷ kind.Redemption ∷ []
+query_kinds = kind.Terms ∷ kind.Results ∷ kind.Awards ∷ kind.Bids ∷ kind.Holdings ∷ kind.Redemption
+    ∷ kind.Funds ∷ []
 
 -- the kind of a name; no other text is one
 unfoldable pub query_of_text : List ℕ → Option QueryKind
@@ -42,6 +44,7 @@ query_kind_of (query.Awards auction) = kind.Awards
 query_kind_of (query.Bids auction) = kind.Bids
 query_kind_of query.Holdings = kind.Holdings
 query_kind_of (query.Redemption bill) = kind.Redemption
+query_kind_of query.Funds = kind.Funds
 
 -- the values of the members in order
 abbrev pub query_parts_of : Query → List Part
@@ -51,3 +54,4 @@ query_parts_of (query.Awards auction) = text auction ∷ []
 query_parts_of (query.Bids auction) = text auction ∷ []
 query_parts_of query.Holdings = []
 query_parts_of (query.Redemption bill) = text bill.bytes ∷ []
+query_parts_of query.Funds = []

@@ -5,7 +5,7 @@ use Rattle.std.specs.Option.{option_and_then, option_map}
 use Rattle.std.specs.Int.{Width, w16, w32, w64, byte_len, from_be_bytes, cast_signed}
 use Rattle.tb_message.specs.declared.kind.Kind.{Kind}
 use Rattle.tb_message.specs.declared.version.Version.{Version}
-use Rattle.tb_message.specs.Forms.{Form, name, cusip, amount, number, position, rate, day}
+use Rattle.tb_message.specs.Forms.{Form, name, cusip, amount, money, number, position, rate, day}
 use Rattle.tb_message.specs.Forms.{minute, moment, width_of, Part, text, whole, signed, is_of}
 use Rattle.tb_message.specs.Kinds.{kind_of_tag, forms_of}
 use Rattle.tb_message.specs.Spelling.{heads_in}
@@ -26,6 +26,7 @@ abbrev pub field_at : Form → List ℕ → Option (Part × List ℕ)
 field_at name bytes = text_at bytes
 field_at cusip bytes = option_map (λ front. (text front.0, front.1)) (front_at 9 bytes)
 field_at amount bytes = whole_at w64 bytes
+field_at money bytes = whole_at w64 bytes
 field_at number bytes = whole_at w64 bytes
 field_at position bytes =
     option_map (λ front. (signed (cast_signed w64 (from_be_bytes w64 front.0)), front.1)) (front_at 8 bytes)

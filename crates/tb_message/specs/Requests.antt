@@ -16,7 +16,7 @@ use Rattle.tb_message.specs.declared.query.Request.{Request}
 use Rattle.tb_message.specs.declared.query.Request.TheVariants as request
 use Rattle.tb_message.specs.declared.query.ReadFault.{ReadFault}
 use Rattle.tb_message.specs.declared.query.ReadFault.TheVariants as fault
-use Rattle.tb_message.specs.Forms.{Form, name, cusip, amount, number, position, rate, day, minute}
+use Rattle.tb_message.specs.Forms.{Form, name, cusip, amount, money, number, position, rate, day, minute}
 use Rattle.tb_message.specs.Forms.{moment, Part, text, whole, signed, in_range}
 use Rattle.tb_message.specs.Kinds.{kind_of_text, members_of}
 use Rattle.tb_message.specs.Queries.{query_of_text, query_members_of, query_kind_of, query_parts_of}
@@ -55,6 +55,7 @@ abbrev pub said_in : Form → Option Data → Option Part
 said_in name value = option_map text (text_in value)
 said_in cusip value = option_map text (text_in value)
 said_in amount value = option_map whole (whole_in value)
+said_in money value = option_map whole (whole_in value)
 said_in number value = option_map whole (whole_in value)
 said_in position value = option_map signed (signed_in value)
 said_in rate value = option_map whole (option_and_then steps_of (text_in value))

@@ -6,7 +6,7 @@ use Rattle.tb_message.specs.declared.message.Entry.{Entry}
 use Rattle.tb_message.specs.declared.message.Message.{Message}
 use Rattle.tb_message.specs.declared.version.Version.{Version}
 use Rattle.tb_message.specs.declared.version.Version.TheVariants.{First, Second}
-use Rattle.tb_message.specs.Forms.{Form, name, cusip, amount, number, position, rate, day}
+use Rattle.tb_message.specs.Forms.{Form, name, cusip, amount, money, number, position, rate, day}
 use Rattle.tb_message.specs.Forms.{minute, moment, width_of, Part, text, whole, signed, is_of}
 use Rattle.tb_message.specs.Kinds.{tag_of, forms_of}
 use Rattle.tb_message.specs.Messages.{kind_of, parts_of}
@@ -17,6 +17,7 @@ unfoldable pub spelled : Form → Part → List ℕ
 spelled name (text t) = length t ∷ t
 spelled cusip (text t) = t
 spelled amount (whole n) = to_be_bytes w64 n
+spelled money (whole n) = to_be_bytes w64 n
 spelled number (whole n) = to_be_bytes w64 n
 spelled position (signed z) = to_be_bytes w64 (cast_unsigned w64 z)
 spelled rate (whole n) = to_be_bytes w32 n

@@ -2,6 +2,7 @@
 use Rattle.std.specs.Prelude.{ℕ, List, [], ◌∷◌, ◌++◌, codes}
 use Rattle.std.specs.Fmt.{decimal}
 use Rattle.tb_units.specs.Bytes.{blank}
+use Rattle.tb_units.specs.Decimals.{cents_text}
 use Rattle.tb_terms.specs.Texts.{day_text}
 use Rattle.tb_terms.specs.Refusals.{number_of, name_of, member_of}
 use Rattle.tb_terms.specs.declared.refusal.Refusal.{Refusal}
@@ -25,6 +26,7 @@ values_of (refusal.InsufficientFree free) = decimal free.value ∷ []
 values_of (refusal.Unsettled auction) = auction ∷ []
 values_of (refusal.MoreThanPledged left) = decimal left.value ∷ []
 values_of (refusal.NotDue payment) = day_text payment.number ∷ []
+values_of (refusal.InsufficientFunds balance) = cents_text balance.value ∷ []
 values_of other = []
 
 -- a repeat is told as the message was

@@ -8,7 +8,7 @@ ghost use Rattle.tb_message.specs.Reading.{front_at, part_at, whole_at};
 
 use crate::version::Version;
 use tb_terms::Cusip;
-use tb_units::{Day, Dollars, Ident, Moment, Rate};
+use tb_units::{Cents, Day, Dollars, Ident, Moment, Rate};
 
 /// What is left of the bytes that are read.
 #[derive(Drop)]
@@ -54,6 +54,19 @@ impl<'a> Fields<'a> {
             return None;
         }
         Some(Dollars {
+            value: value as u128,
+        })
+    }
+
+    #[tactic(auto, unfolding(crate::specs::Reading::part_at), using(std::proofs::lemmas::Bool::Decides::nat_tests))]
+    pub(crate) fn money(&mut self) -> Option<Cents>
+        ensures { option_map (λ x. (whole x.value, self.new.rest.now)) result ≡ part_at form.money self.old.rest.now }
+    {
+        let value = self.word64()?;
+        if value < 1 || value > 100_000_000_000_000 {
+            return None;
+        }
+        Some(Cents {
             value: value as u128,
         })
     }

@@ -20,6 +20,11 @@ pub enum Kind {
     Release,
     Redeem,
     AddOn,
+    Deposit,
+    Withdraw,
+    Sell,
+    Buy,
+    Retract,
 }
 
 impl Kind {
@@ -43,6 +48,11 @@ impl Kind {
             Kind::Release => 13,
             Kind::Redeem => 14,
             Kind::AddOn => 15,
+            Kind::Deposit => 16,
+            Kind::Withdraw => 17,
+            Kind::Sell => 18,
+            Kind::Buy => 19,
+            Kind::Retract => 20,
         }
     }
 
@@ -66,6 +76,11 @@ impl Kind {
             13 => Some(Kind::Release),
             14 => Some(Kind::Redeem),
             15 => Some(Kind::AddOn),
+            16 => Some(Kind::Deposit),
+            17 => Some(Kind::Withdraw),
+            18 => Some(Kind::Sell),
+            19 => Some(Kind::Buy),
+            20 => Some(Kind::Retract),
             _ => None,
         }
     }

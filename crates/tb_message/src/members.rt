@@ -10,7 +10,7 @@ ghost use Rattle.tb_message.specs.Requests.{part_in, result_map, text_in, whole_
 
 use serde_json::Value;
 use tb_terms::{Cusip, Field, read_day, read_minute};
-use tb_units::{Day, Dollars, Ident, Rate};
+use tb_units::{Cents, Day, Dollars, Ident, Rate};
 
 pub fn text_of(object: &Value, field: Field) -> Option<&str>
     ensures { option_map (λ s. s.now) result ≡ text_in (get (member_of field) (view object.now)) }
@@ -36,6 +36,18 @@ pub fn amount(object: &Value, field: Field) -> Result<Dollars, Field>
 {
     match whole_of(object, field) {
         Some(value) if value <= Dollars::MOST_READ => Ok(Dollars {
+            value: value as u128,
+        }),
+        _ => Err(field),
+    }
+}
+
+#[tactic(auto, unfolding(crate::specs::Requests::part_in), using(std::proofs::lemmas::Bool::Decides::nat_tests))]
+pub fn money(object: &Value, field: Field) -> Result<Cents, Field>
+    ensures { result_map (λ v. whole v.value) result ≡ part_in (view object.now) (field, form.money) }
+{
+    match whole_of(object, field) {
+        Some(value) if 1 <= value && value <= 100_000_000_000_000 => Ok(Cents {
             value: value as u128,
         }),
         _ => Err(field),

@@ -4,10 +4,10 @@ ghost use Rattle.tb_message.specs.Messages.{kind_of};
 
 use crate::kind::Kind;
 use tb_terms::{Announcement, Cusip};
-use tb_units::{Day, Dollars, Ident, Moment, Rate};
+use tb_units::{Cents, Day, Dollars, Ident, Moment, Rate};
 
 /// What a submitter or the operator asks to be entered. The operator registers, enrols, announces, publishes, settles
-/// and redeems; submitters send the rest.
+/// and redeems, enters holidays and add-ons, and takes money in and pays it out; submitters send the rest.
 #[derive(Clone, Copy, Debug, PartialEq, Eq)]
 pub enum Message {
     /// A submitter, and the key by which it is known.
@@ -82,6 +82,32 @@ pub enum Message {
         holder: Ident,
         amount: Dollars,
     },
+    /// Money that comes into the participant's balance.
+    Deposit {
+        participant: Ident,
+        cents: Cents,
+    },
+    /// Money that is paid out of it.
+    Withdraw {
+        participant: Ident,
+        cents: Cents,
+    },
+    /// Par of the sender that is offered to another submitter for a price.
+    Sell {
+        cusip: Cusip,
+        to: Ident,
+        amount: Dollars,
+        price: Cents,
+    },
+    /// The seller's offer of this number is bought: its par for its price.
+    Buy {
+        seller: Ident,
+        offer: u64,
+    },
+    /// The sender's offer of this number is taken back.
+    Retract {
+        offer: u64,
+    },
 }
 
 /// A message that was accepted, with its submitter, the submitter's number for it and the running moment. The
@@ -115,6 +141,11 @@ impl Message {
             Message::Release { .. } => Kind::Release,
             Message::Redeem { .. } => Kind::Redeem,
             Message::AddOn { .. } => Kind::AddOn,
+            Message::Deposit { .. } => Kind::Deposit,
+            Message::Withdraw { .. } => Kind::Withdraw,
+            Message::Sell { .. } => Kind::Sell,
+            Message::Buy { .. } => Kind::Buy,
+            Message::Retract { .. } => Kind::Retract,
         }
     }
 }

@@ -9,7 +9,7 @@ ghost use Rattle.tb_message.specs.declared.version.Version.TheVariants as versio
 use crate::message::{Entry, Message};
 use crate::record::Record;
 use tb_terms::{Announcement, Cusip};
-use tb_units::{Day, Dollars, Ident, Moment, Rate};
+use tb_units::{Cents, Day, Dollars, Ident, Moment, Rate};
 
 impl Record {
     #[tactic(auto, unfolding(crate::specs::Spelling::spelled))]
@@ -20,6 +20,16 @@ impl Record {
         ensures size { length self.new ≡ length self.old + 8 }
     {
         self.push(&(amount.value as u64).to_be_bytes());
+    }
+
+    #[tactic(auto, unfolding(crate::specs::Spelling::spelled))]
+    fn money(&mut self, money: Cents)
+        requires room { length self.old ≤ 500 }
+        requires range { money.value ≤ 10 ^ 14 }
+        ensures money { self.new ≡ self.old ++ spelled form.money (whole money.value) }
+        ensures size { length self.new ≡ length self.old + 8 }
+    {
+        self.push(&(money.value as u64).to_be_bytes());
     }
 
     #[tactic(auto, unfolding(crate::specs::Spelling::spelled))]
@@ -148,6 +158,7 @@ impl Record {
         self.amount(amount);
     }
 
+    // A cancel, or a purchase: their fields are alike.
     #[tactic(auto, using(crate::proofs::Texts::joined))]
     fn cancel(&mut self, auction: &Ident, bid: u64)
         requires room { length self.old ≤ 100 }
@@ -201,6 +212,29 @@ impl Record {
         self.amount(amount);
     }
 
+    // A deposit, or a withdrawal: their fields are alike.
+    #[tactic(auto, using(crate::proofs::Texts::joined))]
+    fn cash(&mut self, participant: &Ident, cents: Cents)
+        requires room { length self.old ≤ 100 }
+        requires range { FitsFields (messages.Deposit participant.now cents) }
+        ensures { self.new ≡ self.old ++ fields_of (messages.Deposit participant.now cents) }
+    {
+        self.name(participant);
+        self.money(cents);
+    }
+
+    #[tactic(auto, using(crate::proofs::Texts::joined))]
+    fn sell(&mut self, cusip: &Cusip, to: &Ident, amount: Dollars, price: Cents)
+        requires room { length self.old ≤ 100 }
+        requires range { FitsFields (messages.Sell cusip.now to.now amount price) }
+        ensures { self.new ≡ self.old ++ fields_of (messages.Sell cusip.now to.now amount price) }
+    {
+        self.cusip(cusip);
+        self.name(to);
+        self.amount(amount);
+        self.money(price);
+    }
+
     #[tactic(auto, using(crate::proofs::Texts::joined))]
     fn body(&mut self, message: &Message)
         requires room { length self.old ≤ 100 }
@@ -245,6 +279,17 @@ impl Record {
                 holder,
                 amount,
             } => self.add_on(auction, holder, *amount),
+            Message::Deposit { participant, cents } | Message::Withdraw { participant, cents } => {
+                self.cash(participant, *cents)
+            }
+            Message::Sell {
+                cusip,
+                to,
+                amount,
+                price,
+            } => self.sell(cusip, to, *amount, *price),
+            Message::Buy { seller, offer } => self.cancel(seller, *offer),
+            Message::Retract { offer } => self.number(*offer),
         }
     }
 }

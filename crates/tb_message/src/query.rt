@@ -18,6 +18,8 @@ pub enum Query {
     Holdings,
     /// Who was paid what when the bill was redeemed.
     Redemption(Cusip),
+    /// The caller's balance.
+    Funds,
 }
 
 /// The kinds of queries.
@@ -29,6 +31,7 @@ pub enum QueryKind {
     Bids,
     Holdings,
     Redemption,
+    Funds,
 }
 
 /// A request, as it is read from JSON: a message under its sender's number, or a query.

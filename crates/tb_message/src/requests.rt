@@ -39,6 +39,11 @@ fn kind_of_name(text: &str) -> Option<Kind>
         "release" => Some(Kind::Release),
         "redeem" => Some(Kind::Redeem),
         "addon" => Some(Kind::AddOn),
+        "deposit" => Some(Kind::Deposit),
+        "withdraw" => Some(Kind::Withdraw),
+        "sell" => Some(Kind::Sell),
+        "buy" => Some(Kind::Buy),
+        "retract" => Some(Kind::Retract),
         _ => None,
     }
 }
@@ -54,6 +59,7 @@ fn query_kind_of_name(text: &str) -> Option<QueryKind>
         "bids" => Some(QueryKind::Bids),
         "holdings" => Some(QueryKind::Holdings),
         "redemption" => Some(QueryKind::Redemption),
+        "funds" => Some(QueryKind::Funds),
         _ => None,
     }
 }
@@ -210,6 +216,52 @@ fn add_on(object: &Value) -> Result<Message, Field>
     })
 }
 
+fn deposit(object: &Value) -> Result<Message, Field>
+    ensures { result_map (λ m. (kind_of m, parts_of m)) result ≡ body_in (view object.now) kinds.Deposit }
+{
+    Ok(Message::Deposit {
+        participant: members::name(object, Field::Participant)?,
+        cents: members::money(object, Field::Cents)?,
+    })
+}
+
+fn withdraw(object: &Value) -> Result<Message, Field>
+    ensures { result_map (λ m. (kind_of m, parts_of m)) result ≡ body_in (view object.now) kinds.Withdraw }
+{
+    Ok(Message::Withdraw {
+        participant: members::name(object, Field::Participant)?,
+        cents: members::money(object, Field::Cents)?,
+    })
+}
+
+fn sell(object: &Value) -> Result<Message, Field>
+    ensures { result_map (λ m. (kind_of m, parts_of m)) result ≡ body_in (view object.now) kinds.Sell }
+{
+    Ok(Message::Sell {
+        cusip: members::cusip(object, Field::Cusip)?,
+        to: members::name(object, Field::To)?,
+        amount: members::amount(object, Field::Amount)?,
+        price: members::money(object, Field::Cents)?,
+    })
+}
+
+fn buy(object: &Value) -> Result<Message, Field>
+    ensures { result_map (λ m. (kind_of m, parts_of m)) result ≡ body_in (view object.now) kinds.Buy }
+{
+    Ok(Message::Buy {
+        seller: members::name(object, Field::Seller)?,
+        offer: members::number(object, Field::Offer)?,
+    })
+}
+
+fn retract(object: &Value) -> Result<Message, Field>
+    ensures { result_map (λ m. (kind_of m, parts_of m)) result ≡ body_in (view object.now) kinds.Retract }
+{
+    Ok(Message::Retract {
+        offer: members::number(object, Field::Offer)?,
+    })
+}
+
 fn message_of(kind: Kind, object: &Value) -> Result<Message, Field>
     ensures { result_map (λ m. (kind_of m, parts_of m)) result ≡ body_in (view object.now) kind }
 {
@@ -229,6 +281,11 @@ fn message_of(kind: Kind, object: &Value) -> Result<Message, Field>
         Kind::Release => release(object),
         Kind::Redeem => redeem(object),
         Kind::AddOn => add_on(object),
+        Kind::Deposit => deposit(object),
+        Kind::Withdraw => withdraw(object),
+        Kind::Sell => sell(object),
+        Kind::Buy => buy(object),
+        Kind::Retract => retract(object),
     }
 }
 
@@ -243,6 +300,7 @@ fn query_of(kind: QueryKind, object: &Value) -> Result<Query, Field>
         QueryKind::Bids => Ok(Query::Bids(members::name(object, Field::Auction)?)),
         QueryKind::Holdings => Ok(Query::Holdings),
         QueryKind::Redemption => Ok(Query::Redemption(members::cusip(object, Field::Cusip)?)),
+        QueryKind::Funds => Ok(Query::Funds),
     }
 }
 

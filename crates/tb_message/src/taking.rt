@@ -179,6 +179,57 @@ impl<'a> Fields<'a> {
         })
     }
 
+    fn deposit(&mut self) -> Option<Message>
+        ensures { option_map (λ m. (kind_of m, parts_of m, self.new.rest.now)) result
+            ≡ message_at kinds.Deposit self.old.rest.now }
+    {
+        Some(Message::Deposit {
+            participant: self.name()?,
+            cents: self.money()?,
+        })
+    }
+
+    fn withdraw(&mut self) -> Option<Message>
+        ensures { option_map (λ m. (kind_of m, parts_of m, self.new.rest.now)) result
+            ≡ message_at kinds.Withdraw self.old.rest.now }
+    {
+        Some(Message::Withdraw {
+            participant: self.name()?,
+            cents: self.money()?,
+        })
+    }
+
+    fn sell(&mut self) -> Option<Message>
+        ensures { option_map (λ m. (kind_of m, parts_of m, self.new.rest.now)) result
+            ≡ message_at kinds.Sell self.old.rest.now }
+    {
+        Some(Message::Sell {
+            cusip: self.cusip()?,
+            to: self.name()?,
+            amount: self.amount()?,
+            price: self.money()?,
+        })
+    }
+
+    fn buy(&mut self) -> Option<Message>
+        ensures { option_map (λ m. (kind_of m, parts_of m, self.new.rest.now)) result
+            ≡ message_at kinds.Buy self.old.rest.now }
+    {
+        Some(Message::Buy {
+            seller: self.name()?,
+            offer: self.number()?,
+        })
+    }
+
+    fn retract(&mut self) -> Option<Message>
+        ensures { option_map (λ m. (kind_of m, parts_of m, self.new.rest.now)) result
+            ≡ message_at kinds.Retract self.old.rest.now }
+    {
+        Some(Message::Retract {
+            offer: self.number()?,
+        })
+    }
+
     fn message(&mut self, kind: Kind) -> Option<Message>
         ensures { option_map (λ m. (kind_of m, parts_of m, self.new.rest.now)) result
             ≡ message_at kind self.old.rest.now }
@@ -199,6 +250,11 @@ impl<'a> Fields<'a> {
             Kind::Release => self.release(),
             Kind::Redeem => self.redeem(),
             Kind::AddOn => self.add_on(),
+            Kind::Deposit => self.deposit(),
+            Kind::Withdraw => self.withdraw(),
+            Kind::Sell => self.sell(),
+            Kind::Buy => self.buy(),
+            Kind::Retract => self.retract(),
         }
     }
 

@@ -119,6 +119,7 @@ impl Line {
             Refusal::Unsettled { auction } => self.name(auction),
             Refusal::MoreThanPledged { left } => self.number(left.value),
             Refusal::NotDue { payment } => self.day(*payment),
+            Refusal::InsufficientFunds { balance } => self.word(balance.print().bytes()),
             _ => {}
         }
     }

@@ -4,7 +4,7 @@ use std::process::Abort;
 use std::test::Fail;
 use tb_message::{Entry, Key, Kind, Message, Query, Request, Verdict, read_request, verdict_line};
 use tb_terms::{Field, Refusal};
-use tb_units::{Day, Dollars, Ident, Moment};
+use tb_units::{Cents, Day, Dollars, Ident, Moment};
 
 /// A record in hexadecimal, and the text of its message, for each kind. All are of one moment.
 const RECORDS: &str =
@@ -22,7 +22,15 @@ const RECORDS: &str =
 076465616c657231000000000000000c00000000672862e00c393132373937414135076465616c65723200000000000001f4 {"number":12,"kind":"pledge","cusip":"912797AA5","to":"dealer2","amount":500}
 076465616c65723100038d7ea4c6800000000000672862e00d076465616c657231000000000000000c000000000000012c {"number":1000000000000000,"kind":"release","holder":"dealer1","pledge":12,"amount":300}
 086f70657261746f72000000000000000700000000672862e00e393132373937414135 {"number":7,"kind":"redeem","cusip":"912797AA5"}
-086f70657261746f72000000000000000800000000672862e00f0662696c6c3133076465616c657232000000012a05f200 {"number":8,"kind":"addon","auction":"bill13","holder":"dealer2","amount":5000000000}"#;
+086f70657261746f72000000000000000800000000672862e00f0662696c6c3133076465616c657232000000012a05f200 {"number":8,"kind":"addon","auction":"bill13","holder":"dealer2","amount":5000000000}
+086f70657261746f72000000000000000900000000672862e010076465616c65723100000000000186a0 {"number":9,"kind":"deposit","participant":"dealer1","cents":100000}
+086f70657261746f72000000000000000a00000000672862e011076465616c65723200005af3107a4000 {"number":10,"kind":"withdraw","participant":"dealer2","cents":100000000000000}
+076465616c657231000000000000000600000000672862e012393132373937414135076465616c657232000000000000012c0000000000007404 {"number":6,"kind":"sell","cusip":"912797AA5","to":"dealer2","amount":300,"cents":29700}
+076465616c657231000000000000001e00000000672862e013076465616c6572320000000000000014 {"number":30,"kind":"buy","seller":"dealer2","offer":20}
+076465616c657231000000000000001700000000672862e0140000000000000016 {"number":23,"kind":"retract","offer":22}
+086f70657261746f72000000000000000b00000000672862e010076465616c65723100005af3107a4000 {"number":11,"kind":"deposit","participant":"dealer1","cents":100000000000000}
+076465616c657231000000000000000700000000672862e012393132373937414135076465616c657232000000000000012c00005af3107a4000 {"number":7,"kind":"sell","cusip":"912797AA5","to":"dealer2","amount":300,"cents":100000000000000}
+076465616c657231000000000000000800000000672862e012393132373937414135076465616c657232000000000000012c0000000000000001 {"number":8,"kind":"sell","cusip":"912797AA5","to":"dealer2","amount":300,"cents":1}"#;
 
 /// What is told of each text.
 const READINGS: &str = r#"BadJson {
@@ -39,9 +47,22 @@ BadShape(NcClose) {"number":1,"kind":"announce","auction":"a","cusip":"912797AA5
 BadShape(Auction) {"number":1,"kind":"addon","auction":"Bill13","holder":"dealer2"}
 BadShape(Holder) {"number":1,"kind":"addon","auction":"a","amount":1000000000001}
 BadShape(Amount) {"number":1,"kind":"addon","auction":"a","holder":"b","amount":1000000000001}
+BadShape(Participant) {"number":1,"kind":"deposit","participant":7,"cents":0}
+BadShape(Cents) {"number":1,"kind":"deposit","participant":"a","cents":0}
+BadShape(Cents) {"number":1,"kind":"deposit","participant":"a","cents":100000000000001}
+BadShape(Cents) {"number":1,"kind":"withdraw","participant":"a","cents":0}
+BadShape(Cents) {"number":1,"kind":"withdraw","participant":"a","cents":100000000000001}
+BadShape(Cents) {"number":1,"kind":"sell","cusip":"912797AA5","to":"b","amount":300,"cents":0}
+BadShape(Cents) {"number":1,"kind":"sell","cusip":"912797AA5","to":"b","amount":300,"cents":100000000000001}
+BadShape(Amount) {"number":1,"kind":"sell","cusip":"912797AA5","to":"b","cents":0}
+BadShape(Cents) {"number":1,"kind":"sell","cusip":"912797AA5","to":"b","amount":0,"cents":-1}
+BadShape(Seller) {"number":1,"kind":"buy","offer":0}
+BadShape(Offer) {"number":1,"kind":"buy","seller":"a","offer":0}
+BadShape(Offer) {"number":1,"kind":"retract"}
 BadShape(Auction) {"number":0,"kind":"results"}
 BadShape(Kind) {"kind":"holdings","number":1,"kind":"none"}
-Query(Holdings) {"number":0,"kind":"none","kind":"holdings"}"#;
+Query(Holdings) {"number":0,"kind":"none","kind":"holdings"}
+Query(Funds) {"number":0,"kind":"funds","cents":0}"#;
 
 fn name(rt: &impl Abort, text: &str) -> Ident {
     Ident::read(text).expect(rt, "no name")
@@ -109,7 +130,7 @@ fn a_message_of_each_kind_is_read_put_and_taken(rt: HostRuntime) -> Result<(), F
         assert_eq!(rt; Entry::take_first(put.bytes()), None);
         assert_eq!(rt; Entry::take(&first), None);
     }
-    assert_eq!(rt; RECORDS.lines().count(), 15);
+    assert_eq!(rt; RECORDS.lines().count(), 23);
     Ok(())
 }
 
@@ -190,6 +211,13 @@ fn verdicts_are_told_with_their_values(rt: HostRuntime) {
     );
     tells(
         &rt,
+        Verdict::Refused(Refusal::InsufficientFunds {
+            balance: Cents { value: 70_300 },
+        }),
+        "refused 90 InsufficientFunds 703.00",
+    );
+    tells(
+        &rt,
         Verdict::Refused(Refusal::NotDue { payment }),
         "refused 81 NotDue 2025-02-18",
     );
@@ -211,4 +239,37 @@ fn tells(rt: &impl Abort, verdict: Verdict, wanted: &str) {
         wanted.as_bytes(),
         "{wanted}"
     );
+}
+
+/// Records of a deposit, a withdrawal and a sell without the money that ends them.
+const DEPOSIT: &[u8] = b"\x08operator\0\0\0\0\0\0\0\x09\0\0\0\0\x67\x28\x62\xe0\x10\x07dealer1";
+
+const WITHDRAWAL: &[u8] = b"\x08operator\0\0\0\0\0\0\0\x0a\0\0\0\0\x67\x28\x62\xe0\x11\x07dealer1";
+
+const SELL: &[u8] = b"\x07dealer1\0\0\0\0\0\0\0\x06\0\0\0\0\x67\x28\x62\xe0\x12\
+    912797AA5\x07dealer2\0\0\0\0\0\0\x01\x2c";
+
+// Whether the record with so much money is one.
+fn is_record(alloc: Global, front: &[u8], cents: u64) -> Result<bool, Fail> {
+    let mut record = front.to_vec(alloc)?;
+    record.extend_from_slice(&cents.to_be_bytes())?;
+    Ok(Entry::take(&record).is_some())
+}
+
+#[test]
+fn a_record_has_money_from_a_cent_to_the_largest(rt: HostRuntime) -> Result<(), Fail> {
+    let alloc = rt.alloc();
+    assert!(rt; !is_record(alloc, DEPOSIT, 0)?);
+    assert!(rt; is_record(alloc, DEPOSIT, 1)?);
+    assert!(rt; is_record(alloc, DEPOSIT, 100_000_000_000_000)?);
+    assert!(rt; !is_record(alloc, DEPOSIT, 100_000_000_000_001)?);
+    assert!(rt; !is_record(alloc, WITHDRAWAL, 0)?);
+    assert!(rt; is_record(alloc, WITHDRAWAL, 100_000_000_000_000)?);
+    assert!(rt; !is_record(alloc, WITHDRAWAL, 100_000_000_000_001)?);
+    assert!(rt; !is_record(alloc, SELL, 0)?);
+    assert!(rt; is_record(alloc, SELL, 1)?);
+    assert!(rt; is_record(alloc, SELL, 100_000_000_000_000)?);
+    assert!(rt; !is_record(alloc, SELL, 100_000_000_000_001)?);
+    assert!(rt; !is_record(alloc, SELL, 18_446_744_073_709_551_615)?);
+    Ok(())
 }

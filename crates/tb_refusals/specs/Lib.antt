@@ -1,2 +1,3 @@
 pub mod Announced
 pub mod ParRows
+pub mod OfferRows

@@ -26,7 +26,8 @@ pub(crate) fn is_no_par(amount: Dollars) -> bool
     amount.value == 0 || amount.value % 100 != 0
 }
 
-fn has_matured(terms: &Terms, moment: Moment) -> bool
+// Whether the maturity date has begun.
+pub(crate) fn has_matured(terms: &Terms, moment: Moment) -> bool
     ensures { result ≡ nat_le (start_of terms.now.announcement.maturity.number) moment.seconds }
 {
     terms.maturity_moment.seconds <= moment.seconds

@@ -19,13 +19,18 @@ pub fn is_permitted(submitter: &Ident, message: &Message) -> bool
         | Message::Publish { .. }
         | Message::Settle { .. }
         | Message::Redeem { .. }
-        | Message::AddOn { .. } => is_operator(submitter),
+        | Message::AddOn { .. }
+        | Message::Deposit { .. }
+        | Message::Withdraw { .. } => is_operator(submitter),
         Message::Bid { .. }
         | Message::Cancel { .. }
         | Message::Position { .. }
         | Message::Transfer { .. }
         | Message::Pledge { .. }
-        | Message::Release { .. } => !is_operator(submitter),
+        | Message::Release { .. }
+        | Message::Sell { .. }
+        | Message::Buy { .. }
+        | Message::Retract { .. } => !is_operator(submitter),
     }
 }
 

@@ -17,7 +17,7 @@ pub fn may_ask(caller: &Ident, query: &Query) -> bool
 {
     match query {
         Query::Terms(_) | Query::Results(_) => true,
-        Query::Awards(_) | Query::Bids(_) | Query::Holdings => !is_operator(caller),
+        Query::Awards(_) | Query::Bids(_) | Query::Holdings | Query::Funds => !is_operator(caller),
         Query::Redemption(_) => is_operator(caller),
     }
 }

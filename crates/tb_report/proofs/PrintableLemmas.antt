@@ -100,4 +100,5 @@ IsPrintable-reading h caller (query.Redemption cusip) (reading.Redemption lines)
 IsPrintable-reading h caller asked (reading.Awards lines) legal is = tt
 IsPrintable-reading h caller asked (reading.Bids lines) legal is = tt
 IsPrintable-reading h caller asked (reading.Holdings lines) legal is = tt
+IsPrintable-reading h caller asked (reading.Funds cents) legal is = tt
 IsPrintable-reading h caller asked told legal is = absurd is

@@ -4,6 +4,7 @@ ghost use Rattle.tb_report.specs.Lines.{text_of};
 ghost use Rattle.tb_report.specs.Results.{results_lines};
 ghost use Rattle.tb_report.specs.Lists.{awards_lines};
 ghost use Rattle.tb_report.specs.Readings.{lines_of, IsPrintable};
+ghost use Rattle.tb_history.specs.declared.reading.Reading.TheVariants as reading;
 
 use crate::growing::Text;
 use crate::lists::{push_awards, push_bids, push_holdings, push_redemption};
@@ -11,7 +12,7 @@ use crate::results::push_results;
 use crate::terms::push_terms;
 use std::alloc::Global;
 use tb_history::{Awards, Reading, Results};
-use tb_units::OutOfMemory;
+use tb_units::{Cents, OutOfMemory};
 
 /// The text of a reading: its lines, each of words with a space between, and ended by a line feed.
 ///
@@ -38,6 +39,7 @@ pub fn line_count(reading: &Reading) -> u128
         Reading::Bids(bids) => bids.count() as u128,
         Reading::Holdings(holdings) => holdings.count() as u128,
         Reading::Redemption(paid) => paid.count() as u128 + 1,
+        Reading::Funds(_) => 1,
     }
 }
 
@@ -73,5 +75,12 @@ fn push_reading(text: &mut Text, reading: &Reading) -> Result<(), OutOfMemory>
         Reading::Bids(bids) => push_bids(text, bids.lines()),
         Reading::Holdings(holdings) => push_holdings(text, holdings.lines()),
         Reading::Redemption(paid) => push_redemption(text, paid.lines()),
+        Reading::Funds(cents) => push_funds(text, *cents),
     }
+}
+
+fn push_funds(text: &mut Text, cents: Cents) -> Result<(), OutOfMemory>
+    ensures { OnOk result (text.new ≡ text.old ++ text_of (lines_of (reading.Funds cents))) }
+{
+    text.labelled(b"funds", cents.print().bytes())
 }

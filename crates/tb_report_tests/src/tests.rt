@@ -275,3 +275,19 @@ fn payments_of_a_redemption_have_a_total(rt: HostRuntime) -> Result<(), OutOfMem
         "dealer1 200\ndealer2 800\ntotal 1000\n",
     )
 }
+
+#[test]
+fn funds_are_told_in_dollars_and_cents(rt: HostRuntime) -> Result<(), OutOfMemory> {
+    tells(
+        &rt,
+        rt.alloc(),
+        &Reading::Funds(Cents { value: 70_300 }),
+        "funds 703.00\n",
+    )?;
+    tells(
+        &rt,
+        rt.alloc(),
+        &Reading::Funds(Cents { value: 0 }),
+        "funds 0.00\n",
+    )
+}

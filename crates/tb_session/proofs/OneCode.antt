@@ -104,6 +104,7 @@ word-kind asked.Awards = refl
 word-kind asked.Bids = refl
 word-kind asked.Holdings = refl
 word-kind asked.Redemption = refl
+word-kind asked.Funds = refl
 
 -- two kinds of query with one word are one
 query-kind-same : (k l : QueryKind) → query_text k ≡ query_text l → k ≡ l
@@ -118,6 +119,7 @@ query-same (query.Results a) (query.Results b) k p = cc
 query-same (query.Awards a) (query.Awards b) k p = cc
 query-same (query.Bids a) (query.Bids b) k p = cc
 query-same query.Holdings query.Holdings k p = refl
+query-same query.Funds query.Funds k p = refl
 query-same (query.Redemption a) (query.Redemption b) k p = let same = same_cusip a b cc in ap query.Redemption same
 query-same one other k p = cc
 
@@ -127,7 +129,8 @@ members =
     field.Body ∷ field.Number ∷ field.Kind ∷ field.Submitter ∷ field.Key ∷ field.Bidder ∷ field.Day ∷ field.Auction
     ∷ field.Cusip ∷ field.Offering ∷ field.Minimum ∷ field.Ceiling ∷ field.Floor ∷ field.Threshold ∷ field.Date
     ∷ field.NcClose ∷ field.CClose ∷ field.Issue ∷ field.Maturity ∷ field.Rate ∷ field.Amount
-    ∷ field.Bid ∷ field.Position ∷ field.To ∷ field.Holder ∷ field.Pledge ∷ []
+    ∷ field.Bid ∷ field.Position ∷ field.To ∷ field.Holder ∷ field.Pledge ∷ field.Participant ∷ field.Cents
+    ∷ field.Seller ∷ field.Offer ∷ []
 
 -- the member of a name
 abbrev member_named : List ℕ → Option Field
@@ -161,6 +164,10 @@ named-member field.Position = refl
 named-member field.To = refl
 named-member field.Holder = refl
 named-member field.Pledge = refl
+named-member field.Participant = refl
+named-member field.Cents = refl
+named-member field.Seller = refl
+named-member field.Offer = refl
 
 -- two members with one name are one
 member-same : (m n : Field) → member_of m ≡ member_of n → m ≡ n

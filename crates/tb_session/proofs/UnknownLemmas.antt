@@ -24,16 +24,19 @@ use Rattle.tb_message.specs.declared.verdict.Verdict.{Verdict}
 use Rattle.tb_message.specs.declared.verdict.Verdict.TheVariants as verdict
 use Rattle.tb_rules.specs.BidRule.{Standing}
 use Rattle.tb_history.specs.declared.accounts.Mark.{Mark}
+use Rattle.tb_history.specs.declared.accounts.Offer.{Offer}
 use Rattle.tb_history.specs.declared.bids.Bid.{Bid}
 use Rattle.tb_history.specs.declared.roster.Registration.{Registration}
 use Rattle.tb_history.specs.Answer.{query_refusal, may_ask, auction_rows, asked_rows}
 use Rattle.tb_history.specs.Entries.{is_same, operator}
 use Rattle.tb_history.specs.Holdings.{mark_of, free_of}
+use Rattle.tb_history.specs.Offers.{offers, offer_of, is_closed, open_offers}
 use Rattle.tb_history.specs.LiveBids.{bids, cancels, reports, bid_of, is_cancelled, standing_of}
 use Rattle.tb_history.specs.Roster.{registrations, holidays, announcements, settlements, redemptions, add_ons, add_on_of}
 use Rattle.tb_history.specs.Roster.{announcement_of, bill_of, is_caller, is_enrolled, is_published, is_redeemed, is_registered, is_settled, unsettled_of, kept, sent_by}
 use Rattle.tb_history.specs.Same.{same_message}
 use Rattle.tb_history.specs.Tables.{add_on_rows, bid_rows, cancel_rows, left_in, mark_rows, maturity_rows, par_rows, position_rows, publish_rows, redeem_rows, rows_of, settle_rows, transfer_rows}
+use Rattle.tb_history.specs.Tables.{buy_rows, matured_rows, retract_rows, sell_rows}
 use Rattle.tb_history.specs.Verdict.{refused, is_permitted, number_rows, verdict_on}
 use Rattle.tb_history.proofs.SameLemmas.{is_same-refl}
 use Rattle.tb_session.specs.Calls.{caller_on}
@@ -135,6 +138,31 @@ add_on_known : (a : Option Announcement) (known standing : Bool) (moment : Momen
 add_on_known None known standing moment amount = refl
 add_on_known (Some a) known standing moment amount = refl
 
+-- of an offer
+sell_known : (a : Option Announcement) (known self redeemed : Bool) (moment : Moment) (amount open_now : ℕ)
+    → has_unknown (sell_rows a known self redeemed moment amount open_now) ≡ false
+sell_known None known self redeemed moment amount open_now = refl
+sell_known (Some a) known self redeemed moment amount open_now = refl
+
+-- of the maturity of a bill that is sold, and of what comes behind it
+matured_known : (a : Option Announcement) (moment : Moment) (rest : List Row)
+    → has_unknown rest ≡ false
+    → has_unknown (matured_rows a moment ++ rest) ≡ false
+matured_known None moment rest known = known
+matured_known (Some a) moment rest known = known
+
+-- of a purchase
+buy_known : (history : List Entry) (offer : Option Offer) (sender : List ℕ) (moment : Moment)
+    → has_unknown (buy_rows history offer sender moment) ≡ false
+buy_known history None sender moment = refl
+buy_known history (Some o) sender moment =
+    matured_known (bill_of (announcements history) o.cusip) moment _ refl
+
+-- of a retraction
+retract_known : (offer : Option Offer) (closed : Bool) → has_unknown (retract_rows offer closed) ≡ false
+retract_known None closed = refl
+retract_known (Some o) closed = refl
+
 -- so no row of a message does
 rows-known : (history : List Entry) (sender : List ℕ) (moment : Moment) (sent : Message)
     → has_unknown (rows_of history sender moment sent) ≡ false
@@ -179,6 +207,15 @@ rows-known history sender moment (message.Redeem cusip) =
 rows-known history sender moment (message.AddOn auction holder amount) =
     add_on_known (announcement_of (announcements history) auction) (is_registered (registrations history) holder)
     (is_some (add_on_of (add_ons history) auction)) moment amount.value
+rows-known history sender moment (message.Deposit participant cents) = refl
+rows-known history sender moment (message.Withdraw participant cents) = refl
+rows-known history sender moment (message.Sell cusip to amount price) =
+    sell_known (bill_of (announcements history) cusip) (is_registered (registrations history) to) (is_same to sender)
+    (is_redeemed (redemptions history) cusip) moment amount.value (open_offers history sender)
+rows-known history sender moment (message.Buy seller offer) =
+    buy_known history (offer_of (offers history) seller offer) sender moment
+rows-known history sender moment (message.Retract offer) =
+    retract_known (offer_of (offers history) sender offer) (is_closed history sender offer)
 
 -- ---- and so neither does a verdict nor a query's refusal
 
@@ -269,6 +306,7 @@ asked-known history (query.Awards auction) =
 asked-known history (query.Bids auction) =
     auction_known (announcement_of (announcements history) auction) false (is_published history auction)
 asked-known history query.Holdings = refl
+asked-known history query.Funds = refl
 asked-known history (query.Redemption cusip) = refl
 
 -- nor by the refusal of its query

@@ -3,6 +3,9 @@
 ghost use Rattle.std.specs.Prelude.{◌≤◌, ◌+◌, None, length, option_to_list};
 ghost use Rattle.tb_gates.specs.Gates.{most_links};
 
+use crate::sale_tests::{
+    BUY, BUY_REPLY, CLOSED_REPLY, OTHER_BUY, OTHER_BUY_REPLY, is_sold_once, with_offer,
+};
 use crate::tests::{Memory, opened, posted, replied};
 use std::alloc::Global;
 use std::process::Abort;
@@ -184,31 +187,65 @@ const SECOND: &str = posted!(
 
 const SECOND_REPLY: &str = replied!("200 OK", 22, "accepted 2 1730700000\n");
 
-/// Serves two links, each at a gate of its own, which wait for each other by these two flags.
-fn serve_both<R: Threads + Wait + Sync + Abort>(
+/// Serves these gates: the room afterwards, and the gates. So many messages are accepted, one link at each gate.
+fn serve_held<'a, R: Threads + Wait + Sync + Abort>(
     rt: &R,
     alloc: Global,
-    here: &AtomicBool,
-    there: &AtomicBool,
-) -> Result<(), Fail> {
-    let mut gates = Vec::new(alloc);
-    gates.push(gate_of(alloc, FIRST, here, there)?)?;
-    gates.push(gate_of(alloc, SECOND, there, here)?)?;
-    let room: Memory = opened(rt, alloc, Vec::new(alloc))?;
-    assert!(rt; !room.desk.unsure() && gates.len() <= 64);
-    let served = match serve_gates(rt, alloc, room, &mut gates) {
-        Ok(ended) => (ended.served, ended.accepted),
-        Err(_) => (0, 0),
+    room: Memory,
+    mut gates: Vec<HeldGate<'a>>,
+    accepted: u64,
+) -> Result<(Memory, Vec<HeldGate<'a>>), Fail> {
+    assert!(rt; gates.len() <= 64 && !room.desk.unsure());
+    let Ok(ended) = serve_gates(rt, alloc, room, &mut gates) else {
+        panic!(rt; "no memory")
     };
-    assert!(rt; served == (2, 2) && gates.len() == 2);
-    assert!(rt; is_answered(&gates[0], FIRST_REPLY));
-    assert!(rt; is_answered(&gates[1], SECOND_REPLY));
-    Ok(())
+    assert!(rt; (ended.served, ended.accepted) == (2, accepted));
+    Ok((ended.room, gates))
+}
+
+/// Serves two links with these texts, each at a gate of its own, which wait for each other by these two flags: the room
+/// afterwards, and the gates. So many messages are accepted.
+fn serve_both<'a, R: Threads + Wait + Sync + Abort>(
+    rt: &R,
+    alloc: Global,
+    room: Memory,
+    texts: [&str; 2],
+    flags: [&'a AtomicBool; 2],
+    accepted: u64,
+) -> Result<(Memory, Vec<HeldGate<'a>>), Fail> {
+    let mut gates = Vec::new(alloc);
+    gates.push(gate_of(alloc, texts[0], flags[0], flags[1])?)?;
+    gates.push(gate_of(alloc, texts[1], flags[1], flags[0])?)?;
+    serve_held(rt, alloc, room, gates, accepted)
+}
+
+/// Whether the two gates' links were answered so.
+fn are_answered(gates: &[HeldGate<'_>], first: &str, second: &str) -> bool {
+    gates.len() == 2 && is_answered(&gates[0], first) && is_answered(&gates[1], second)
 }
 
 #[test]
 fn links_that_wait_for_each_other_are_answered(rt: HostRuntime) -> Result<(), Fail> {
+    let alloc = rt.alloc();
     let here = AtomicBool::new(false);
     let there = AtomicBool::new(false);
-    serve_both(&rt, rt.alloc(), &here, &there)
+    let room = opened(&rt, alloc, Vec::new(alloc))?;
+    let (_, gates) = serve_both(&rt, alloc, room, [FIRST, SECOND], [&here, &there], 2)?;
+    assert!(rt; are_answered(&gates, FIRST_REPLY, SECOND_REPLY));
+    Ok(())
+}
+
+// Either of two numbers may come first, and the other finds the offer closed.
+#[test]
+fn an_offer_is_bought_once_over_two_links(rt: HostRuntime) -> Result<(), Fail> {
+    let alloc = rt.alloc();
+    let here = AtomicBool::new(false);
+    let there = AtomicBool::new(false);
+    let room = with_offer(&rt, alloc)?;
+    let (room, gates) = serve_both(&rt, alloc, room, [BUY, OTHER_BUY], [&here, &there], 1)?;
+    let first = are_answered(&gates, BUY_REPLY, CLOSED_REPLY);
+    let second = are_answered(&gates, CLOSED_REPLY, OTHER_BUY_REPLY);
+    assert!(rt; first != second);
+    assert!(rt; is_sold_once(&rt, alloc, &mut Some(room))?);
+    Ok(())
 }

@@ -124,7 +124,12 @@ const CLOSING: u64 = 1_730_737_800;
 pub type Memory = Room<MemoryDisk, ListClock>;
 
 /// A room on this disk, whose clock stands at one moment.
-fn room_on(rt: &impl Abort, alloc: Global, disk: MemoryDisk, seconds: u64) -> Result<Memory, Fail> {
+pub fn room_on(
+    rt: &impl Abort,
+    alloc: Global,
+    disk: MemoryDisk,
+    seconds: u64,
+) -> Result<Memory, Fail> {
     assert!(rt; (946_702_800..=4_102_444_799).contains(&seconds));
     let moments = vec![in alloc; Moment { seconds }; 1]?;
     let Ok(desk) = Desk::open(alloc, disk) else {
@@ -253,7 +258,7 @@ fn serve<R: Threads + Wait + Sync + Abort>(
 }
 
 /// Serves each text on a link of its own, each link at a gate of its own.
-fn serve_texts<R: Threads + Wait + Sync + Abort>(
+pub fn serve_texts<R: Threads + Wait + Sync + Abort>(
     rt: &R,
     alloc: Global,
     room: Memory,
@@ -267,7 +272,7 @@ fn serve_texts<R: Threads + Wait + Sync + Abort>(
 }
 
 /// So many links were served and messages accepted, a gate failed or none, and these are the replies.
-fn tells(told: &Told, wanted: (u64, u64, bool), replies: &[&str]) -> bool {
+pub fn tells(told: &Told, wanted: (u64, u64, bool), replies: &[&str]) -> bool {
     (told.served, told.accepted, told.failed) == wanted && are_told(&told.replies, replies)
 }
 

@@ -1,5 +1,5 @@
 //! Announced auctions with their terms, and their add-ons.
-ghost use Rattle.std.specs.Prelude.{◌≡◌, ◌&&◌, Some, cond, is_some, not};
+ghost use Rattle.std.specs.Prelude.{◌≡◌, ◌&&◌, Some, cond, is_some, not, slice_get};
 ghost use Rattle.std.specs.List.{find, position};
 ghost use Rattle.tb_history.specs.Entries.{is_same};
 ghost use Rattle.tb_history.specs.Roster.{add_on_of, announcement_of, bill_of, is_named, unsettled_of};
@@ -44,6 +44,13 @@ pub fn bill_terms(auctions: &Auctions, cusip: &Cusip) -> Option<Terms>
     ensures { announcement_in result ≡ bill_of (announced_in auctions.now.list) cusip.now }
 {
     auctions.get_other(&cusip.bytes).copied()
+}
+
+/// The terms at a place in the order of announcement.
+pub fn terms_at(auctions: &Auctions, place: u32) -> Option<Terms>
+    ensures { result ≡ slice_get auctions.now.list place }
+{
+    auctions.rows().get(place as usize).copied()
 }
 
 // The auction of these terms where it isn't settled, else the one that was found behind it.

@@ -11,7 +11,7 @@ mod names;
 mod roster;
 
 pub use auctions::{
-    AddOns, Auctions, bill_terms, find_add_on, has_auction, place_of_bill, terms_of,
+    AddOns, Auctions, bill_terms, find_add_on, has_auction, place_of_bill, terms_at, terms_of,
     unsettled_terms,
 };
 pub use bidding::{

@@ -55,6 +55,12 @@ told_of (refusal.NotDue payment) = (81, codes "NotDue")
 told_of refusal.AlreadyRedeemed = (82, codes "AlreadyRedeemed")
 told_of refusal.PledgeQuota = (83, codes "PledgeQuota")
 told_of refusal.NotRedeemed = (84, codes "NotRedeemed")
+told_of (refusal.InsufficientFunds balance) = (90, codes "InsufficientFunds")
+told_of refusal.UnknownOffer = (91, codes "UnknownOffer")
+told_of refusal.NotBuyer = (92, codes "NotBuyer")
+told_of refusal.OfferClosed = (93, codes "OfferClosed")
+told_of refusal.OfferUncovered = (94, codes "OfferUncovered")
+told_of refusal.OfferQuota = (95, codes "OfferQuota")
 
 -- the number alone
 abbrev pub number_of : Refusal → ℕ
@@ -92,3 +98,7 @@ member_of field.Position = codes "position"
 member_of field.To = codes "to"
 member_of field.Holder = codes "holder"
 member_of field.Pledge = codes "pledge"
+member_of field.Participant = codes "participant"
+member_of field.Cents = codes "cents"
+member_of field.Seller = codes "seller"
+member_of field.Offer = codes "offer"

@@ -2,7 +2,7 @@
 ghost use Rattle.std.specs.Prelude.{◌≡◌, ◌≤◌, length};
 ghost use Rattle.tb_terms.specs.Refusals.{number_of, name_of, member_of};
 
-use tb_units::{Day, Dollars, Ident, Moment};
+use tb_units::{Cents, Day, Dollars, Ident, Moment};
 
 /// A member of a request that is missing or not of its form; `Body` where the request is no object.
 #[derive(Clone, Copy, Debug, PartialEq, Eq)]
@@ -33,6 +33,10 @@ pub enum Field {
     To,
     Holder,
     Pledge,
+    Participant,
+    Cents,
+    Seller,
+    Offer,
 }
 
 /// Why a message or a query is refused. Refusals are tried in the order of the message's kind, and the first that holds
@@ -135,6 +139,18 @@ pub enum Refusal {
     PledgeQuota,
     /// The bill isn't redeemed.
     NotRedeemed,
+    /// The amount is above the balance of the participant, or of the buyer.
+    InsufficientFunds { balance: Cents },
+    /// The seller has no accepted sell of this number.
+    UnknownOffer,
+    /// The sender isn't the one to whom the sell is made.
+    NotBuyer,
+    /// The sell is bought or retracted.
+    OfferClosed,
+    /// The par is above the seller's free par.
+    OfferUncovered,
+    /// The sender has 1,000 sells that are neither bought nor retracted.
+    OfferQuota,
 }
 
 impl Refusal {
@@ -210,6 +226,12 @@ impl Refusal {
             Refusal::AlreadyRedeemed => (82, b"AlreadyRedeemed"),
             Refusal::PledgeQuota => (83, b"PledgeQuota"),
             Refusal::NotRedeemed => (84, b"NotRedeemed"),
+            Refusal::InsufficientFunds { .. } => (90, b"InsufficientFunds"),
+            Refusal::UnknownOffer => (91, b"UnknownOffer"),
+            Refusal::NotBuyer => (92, b"NotBuyer"),
+            Refusal::OfferClosed => (93, b"OfferClosed"),
+            Refusal::OfferUncovered => (94, b"OfferUncovered"),
+            Refusal::OfferQuota => (95, b"OfferQuota"),
         }
     }
 }
@@ -218,7 +240,7 @@ impl Field {
     /// The name of the member as it is printed.
     pub fn member(self) -> &'static str
         ensures member { result.now ≡ member_of self }
-        ensures short { length result.now ≤ 9 }
+        ensures short { length result.now ≤ 11 }
     {
         match self {
             Field::Body => "body",
@@ -247,6 +269,10 @@ impl Field {
             Field::To => "to",
             Field::Holder => "holder",
             Field::Pledge => "pledge",
+            Field::Participant => "participant",
+            Field::Cents => "cents",
+            Field::Seller => "seller",
+            Field::Offer => "offer",
         }
     }
 }

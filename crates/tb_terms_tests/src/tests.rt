@@ -5,7 +5,7 @@ use tb_terms::{
     Announcement, Cusip, EasternDays, Field, Refusal, Terms, TermsFault, payment_date, print_day,
     print_minute, read_day, read_minute, year_length,
 };
-use tb_units::{Day, Dollars, Ident, Moment, OutOfMemory, Short, YearLength};
+use tb_units::{Cents, Day, Dollars, Ident, Moment, OutOfMemory, Short, YearLength};
 
 fn day(rt: &impl Abort, text: &str) -> Day {
     read_day(text).expect(rt, "no day")
@@ -407,6 +407,11 @@ fn refusals_of_the_operator_and_of_accounts_have_their_numbers(rt: HostRuntime) 
     assert!(rt; told(Refusal::AlreadyRedeemed, 82, "AlreadyRedeemed"));
     assert!(rt; told(Refusal::PledgeQuota, 83, "PledgeQuota"));
     assert!(rt; told(Refusal::NotRedeemed, 84, "NotRedeemed"));
+    assert!(rt; told(Refusal::UnknownOffer, 91, "UnknownOffer"));
+    assert!(rt; told(Refusal::NotBuyer, 92, "NotBuyer"));
+    assert!(rt; told(Refusal::OfferClosed, 93, "OfferClosed"));
+    assert!(rt; told(Refusal::OfferUncovered, 94, "OfferUncovered"));
+    assert!(rt; told(Refusal::OfferQuota, 95, "OfferQuota"));
 }
 
 #[test]
@@ -463,6 +468,15 @@ fn refusals_that_carry_values_have_their_numbers(rt: HostRuntime) {
         )
     );
     assert!(rt; told(Refusal::NotDue { payment: day }, 81, "NotDue"));
+    assert!(rt;
+        told(
+            Refusal::InsufficientFunds {
+                balance: Cents { value: 70_300 }
+            },
+            90,
+            "InsufficientFunds"
+        )
+    );
 }
 
 #[test]
@@ -493,6 +507,10 @@ fn members_have_the_names_of_requests(rt: HostRuntime) {
     assert!(rt; Field::To.member() == "to");
     assert!(rt; Field::Holder.member() == "holder");
     assert!(rt; Field::Pledge.member() == "pledge");
+    assert!(rt; Field::Participant.member() == "participant");
+    assert!(rt; Field::Cents.member() == "cents");
+    assert!(rt; Field::Seller.member() == "seller");
+    assert!(rt; Field::Offer.member() == "offer");
 }
 
 #[test]

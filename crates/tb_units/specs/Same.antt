@@ -3,6 +3,7 @@ use Rattle.std.specs.Prelude.{◌≡◌, ◌≤◌, ◌^◌}
 use Rattle.std.proofs.Math.Bridge.{le_prop}
 use mathlib.Core.HLevel.{is_prop→PathP}
 use Rattle.tb_units.specs.declared.amount.Dollars.{Dollars}
+use Rattle.tb_units.specs.declared.cents.Cents.{Cents}
 use Rattle.tb_units.specs.declared.rate.Rate.{Rate}
 use Rattle.tb_units.specs.declared.term.Days.{Days}
 use Rattle.tb_units.specs.declared.day.Day.{Day}
@@ -11,6 +12,13 @@ use Rattle.tb_units.specs.declared.moment.Moment.{Moment}
 -- amounts of one number of dollars are one
 pub same_dollars : (one other : Dollars) → one.value ≡ other.value → one ≡ other
 same_dollars one other same = λ i. record {
+  value = same i;
+  in_range = is_prop→PathP (λ j. same j ≤ 10 ^ 27) (λ j. le_prop) one.in_range other.in_range i;
+}
+
+-- amounts of one number of cents are one
+pub same_cents : (one other : Cents) → one.value ≡ other.value → one ≡ other
+same_cents one other same = λ i. record {
   value = same i;
   in_range = is_prop→PathP (λ j. same j ≤ 10 ^ 27) (λ j. le_prop) one.in_range other.in_range i;
 }

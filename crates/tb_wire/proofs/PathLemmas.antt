@@ -54,6 +54,7 @@ takes_front (x ∷ front) (b ∷ path) h =
 abbrev row_of : Route → List ℕ × RouteOf Route
 row_of route.Messages = plain route.Messages
 row_of route.Holdings = plain route.Holdings
+row_of route.Funds = plain route.Funds
 row_of route.Terms = ending (codes "{auction}") route.Terms
 row_of route.Results = ending (codes "{auction}") route.Results
 row_of route.Awards = ending (codes "{auction}") route.Awards
@@ -64,6 +65,7 @@ row_of route.Redemption = ending (codes "{cusip}") route.Redemption
 takes-fits : (r : Route) (path : List ℕ) → takes (row_of r).0 path ≡ fits path r
 takes-fits route.Messages path = takes_plain (front_of route.Messages) path refl
 takes-fits route.Holdings path = takes_plain (front_of route.Holdings) path refl
+takes-fits route.Funds path = takes_plain (front_of route.Funds) path refl
 takes-fits route.Terms path = takes_front (front_of route.Terms) path refl
 takes-fits route.Results path = takes_front (front_of route.Results) path refl
 takes-fits route.Awards path = takes_front (front_of route.Awards) path refl
@@ -74,6 +76,7 @@ takes-fits route.Redemption path = takes_front (front_of route.Redemption) path 
 value_is : (r : Route) → (row_of r).1.value ≡ r
 value_is route.Messages = refl
 value_is route.Holdings = refl
+value_is route.Funds = refl
 value_is route.Terms = refl
 value_is route.Results = refl
 value_is route.Awards = refl

@@ -50,4 +50,5 @@ code_of refusal.UnknownSecurity = 404
 code_of refusal.UnknownParticipant = 404
 code_of refusal.UnknownPledge = 404
 code_of refusal.NotRedeemed = 404
+code_of refusal.UnknownOffer = 404
 code_of other = 422

@@ -9,6 +9,7 @@ use Rattle.tb_wire.specs.declared.paths.Route.TheVariants as route
 abbrev pub path_of : Route → List ℕ × Bool
 path_of route.Messages = (codes "/messages", false)
 path_of route.Holdings = (codes "/holdings", false)
+path_of route.Funds = (codes "/funds", false)
 path_of route.Terms = (codes "/terms/", true)
 path_of route.Results = (codes "/results/", true)
 path_of route.Awards = (codes "/awards/", true)
@@ -23,7 +24,8 @@ has_parameter r = (path_of r).1
 
 abbrev pub routes : List Route
 routes =
-    route.Awards ∷ route.Bids ∷ route.Holdings ∷ route.Messages ∷ route.Redemption ∷ route.Results ∷ route.Terms ∷ []
+    route.Awards ∷ route.Bids ∷ route.Funds ∷ route.Holdings ∷ route.Messages ∷ route.Redemption ∷ route.Results
+    ∷ route.Terms ∷ []
 
 -- a parameter is what is left of the path: not nothing, and without a slash
 abbrev pub is_parameter : List ℕ → Bool

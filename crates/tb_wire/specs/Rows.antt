@@ -33,8 +33,9 @@ host_rows =
     (placed (ending (codes "{auction}") route.Awards)
     (placed (ending (codes "{auction}") route.Results)
     (placed (ending (codes "{auction}") route.Terms)
+    (placed (plain route.Funds)
     (placed (plain route.Holdings)
-    (placed (plain route.Messages) []))))))
+    (placed (plain route.Messages) [])))))))
 
 -- the bytes in turn, and a parameter takes what is left, which is not empty and has no slash
 unfoldable pub takes : List ℕ → List ℕ → Bool

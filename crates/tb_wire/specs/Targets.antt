@@ -21,6 +21,7 @@ bill_of bytes = if length bytes == 9 then Some (record { bytes = bytes }) else N
 abbrev pub query_at : Route → List ℕ → Option Query
 query_at route.Messages parameter = None
 query_at route.Holdings parameter = Some query.Holdings
+query_at route.Funds parameter = Some query.Funds
 query_at route.Terms parameter = option_map query.Terms (name_of parameter)
 query_at route.Results parameter = option_map query.Results (name_of parameter)
 query_at route.Awards parameter = option_map query.Awards (name_of parameter)

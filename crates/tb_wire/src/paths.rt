@@ -13,6 +13,7 @@ use tb_units::OutOfMemory;
 pub(crate) enum Route {
     Messages,
     Holdings,
+    Funds,
     Terms,
     Results,
     Awards,
@@ -28,6 +29,7 @@ impl Route {
         match self {
             Route::Messages => "/messages",
             Route::Holdings => "/holdings",
+            Route::Funds => "/funds",
             Route::Terms => "/terms/",
             Route::Results => "/results/",
             Route::Awards => "/awards/",
@@ -81,6 +83,7 @@ fn router(alloc: Global) -> Result<Router<Route>, InsertError>
     let mut router = Router::new(alloc);
     router.insert("/messages", Route::Messages)?;
     router.insert("/holdings", Route::Holdings)?;
+    router.insert("/funds", Route::Funds)?;
     router.insert("/terms/{auction}", Route::Terms)?;
     router.insert("/results/{auction}", Route::Results)?;
     router.insert("/awards/{auction}", Route::Awards)?;

@@ -23,7 +23,8 @@ pub fn refusal_code(refusal: &Refusal) -> u16
         | Refusal::UnknownSecurity
         | Refusal::UnknownParticipant
         | Refusal::UnknownPledge
-        | Refusal::NotRedeemed => 404,
+        | Refusal::NotRedeemed
+        | Refusal::UnknownOffer => 404,
         _ => 422,
     }
 }

@@ -42,6 +42,7 @@ fn find_query(route: Route, parameter: &[u8]) -> Option<Query>
     match route {
         Route::Messages => None,
         Route::Holdings => Some(Query::Holdings),
+        Route::Funds => Some(Query::Funds),
         Route::Terms => Ident::of_bytes(parameter).map(Query::Terms),
         Route::Results => Ident::of_bytes(parameter).map(Query::Results),
         Route::Awards => Ident::of_bytes(parameter).map(Query::Awards),

@@ -16,6 +16,7 @@ const POST: &str = "POST /messages HTTP/1.1\r\nAuction-Key: k1\r\nContent-Length
 enum Place {
     Messages,
     Holdings,
+    Funds,
     Read,
     NoRoute,
     GetOnly,
@@ -26,6 +27,7 @@ fn place_of(target: Target) -> Place {
     match target {
         Target::Messages => Place::Messages,
         Target::Read(Query::Holdings) => Place::Holdings,
+        Target::Read(Query::Funds) => Place::Funds,
         Target::Read(_) => Place::Read,
         Target::NoRoute => Place::NoRoute,
         Target::GetOnly => Place::GetOnly,
@@ -194,6 +196,16 @@ fn a_whole_front_is_told(rt: HostRuntime) -> Result<(), Fail> {
             Place::Messages,
             65,
             true
+        )?
+    );
+    assert!(rt;
+        is_whole(
+            rt.alloc(),
+            &routes,
+            b"GET /funds HTTP/1.1\r\n\r\n",
+            Place::Funds,
+            23,
+            false
         )?
     );
     assert!(rt;
@@ -437,6 +449,8 @@ fn refusals_have_codes(rt: HostRuntime) -> Result<(), Fail> {
     assert!(rt; refusal_code(&Refusal::NoRoute) == 404);
     assert!(rt; refusal_code(&Refusal::BadMethod) == 405);
     assert!(rt; refusal_code(&Refusal::MixedBids) == 422);
+    assert!(rt; refusal_code(&Refusal::UnknownOffer) == 404);
+    assert!(rt; refusal_code(&Refusal::OfferClosed) == 422);
     assert!(rt; refusal_code(&Refusal::BadShape(Field::Number)) == 400);
     Ok(())
 }

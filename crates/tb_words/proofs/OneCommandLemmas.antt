@@ -60,6 +60,7 @@ one_query (query.Results auction) (query.Results named) same = cc (same)
 one_query (query.Awards auction) (query.Awards named) same = cc (same)
 one_query (query.Bids auction) (query.Bids named) same = cc (same)
 one_query query.Holdings query.Holdings same = refl
+one_query query.Funds query.Funds same = refl
 one_query (query.Redemption bill) (query.Redemption named) same =
     ap query.Redemption (same_cusip bill named (cc (same)))
 one_query one other same = absurd (cc (same))

@@ -33,11 +33,13 @@ named_in (query.Awards auction) = auction ∷ []
 named_in (query.Bids auction) = auction ∷ []
 named_in query.Holdings = []
 named_in (query.Redemption bill) = bill.bytes ∷ []
+named_in query.Funds = []
 
 -- the kind of a query, and the auction's name or the nine bytes of a CUSIP
 abbrev pub query_words : Query → List Text
 query_words asked = query_text (query_kind_of asked) ∷ named_in asked
 
+-- funds are no kind of report
 abbrev pub IsQuery : Query → Type 0
 IsQuery (query.Terms auction) = is_name auction ≡ true
 IsQuery (query.Results auction) = is_name auction ≡ true
@@ -45,6 +47,7 @@ IsQuery (query.Awards auction) = is_name auction ≡ true
 IsQuery (query.Bids auction) = is_name auction ≡ true
 IsQuery query.Holdings = ⊤
 IsQuery (query.Redemption bill) = length bill.bytes ≡ 9
+IsQuery query.Funds = ⊥
 
 -- awards and holdings are also told as a table
 abbrev pub has_table : Query → Bool
@@ -54,6 +57,7 @@ has_table (query.Awards auction) = true
 has_table (query.Bids auction) = false
 has_table query.Holdings = true
 has_table (query.Redemption bill) = false
+has_table query.Funds = false
 
 -- a CUSIP of nine digits and capital letters; its check digit isn't looked at
 abbrev pub IsBill : Cusip → Type 0

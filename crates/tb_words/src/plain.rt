@@ -168,7 +168,11 @@ pub(crate) fn is_tabled(query: &Query) -> bool
 {
     match query {
         Query::Awards(_) | Query::Holdings => true,
-        Query::Terms(_) | Query::Results(_) | Query::Bids(_) | Query::Redemption(_) => false,
+        Query::Terms(_)
+        | Query::Results(_)
+        | Query::Bids(_)
+        | Query::Redemption(_)
+        | Query::Funds => false,
     }
 }
 

@@ -286,6 +286,8 @@ fn words_of_import_and_report_outside_the_set(rt: HostRuntime) {
     assert!(rt; refused(&rt, "report awards bill13 --op root --key k1 --csv=yes"));
     assert!(rt; refused(&rt, "report redemption 912797AB --op root --key k1"));
     assert!(rt; refused(&rt, "report auctions bill13 --op root --key k1"));
+    // Funds are read by GET alone.
+    assert!(rt; refused(&rt, "report funds --op root --key k1"));
 }
 
 #[test]

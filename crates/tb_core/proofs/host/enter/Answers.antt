@@ -4,6 +4,7 @@ use Rattle.tb_core.proofs.TiedLemmas.{Follows-in_order}
 use Rattle.tb_core.proofs.SettleLemmas.{settle-room_of}
 use Rattle.tb_core.proofs.ReadyLemmas.{AreFew-tied, IsReady-tied}
 use Rattle.tb_core.proofs.HouseLemmas.{few-bidders, house_one_more, house_push, takes-entry, takes-room}
+use Rattle.tb_core.proofs.MoneyLemmas.{CanEnterMoney-tied}
 use Rattle.tb_core.proofs.host.enter.Goals as goal
 
 pub enter-requires-clause-tied : goal.enter-requires-clause-tied
@@ -32,12 +33,20 @@ pub enter-requires-clause-ready : goal.enter-requires-clause-ready
 enter-requires-clause-ready c =
     IsReady-tied c.args.entries.now.list c.args.tables.now c.args.entry c.requires.house.tied c.requires.follows
 
+pub enter-requires-clause-next : goal.enter-requires-clause-next
+enter-requires-clause-next c =
+    CanEnterMoney-tied c.args.entries.now.list c.args.tables.now c.args.entry c.requires.house.tied (record {
+      legal = c.requires.house.tied.legal;
+      follows = c.requires.follows;
+      told = c.requires.house.tied.funds_tell;
+    })
+
 pub returns-clause-house : goal.returns-clause-house
 returns-clause-house c =
     let some : 1 ≤ c.args.room.now = omega (arith, c.requires.fits.rows) in
     house_push c.args.entries.now c.push.new.self c.args.tables.now c.enter.new.self c.args.entry c.requires.follows
-    c.enter.ensures.told c.push.ensures.list c.push.ensures.spare c.enter.ensures.entered c.enter.ensures.last
-    c.enter.ensures.room
+    c.enter.ensures.told c.enter.ensures.funds c.push.ensures.list c.push.ensures.spare c.enter.ensures.entered
+    c.enter.ensures.last c.enter.ensures.room
     (c.args.room.now - 1) (house_one_more c.args.entries.now c.args.tables.now c.args.room.now some c.requires.house)
 
 pub returns-clause-room : goal.returns-clause-room

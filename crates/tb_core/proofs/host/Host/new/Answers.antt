@@ -9,7 +9,7 @@ pub invariant_of-result : goal.invariant_of-result
 invariant_of-result c = record {
   tied = subst (λ (h : List Entry). AreTied h c.new-3.result) (sym c.new-2.ensures.list)
       (AreTied-empty c.new-3.result c.new-3.ensures.roster c.new-3.ensures.auctions c.new-3.ensures.bids
-      c.new-3.ensures.shelf c.new-3.ensures.accounts c.new-3.ensures.last);
+      c.new-3.ensures.shelf c.new-3.ensures.accounts c.new-3.ensures.funds c.new-3.ensures.last);
   roomy = record {
     rows = record {
       submitters = omega arith;
@@ -27,6 +27,7 @@ invariant_of-result c = record {
       calendar = omega arith;
     };
     accounts = record { accounts = omega arith; marks = omega arith; redeems = omega arith };
+    money = record { balances = omega arith; offers = omega arith };
   };
   spare = omega arith;
   scratch = record {

@@ -6,7 +6,9 @@ use Rattle.tb_history.specs.OwnPart.{own_part}
 use Rattle.tb_history.specs.Answer.{query_refusal}
 use Rattle.tb_history.proofs.QueryLemmas.{query_refusal-own}
 use Rattle.tb_core.specs.Conserved.{IsConserved}
+use Rattle.tb_core.specs.Funded.{IsFunded}
 use Rattle.tb_core.proofs.ConservedLemmas.{IsConserved-legal}
+use Rattle.tb_core.proofs.FundedLemmas.{IsFunded-legal}
 use Rattle.tb_core.specs.House.{House}
 use Rattle.tb_core.proofs.AnswerLemmas.{IsReading-close, IsReading-own}
 use Rattle.tb_core.proofs.host.Host.read.Goals as goal
@@ -65,3 +67,18 @@ pub returns-in-Err-clause-conserved : goal.returns-in-Err-clause-conserved
 returns-in-Err-clause-conserved c =
     subst (λ (x : House). IsConserved x.history) c.self.view_is
     (IsConserved-legal c.self.inside.entries.list c.self.invariant.tied.legal)
+
+pub returns-in-Some-clause-funded : goal.returns-in-Some-clause-funded
+returns-in-Some-clause-funded c =
+    subst (λ (x : House). IsFunded x.history) c.self.view_is
+    (IsFunded-legal c.self.inside.entries.list c.self.invariant.tied.legal)
+
+pub returns-in-Ok-clause-funded : goal.returns-in-Ok-clause-funded
+returns-in-Ok-clause-funded c =
+    subst (λ (x : House). IsFunded x.history) c.self.view_is
+    (IsFunded-legal c.self.inside.entries.list c.self.invariant.tied.legal)
+
+pub returns-in-Err-clause-funded : goal.returns-in-Err-clause-funded
+returns-in-Err-clause-funded c =
+    subst (λ (x : House). IsFunded x.history) c.self.view_is
+    (IsFunded-legal c.self.inside.entries.list c.self.invariant.tied.legal)

@@ -5,7 +5,7 @@ use Rattle.tb_message.specs.Kinds.{party_of}
 use Rattle.tb_message.specs.Messages.{kind_of}
 use Rattle.tb_terms.specs.Rows.{refusal_in}
 use Rattle.tb_history.specs.Tables.{rows_of}
-use Rattle.tb_history.proofs.ToldLemmas.{sender-registered}
+use Rattle.tb_history.proofs.AcceptedLemmas.{sender-registered}
 use Rattle.tb_core.proofs.host.Host.refusal.Goals as goal
 
 pub returns-in-Announce : goal.returns-in-Announce
@@ -73,3 +73,33 @@ returns-in-AddOn c =
     c.add_on.ensures c.args.sender.now
     ∙ ap (λ (m : Message). refusal_in (rows_of c.args.self.now.history c.args.sender.now c.args.moment m))
     (sym c.in-AddOn.is)
+
+pub returns-in-Deposit : goal.returns-in-Deposit
+returns-in-Deposit c =
+    c.deposit.ensures c.args.sender.now c.args.moment c.in-Deposit.cents
+    ∙ ap (λ (m : Message). refusal_in (rows_of c.args.self.now.history c.args.sender.now c.args.moment m))
+    (sym c.in-Deposit.is)
+
+pub returns-in-Withdraw : goal.returns-in-Withdraw
+returns-in-Withdraw c =
+    c.withdraw.ensures c.args.sender.now c.args.moment
+    ∙ ap (λ (m : Message). refusal_in (rows_of c.args.self.now.history c.args.sender.now c.args.moment m))
+    (sym c.in-Withdraw.is)
+
+pub returns-in-Sell : goal.returns-in-Sell
+returns-in-Sell c =
+    c.sell.ensures c.in-Sell.price
+    ∙ ap (λ (m : Message). refusal_in (rows_of c.args.self.now.history c.args.sender.now c.args.moment m))
+    (sym c.in-Sell.is)
+
+pub returns-in-Buy : goal.returns-in-Buy
+returns-in-Buy c =
+    c.buy.ensures
+    ∙ ap (λ (m : Message). refusal_in (rows_of c.args.self.now.history c.args.sender.now c.args.moment m))
+    (sym c.in-Buy.is)
+
+pub returns-in-Retract : goal.returns-in-Retract
+returns-in-Retract c =
+    c.retract.ensures c.args.moment
+    ∙ ap (λ (m : Message). refusal_in (rows_of c.args.self.now.history c.args.sender.now c.args.moment m))
+    (sym c.in-Retract.is)

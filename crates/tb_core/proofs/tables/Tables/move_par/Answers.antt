@@ -3,6 +3,7 @@ use Rattle.std.proofs.Common.{◌≡◌, false, Option, refl, rules, sym, subst,
 use Rattle.tb_message.specs.declared.message.Message.{Message}
 use Rattle.tb_movements.specs.Movements.{Movement}
 use Rattle.tb_ledger.specs.Accounting.{TellsNext}
+use Rattle.tb_history.specs.Trades.{is_purchase}
 use Rattle.tb_core.specs.Crediting.{movement_in}
 use Rattle.tb_tables.specs.Kinds.{settles}
 use Rattle.tb_core.proofs.EnterLemmas.{moves-plain}
@@ -13,6 +14,12 @@ returns-in-Settle-clause-told c =
     subst (λ (m : Message). TellsNext (movement_in c.args.self.now c.args.sender.now c.args.number m)
     c.args.self.now.accounts
     c.settle.new.self.accounts) (sym c.in-Settle.is) c.settle.ensures.told
+
+pub returns-in-Buy-clause-told : goal.returns-in-Buy-clause-told
+returns-in-Buy-clause-told c =
+    subst (λ (m : Message). TellsNext (movement_in c.args.self.now c.args.sender.now c.args.number m)
+    c.args.self.now.accounts
+    c.sell.new.self.accounts) (sym c.in-Buy.is) c.sell.ensures.told
 
 pub returns-in_default-clause-keeps : goal.returns-in_default-clause-keeps
 returns-in_default-clause-keeps c = record {
@@ -29,8 +36,10 @@ returns-in_default-clause-keeps c = record {
 pub returns-in_default-clause-told : goal.returns-in_default-clause-told
 returns-in_default-clause-told c =
     let plain : settles c.args.message.now ≡ false = search rules in
+    let unbought : is_purchase c.args.message.now ≡ false = search rules in
     subst (λ (next : Option Movement). TellsNext next c.args.self.now.accounts c.account.new.accounts)
-    (moves-plain c.args.self.now c.args.sender.now c.args.number c.args.message.now plain) c.account.ensures.told
+    (moves-plain c.args.self.now c.args.sender.now c.args.number c.args.message.now plain unbought)
+    c.account.ensures.told
 
 pub returns-in_default-clause-room : goal.returns-in_default-clause-room
 returns-in_default-clause-room c = record {

@@ -15,3 +15,6 @@ returns-clause-leaves g c =
     rw (c.into_disk.ensures.disk, ← c.self.view_is)
     (Stands-leaves (g.D.Disk.disk inside.journal.disk) inside.journal.gate inside.journal.doubt inside.host.history
     inside.doubt.items c.self.invariant.0.stands)
+
+pub returns-clause-counted : goal.returns-clause-counted
+returns-clause-counted g c = rw (c.into_disk.ensures.disk, ← c.self.view_is) c.self.invariant.0.counted
