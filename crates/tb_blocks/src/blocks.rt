@@ -71,8 +71,8 @@ impl<T: Drop> Blocks<T> {
         }
     }
 
-    /// Makes so many adds sure. No other call takes memory, and this one takes the least that the adds can need: a list
-    /// of one block grows as a vector does, a longer one takes the fewest blocks.
+    /// Makes so many adds sure. No other call takes memory: a list of one block grows as a vector does, a longer one
+    /// takes the fewest blocks that the adds can need, or one for each of them where it has as many.
     pub fn reserve(&mut self, more: usize) -> Result<(), AllocError>
         ensures spare { OnOk result (more ≤ self.new.spare) }
         // Where the room is there already it succeeds.

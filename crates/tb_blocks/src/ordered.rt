@@ -54,7 +54,7 @@ impl<T: Keyed + Drop> Ordered<T> {
         self.list.spare()
     }
 
-    /// Makes so many adds sure. No other call takes memory, and this one takes the least that the adds can need.
+    /// Makes so many adds sure. No other call takes memory.
     pub fn reserve(&mut self, more: usize) -> Result<(), AllocError>
         ensures spare { OnOk result (more ≤ self.new.spare) }
         // Where the room is there already it succeeds.

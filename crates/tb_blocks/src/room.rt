@@ -42,7 +42,7 @@ pub fn fill<T: Drop>(
     Ok(())
 }
 
-/// The pace at which the adds need the fewest blocks.
+/// The pace at which the adds need the fewest blocks, or one each where the list has as many.
 pub fn pace_for<T: Drop>(rows: &Rows<T>, free: usize, more: usize) -> usize
     ensures { IsPace result }
 {
@@ -53,6 +53,10 @@ pub fn pace_for<T: Drop>(rows: &Rows<T>, free: usize, more: usize) -> usize
     if more == 1 {
         // No block is full, so that one add splits none.
         return 2;
+    }
+    if more <= rows.blocks.len() {
+        // A block for each add at most doubles the list, and no block is walked.
+        return 1;
     }
     best_pace(&rows.blocks, more)
 }

@@ -86,13 +86,15 @@ impl<T: Drop> Rows<T> {
             → place < before (result + 1) self.now.blocks.items }
     {
         let (mut low, mut high) = (0, self.blocks.len());
+        // The last block is looked at first: elements often go in behind all others.
+        let mut middle = high - 1;
         while high - low > 1 {
-            let middle = low + (high - low) / 2;
             if self.start(middle) <= place {
                 low = middle;
             } else {
                 high = middle;
             }
+            middle = low + (high - low) / 2;
         }
         low
     }

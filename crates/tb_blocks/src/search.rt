@@ -36,13 +36,15 @@ pub fn place_in<T: Keyed>(elements: &[T], key: &T::Key) -> usize
     ensures place { PartsAt T.Key.cmp T.key_of key.now elements.now result }
 {
     let (mut low, mut high) = (0, elements.len());
+    // The last one is looked at first: elements often come in the order of their keys.
+    let mut middle = high.saturating_sub(1);
     while low < high {
-        let middle = low + (high - low) / 2;
         if is_below(&elements[middle], key) {
             low = middle + 1;
         } else {
             high = middle;
         }
+        middle = low + (high - low) / 2;
     }
     low
 }
@@ -57,13 +59,14 @@ impl<T: Keyed + Drop> Rows<T> {
         ensures place { PartsAt T.Key.cmp T.key_of key.now (joined self.now.blocks.items) result }
     {
         let (mut low, mut high) = (0, self.blocks.len());
+        let mut middle = high - 1;
         while high - low > 1 {
-            let middle = low + (high - low) / 2;
             if is_below(self.blocks[middle].at(0), key) {
                 low = middle;
             } else {
                 high = middle;
             }
+            middle = low + (high - low) / 2;
         }
         self.start(low) + place_in(self.blocks[low].elements(), key)
     }

@@ -1,3 +1,4 @@
+pub mod KeyLemmas
 pub mod AddedLemmas
 pub mod FindLemmas
 pub mod CalendarLemmas

@@ -28,7 +28,7 @@ const MOST_BIDS: usize = 1000;
 pub fn find_bid(bids: &Bids, submitter: &Ident, auction: &Ident, number: u64) -> Option<Bid>
     ensures { result ≡ bid_of bids.now.list submitter.now auction.now number }
 {
-    bids.keyed().get(&(*submitter, *auction, number)).copied()
+    bids.keyed().get(&(number, *submitter, *auction)).copied()
 }
 
 /// The submitter's accepted bids in the auction, in the order of acceptance.
@@ -49,7 +49,7 @@ pub fn bids_from(
 pub fn has_cancel(cancels: &Cancels, submitter: &Ident, auction: &Ident, number: u64) -> bool
     ensures { result ≡ standing.is_cancelled cancels.now.list submitter.now auction.now number }
 {
-    cancels.has(&(*submitter, *auction, number))
+    cancels.has(&(number, *submitter, *auction))
 }
 
 /// Whether no cancel of the bid stands.
@@ -63,7 +63,7 @@ pub fn is_live(cancels: &Cancels, bid: &Bid) -> bool
 pub fn few_bids(bids: &Bids, auction: &Ident, bidder: &Ident) -> u32
     ensures { result ≡ min 1000 (length (bids_of bids.now.list auction.now bidder.now)) }
 {
-    let count = bids.count(&(*auction, *bidder));
+    let count = bids.count(&(*bidder, *auction));
     if count < MOST_BIDS {
         return count as u32;
     }
@@ -74,14 +74,14 @@ pub fn few_bids(bids: &Bids, auction: &Ident, bidder: &Ident) -> u32
 pub fn has_report(reports: &Reports, auction: &Ident, bidder: &Ident) -> bool
     ensures { result ≡ standing.has_report reports.now.list auction.now bidder.now }
 {
-    reports.has(&(*auction, *bidder))
+    reports.has(&(*bidder, *auction))
 }
 
 /// The bidder's reported position in the auction, in whole dollars: that of its last report, and 0 where there is none.
 pub fn position_of(reports: &Reports, auction: &Ident, bidder: &Ident) -> i64
     ensures { result ≡ standing.position_of reports.now.list auction.now bidder.now }
 {
-    match reports.last(&(*auction, *bidder)) {
+    match reports.last(&(*bidder, *auction)) {
         Some(report) => report.position,
         None => 0,
     }

@@ -15,7 +15,7 @@ pub type Entries = Counted<Entry, ByNumber, BySubmitter>;
 pub fn find_kept(entries: &Entries, submitter: &Ident, number: u64) -> Option<Entry>
     ensures { result ≡ kept entries.now.list submitter.now number }
 {
-    entries.keyed().get(&(*submitter, number)).copied()
+    entries.keyed().get(&(number, *submitter)).copied()
 }
 
 /// How many messages of the submitter are accepted.

@@ -11,13 +11,14 @@ pub struct ByName;
 /// By a submitter's key.
 pub struct ByKey;
 
-/// By a submitter and the number of its message; a bid and its cancel by the auction too.
+/// By the number of a message and its submitter; a bid and its cancel by the auction too. The number comes first, since
+/// few submitters have the same, and a comparison ends there.
 pub struct ByNumber;
 
 /// By the submitter.
 pub struct BySubmitter;
 
-/// By an auction and a bidder in it.
+/// By a bidder and the auction that it bids in.
 pub struct ByBidder;
 
 /// By the submitter and the auction of a bid.
@@ -120,12 +121,12 @@ impl KeyOf<Day> for ByDay {
 }
 
 impl KeyOf<Entry> for ByNumber {
-    type Key = (Ident, u64);
+    type Key = (u64, Ident);
 
-    ghost key_of = { λ entry. (entry.submitter, entry.number) };
+    ghost key_of = { λ entry. (entry.number, entry.submitter) };
 
-    fn key_of(entry: &Entry) -> (Ident, u64) {
-        (entry.submitter, entry.number)
+    fn key_of(entry: &Entry) -> (u64, Ident) {
+        (entry.number, entry.submitter)
     }
 }
 
@@ -140,22 +141,22 @@ impl KeyOf<Entry> for BySubmitter {
 }
 
 impl KeyOf<Bid> for ByNumber {
-    type Key = (Ident, Ident, u64);
+    type Key = (u64, Ident, Ident);
 
-    ghost key_of = { λ bid. (bid.submitter, bid.auction, bid.number) };
+    ghost key_of = { λ bid. (bid.number, bid.submitter, bid.auction) };
 
-    fn key_of(bid: &Bid) -> (Ident, Ident, u64) {
-        (bid.submitter, bid.auction, bid.number)
+    fn key_of(bid: &Bid) -> (u64, Ident, Ident) {
+        (bid.number, bid.submitter, bid.auction)
     }
 }
 
 impl KeyOf<Bid> for ByBidder {
     type Key = (Ident, Ident);
 
-    ghost key_of = { λ bid. (bid.auction, bid.bidder) };
+    ghost key_of = { λ bid. (bid.bidder, bid.auction) };
 
     fn key_of(bid: &Bid) -> (Ident, Ident) {
-        (bid.auction, bid.bidder)
+        (bid.bidder, bid.auction)
     }
 }
 
@@ -170,21 +171,21 @@ impl KeyOf<Bid> for BySender {
 }
 
 impl KeyOf<Cancel> for ByNumber {
-    type Key = (Ident, Ident, u64);
+    type Key = (u64, Ident, Ident);
 
-    ghost key_of = { λ cancel. (cancel.submitter, cancel.auction, cancel.bid) };
+    ghost key_of = { λ cancel. (cancel.bid, cancel.submitter, cancel.auction) };
 
-    fn key_of(cancel: &Cancel) -> (Ident, Ident, u64) {
-        (cancel.submitter, cancel.auction, cancel.bid)
+    fn key_of(cancel: &Cancel) -> (u64, Ident, Ident) {
+        (cancel.bid, cancel.submitter, cancel.auction)
     }
 }
 
 impl KeyOf<Report> for ByBidder {
     type Key = (Ident, Ident);
 
-    ghost key_of = { λ report. (report.auction, report.bidder) };
+    ghost key_of = { λ report. (report.bidder, report.auction) };
 
     fn key_of(report: &Report) -> (Ident, Ident) {
-        (report.auction, report.bidder)
+        (report.bidder, report.auction)
     }
 }

@@ -7,11 +7,13 @@ use Rattle.tb_blocks.proofs.CountsLemmas.{joined-fits}
 use Rattle.tb_blocks.proofs.RowsLemmas.{block-is}
 use Rattle.tb_blocks.proofs.SearchLemmas.{all-before, none-behind, first-of-block, first-within, partition-block}
 use Rattle.tb_blocks.proofs.rows.Rows.place_of.Goals as goal
+use Rattle.tb_blocks.proofs.rows.Rows.place_of.Goals.{then-is_below, else-is_below}
 
 pub loop-high-init : goal.loop-high-init
 loop-high-init g c =
     record {
       some = omega (arith, c.len-high.ensures, c.requires.some);
+      looked = λ several. (omega (arith, several), omega (arith, c.len-high.ensures, c.requires.some));
       within = omega (arith, c.len-high.ensures);
       halves = λ ordered. (
         λ k d from to. absurd (omega arith),
@@ -24,48 +26,40 @@ loop-high-init g c =
       );
     }
 
-pub loop-high-preserved-then-is_below : goal.loop-high-preserved-then-is_below
-loop-high-preserved-then-is_below g c =
-    let i = c.loop-high.invariant in
-    let blocks = c.args.self.now.blocks.items in
-    let middle = c.loop-high.low + (c.loop-high.high - c.loop-high.low) / 2 in
-    let short : middle < length blocks = omega (arith, i.some, i.within, c.loop-high-test.true) in
-    let here : 0 < length (get_or blocks middle []) =
-    c.requires.filled middle short (omega (arith, i.some, i.within, c.loop-high-test.true)) in
-    let x = c.at.result.now in
-    let block_is = block-is blocks middle c.index.result.now short c.index.ensures in
-    let is = first-of-block blocks middle x short here (c.at.ensures ∙ ap (λ b. get_or b 0 x) block_is) in
-    record {
-      some = omega (arith, i.some, c.loop-high-test.true);
-      within = i.within;
-      halves = λ ordered.
-          let all = all-before (is_below g.T.Key.Ord.cmp g.T.Keyed.key_of c.args.key.now) (joined blocks)
-          (before middle blocks) x ordered (first-within blocks middle short here) is (sym c.if-is_below.ensures)
-          in
-          (λ k d from to. all k d from (omega arith), (i.halves ordered).1);
-    }
-
 pub loop-high-preserved : goal.loop-high-preserved
 loop-high-preserved g c =
     let i = c.loop-high.invariant in
     let blocks = c.args.self.now.blocks.items in
-    let middle = c.loop-high.low + (c.loop-high.high - c.loop-high.low) / 2 in
-    let short : middle < length blocks = omega (arith, i.some, i.within, c.loop-high-test.true) in
+    let middle = c.loop-high.middle in
+    let looked = i.looked (omega (arith, c.loop-high-test.true)) in
+    let short : middle < length blocks = omega (arith, i.within, looked.1) in
     let here : 0 < length (get_or blocks middle []) =
-    c.requires.filled middle short (omega (arith, i.some, i.within, c.loop-high-test.true)) in
+    c.requires.filled middle short (omega (arith, i.within, looked.0, looked.1)) in
     let x = c.at.result.now in
     let block_is = block-is blocks middle c.index.result.now short c.index.ensures in
     let is = first-of-block blocks middle x short here (c.at.ensures ∙ ap (λ b. get_or b 0 x) block_is) in
-    record {
-      some = omega (arith, i.some, c.loop-high-test.true);
-      within = omega (arith, short);
-      halves = λ ordered. (
-        (i.halves ordered).0,
-        none-behind (is_below g.T.Key.Ord.cmp g.T.Keyed.key_of c.args.key.now)
-            (joined blocks) (before middle blocks) x ordered (first-within blocks middle short here) is
-            (sym c.if-is_below.ensures),
-      );
-    }
+    let within = first-within blocks middle short here in
+    elim c.if-is_below.branch [
+      | then-is_below w ↦ rw (w.low-is, w.high-is) record {
+        some = omega (arith, looked.1);
+        looked = λ several. (omega (arith, several), omega (arith, several));
+        within = i.within;
+        halves = λ ordered.
+            let all = all-before (is_below g.T.Key.Ord.cmp g.T.Keyed.key_of c.args.key.now) (joined blocks)
+            (before middle blocks) x ordered within is (sym w.if-is_below.ensures) in
+            (λ k d from to. all k d from (omega arith), (i.halves ordered).1);
+      }
+      | else-is_below w ↦ rw (w.low-is, w.high-is) record {
+        some = omega (arith, looked.0);
+        looked = λ several. (omega (arith, several), omega (arith, several));
+        within = omega (arith, short);
+        halves = λ ordered. (
+          (i.halves ordered).0,
+          none-behind (is_below g.T.Key.Ord.cmp g.T.Keyed.key_of c.args.key.now)
+              (joined blocks) (before middle blocks) x ordered within is (sym w.if-is_below.ensures),
+        );
+      }
+    ]
 
 pub returns-clause-within : goal.returns-clause-within
 returns-clause-within g c =

@@ -9,6 +9,7 @@ use Rattle.tb_blocks.proofs.rows.Rows.place_of.Given as goal
 abbrev pub invariant-loop-high : goal.invariant-loop-high
 invariant-loop-high g l = record {
   some : l.low < l.high;
+  looked : 1 < l.high - l.low → (l.low < l.middle) × (l.middle < l.high);
   within : l.high ≤ length l.self.blocks.items;
   halves : IsPartitionedBy (is_below g.T.Key.Ord.cmp g.T.Keyed.key_of l.key) (joined l.self.blocks.items)
       → AllWithin (λ element. is_below g.T.Key.Ord.cmp g.T.Keyed.key_of l.key element ≡ true)

@@ -1,0 +1,9 @@
+-- What is told of a bidder's rows, whichever of the bidder and the auction is asked first.
+use Rattle.std.proofs.Common.{◌≡◌, ◌&&◌, Bool, true, false, refl}
+
+-- both hold, whichever is asked first
+pub and-swap : (one other : Bool) → (one && other) ≡ (other && one)
+and-swap true true = refl
+and-swap true false = refl
+and-swap false true = refl
+and-swap false false = refl
