@@ -197,6 +197,15 @@ EndsWith turns end.WriteFault last rest due tail =
 EndsWith turns end.OutOfMemory last rest due tail =
     (due ≡ no_memory) × (((last ≡ []) × HoldsNone rest) ⊎ ((e : Exchange) × (last ≡ e ∷ []) × MayLack e.said))
 
+-- with so many requests before the last one: no whole request is left, or the last one's reply closes
+abbrev pub LeavesNone : ℕ → List Exchange → List ℕ → Type 0
+LeavesNone turns last rest =
+    ((last ≡ []) × HoldsNone rest) ⊎ ((e : Exchange) × (last ≡ e ∷ []) × (closes_at turns e.request ≡ true))
+
+-- all requests that came are answered: what was due at the end is written whole, and none is left
+abbrev pub AnswersAll : ℕ → Session → Type 0
+AnswersAll turns s = (s.tail ≡ s.due) × LeavesNone (turns + length s.exchanges) s.last s.rest
+
 -- the input ended
 abbrev pub IsEndOfInput : End → Type 0
 IsEndOfInput ended = (ended ≡ end.EndOfInput) ⊎ (ended ≡ end.CutShort)

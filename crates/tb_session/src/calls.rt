@@ -1,7 +1,7 @@
 //! Calls of the room.
-ghost use Rattle.std.specs.Prelude.{◌≡◌, ◌≤◌, ◌↔◌, Some, None, IsTrue, IsSome};
+ghost use Rattle.std.specs.Prelude.{◌≡◌, ◌≢◌, ◌≤◌, ◌↔◌, Some, None, IsTrue, IsSome};
 ghost use Rattle.tb_units.specs.declared.moment.Moment.{Moment};
-ghost use Rattle.tb_link.specs.Counts.{last_count};
+ghost use Rattle.tb_link.specs.Counts.{NeverFalls, Rose, last_count};
 ghost use Rattle.tb_message.specs.declared.message.Entry.{Entry};
 ghost use Rattle.tb_message.specs.Spelling.{IsNumbered};
 ghost use Rattle.tb_history.specs.Legal.{IsLegal, running};
@@ -44,6 +44,13 @@ impl<D: Disk, C: Clock> Room<D, C> {
             × Calls D.disk C.clock self.old self.new c result }
         ensures lacked { result ≡ answer.OutOfMemory → LeavesDesk self.old self.new }
         ensures unknown { TellsUnknown (caller_on self.old.operator self.old.desk.host.history key.now) result }
+        ensures unasked { caller_on self.old.operator self.old.desk.host.history key.now ≡ None
+            → self.new.desk ≡ self.old.desk }
+        ensures fault { result ≡ answer.DiskFault → Rose (D.disk self.old.desk.disk).faults
+            (D.disk self.new.desk.disk).faults }
+        ensures no_fault { result ≢ answer.DiskFault → (D.disk self.new.desk.disk).faults
+            ≡ (D.disk self.old.desk.disk).faults }
+        ensures count { NeverFalls (D.disk self.old.desk.disk).faults (D.disk self.new.desk.disk).faults }
     {
         let Turn {
             called: _,
@@ -59,6 +66,7 @@ impl<D: Disk, C: Clock> Room<D, C> {
             × Calls D.disk C.clock self.old self.new c result }
         ensures same { self.new ≡ self.old }
         ensures unknown { TellsUnknown (caller_on self.old.operator self.old.desk.host.history key.now) result }
+        ensures no_fault { result ≢ answer.DiskFault }
     {
         let Turn {
             called: _,
@@ -142,6 +150,13 @@ impl<D: Disk, C: Clock> Room<D, C> {
         ensures printable { CanBeTold result.1 }
         ensures lacked { result.1 ≡ answer.OutOfMemory → LeavesDesk self.old self.new }
         ensures unknown { TellsUnknown (caller_on self.old.operator self.old.desk.host.history key.now) result.1 }
+        ensures unasked { caller_on self.old.operator self.old.desk.host.history key.now ≡ None
+            → self.new.desk ≡ self.old.desk }
+        ensures fault { result.1 ≡ answer.DiskFault → Rose (D.disk self.old.desk.disk).faults
+            (D.disk self.new.desk.disk).faults }
+        ensures no_fault { result.1 ≢ answer.DiskFault → (D.disk self.new.desk.disk).faults
+            ≡ (D.disk self.old.desk.disk).faults }
+        ensures count { NeverFalls (D.disk self.old.desk.disk).faults (D.disk self.new.desk.disk).faults }
     {
         self.know_desk();
         let Some(caller) = self.caller(key) else {
@@ -172,6 +187,13 @@ impl<D: Disk, C: Clock> Room<D, C> {
         ensures asked { (result.called.key ≡ key.now) × (result.called.ask ≡ ask.Message number message.now) }
         ensures lacked { result.answer ≡ answer.OutOfMemory → LeavesDesk self.old self.new }
         ensures unknown { TellsUnknown (caller_on self.old.operator self.old.desk.host.history key.now) result.answer }
+        ensures unasked { caller_on self.old.operator self.old.desk.host.history key.now ≡ None
+            → self.new.desk ≡ self.old.desk }
+        ensures fault { result.answer ≡ answer.DiskFault → Rose (D.disk self.old.desk.disk).faults
+            (D.disk self.new.desk.disk).faults }
+        ensures no_fault { result.answer ≢ answer.DiskFault → (D.disk self.new.desk.disk).faults
+            ≡ (D.disk self.old.desk.disk).faults }
+        ensures count { NeverFalls (D.disk self.old.desk.disk).faults (D.disk self.new.desk.disk).faults }
     {
         let moment = self.clock.now();
         let (outcome, answer) = self.submit_at(key, number, moment, message);
@@ -196,6 +218,7 @@ impl<D: Disk, C: Clock> Room<D, C> {
             (D.disk self.now.desk.disk) }
         ensures printable { CanBeTold result.1 }
         ensures unknown { TellsUnknown (caller_on self.now.operator self.now.desk.host.history key.now) result.1 }
+        ensures no_fault { result.1 ≢ answer.DiskFault }
     {
         // What a legal history tells can be printed.
         self.know_desk();
@@ -215,6 +238,7 @@ impl<D: Disk, C: Clock> Room<D, C> {
         ensures before { result.before ≡ before_of result.called.outcome self.now.desk.host.history }
         ensures asked { (result.called.key ≡ key.now) × (result.called.ask ≡ ask.Query query.now) }
         ensures unknown { TellsUnknown (caller_on self.now.operator self.now.desk.host.history key.now) result.answer }
+        ensures no_fault { result.answer ≢ answer.DiskFault }
     {
         let (outcome, answer) = self.tell(alloc, key, query);
         let called = Called {

@@ -1,8 +1,9 @@
 //! Groups of bids under one gate.
-ghost use Rattle.std.specs.Prelude.{◌≡◌, ◌≤◌, ◌-◌, ◌++◌, List, length, map, replicate, Some, None};
+ghost use Rattle.std.specs.Prelude.{◌≡◌, ◌≢◌, ◌≤◌, ◌-◌, ◌++◌, List, length, map, replicate, Some, None};
 ghost use Rattle.tb_terms.specs.declared.refusal.Refusal.TheVariants as refusal;
 ghost use Rattle.tb_message.specs.declared.verdict.Verdict.TheVariants as verdict;
 ghost use Rattle.tb_units.specs.declared.moment.Moment.{Moment};
+ghost use Rattle.tb_link.specs.Counts.{NeverFalls, Rose};
 ghost use Rattle.tb_desk.specs.Desks.{held};
 ghost use Rattle.tb_desk.specs.Stands.{CrashesLeave};
 ghost use Rattle.tb_desk.specs.Turn.{AreBids, AreNumbered, IsOneOf};
@@ -74,6 +75,13 @@ impl<D: Disk, C: Clock> Room<D, C> {
             × TellsGroup result verdicts.new (said_in replied)
             × TellUnknown (caller_on self.old.operator self.old.desk.host.history key.now) replied }
         ensures lacked { result ≡ group.OutOfMemory → LeavesDesk self.old self.new }
+        ensures unasked { caller_on self.old.operator self.old.desk.host.history key.now ≡ None
+            → self.new.desk ≡ self.old.desk }
+        ensures fault { result ≡ group.DiskFault → Rose (D.disk self.old.desk.disk).faults
+            (D.disk self.new.desk.disk).faults }
+        ensures no_fault { result ≢ group.DiskFault → (D.disk self.new.desk.disk).faults
+            ≡ (D.disk self.old.desk.disk).faults }
+        ensures count { NeverFalls (D.disk self.old.desk.disk).faults (D.disk self.new.desk.disk).faults }
     {
         let (_moment, came) = self.group(key, messages, verdicts);
         group_answer(came)
@@ -102,6 +110,13 @@ impl<D: Disk, C: Clock> Room<D, C> {
             (said_in (replied_by key.now moment result messages.now verdicts.new)) }
         ensures unknown { TellUnknown (caller_on self.old.operator self.old.desk.host.history key.now)
             (replied_by key.now moment result messages.now verdicts.new) }
+        ensures unasked { caller_on self.old.operator self.old.desk.host.history key.now ≡ None
+            → self.new.desk ≡ self.old.desk }
+        ensures fault { spec.answer_of result ≡ group.DiskFault → Rose (D.disk self.old.desk.disk).faults
+            (D.disk self.new.desk.disk).faults }
+        ensures no_fault { spec.answer_of result ≢ group.DiskFault → (D.disk self.new.desk.disk).faults
+            ≡ (D.disk self.old.desk.disk).faults }
+        ensures count { NeverFalls (D.disk self.old.desk.disk).faults (D.disk self.new.desk.disk).faults }
     {
         self.know_desk();
         let Some(caller) = self.caller(key) else {
@@ -136,6 +151,13 @@ impl<D: Disk, C: Clock> Room<D, C> {
             (said_in (replied_by key.now result.0 result.1 messages.now verdicts.new)) }
         ensures unknown { TellUnknown (caller_on self.old.operator self.old.desk.host.history key.now)
             (replied_by key.now result.0 result.1 messages.now verdicts.new) }
+        ensures unasked { caller_on self.old.operator self.old.desk.host.history key.now ≡ None
+            → self.new.desk ≡ self.old.desk }
+        ensures fault { spec.answer_of result.1 ≡ group.DiskFault → Rose (D.disk self.old.desk.disk).faults
+            (D.disk self.new.desk.disk).faults }
+        ensures no_fault { spec.answer_of result.1 ≢ group.DiskFault → (D.disk self.new.desk.disk).faults
+            ≡ (D.disk self.old.desk.disk).faults }
+        ensures count { NeverFalls (D.disk self.old.desk.disk).faults (D.disk self.new.desk.disk).faults }
     {
         let moment = self.clock.now();
         let came = self.group_at(key, moment, messages, verdicts);

@@ -1,7 +1,7 @@
 //! Laws of sessions and of the numbers that stand for calls and histories under the lock. Each is the contract of a
 //! function that does nothing.
 ghost use Rattle.std.specs.Prelude.{◌≡◌, ℕ, ◌++◌, ◌-◌, ◌≤◌, ◌⊎◌, Bool, List, [], Option, All, count_by};
-ghost use Rattle.tb_link.specs.Counts.{last_count};
+ghost use Rattle.tb_link.specs.Counts.{Rose, last_count};
 ghost use Rattle.tb_disk.specs.Past.{Past};
 ghost use Rattle.tb_message.specs.declared.message.Entry.{Entry};
 ghost use Rattle.tb_message.specs.Spelling.{IsInRange};
@@ -10,6 +10,7 @@ ghost use Rattle.tb_lock.specs.declared.view.View.{View};
 ghost use Rattle.tb_lock.specs.Turns.{IsTaken};
 ghost use Rattle.tb_session.specs.declared.answer.Answer.{Answer};
 ghost use Rattle.tb_session.specs.declared.called.Called.{Called};
+ghost use Rattle.tb_session.specs.declared.end.End.TheVariants as end;
 ghost use Rattle.tb_session.specs.declared.room.Room.{Room};
 ghost use Rattle.tb_gates.specs.Links.{LinkState};
 ghost use Rattle.tb_wire.specs.Cuts.{Cuts, HoldsNone};
@@ -23,7 +24,7 @@ ghost use Rattle.tb_message.specs.declared.key.Key.{Key};
 ghost use Rattle.tb_message.specs.declared.message.Message.{Message};
 ghost use Rattle.tb_units.specs.declared.moment.Moment.{Moment};
 ghost use Rattle.tb_session.specs.Serve.{AreCutInto, ServesAll, some_met};
-ghost use Rattle.tb_session.specs.Session.{IsSession, Session, requests_in};
+ghost use Rattle.tb_session.specs.Session.{AnswersAll, IsSession, Session, requests_in};
 
 use tb_disk::Disk;
 use tb_gates::{Clock, Gate};
@@ -42,13 +43,20 @@ pub fn one_code()
 {}
 
 /// The requests that a link served are cut from the bytes read, one after the other; and where it ended without a last
-/// request, no whole one is left. It does nothing.
+/// request, no whole one is left. Unless memory ran out, or a read or a write of the link failed, all requests that came
+/// were answered: what was due is written whole, and the link ended where no whole request is left, or at one whose
+/// reply closes. It does nothing.
 pub fn all_served()
     ensures cut { (fixed : List ℕ) (turns : ℕ) (waiting : List ℕ) (old new : LinkState) (session : Session)
         → IsSession fixed turns waiting old new session
         → Cuts (requests_in (session.exchanges ++ session.last)) (waiting ++ session.read) session.rest }
     ensures left { (fixed : List ℕ) (turns : ℕ) (waiting : List ℕ) (old new : LinkState) (session : Session)
         → IsSession fixed turns waiting old new session → session.last ≡ [] → HoldsNone session.rest }
+    ensures answered { (fixed : List ℕ) (turns : ℕ) (waiting : List ℕ) (old new : LinkState) (session : Session)
+        → IsSession fixed turns waiting old new session
+        → (session.ended ≡ end.OutOfMemory)
+        ⊎ (Rose old.source.faults new.source.faults
+        ⊎ (Rose old.sink.faults new.sink.faults ⊎ AnswersAll turns session)) }
 {}
 
 /// A crash at the take of a turn leaves a history that begins with what the pass had seen, and so does each crash while
