@@ -42,6 +42,11 @@ FIELDS = {
     13: [NAME, 8, 8],
     14: [9],
     15: [NAME, NAME, 8],
+    16: [NAME, 8],
+    17: [NAME, 8],
+    18: [9, NAME, 8, 8],
+    19: [NAME, 8],
+    20: [8],
 }
 Entry = collections.namedtuple("Entry", "sender number record")
 Ended = collections.namedtuple("Ended", "status out err met")
