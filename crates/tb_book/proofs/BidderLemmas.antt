@@ -74,6 +74,17 @@ total-only kind bidder (entry ∷ bidders) (suc place) d apart within same =
           (AllPairs-tail (λ one other. ¬ (one.bidder ≡ other.bidder)) entry bidders apart) (omega (arith, within)) same,
     )
 
+-- so it is where the entry that stands at the bidder's place was read
+pub total-at : (kind : Bidder → ℕ) (bidder : ℕ) (bidders : List Bidder) (place : ℕ) (entry : Bidder)
+    → AreOfBidders bidders
+    → HasKeyAt nat_cmp (λ (other : Bidder). other.bidder) bidder bidders place
+    → entry ≡ get_or bidders place entry
+    → kind entry ≡ total_of kind bidder bidders
+total-at kind bidder bidders place entry apart there is =
+    ap kind is
+    ∙ sym (total-only kind bidder bidders place entry apart there.within
+    (nat-equal (get_or bidders place entry).bidder bidder (there.same entry)))
+
 -- so where no entry has the bidder's key
 pub total-missing : (kind : Bidder → ℕ) (bidder : ℕ) (bidders : List Bidder)
     → ¬ (HasKey nat_cmp (λ (entry : Bidder). entry.bidder) bidder bidders)

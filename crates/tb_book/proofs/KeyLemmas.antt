@@ -1,4 +1,4 @@
--- What the order of keys says of lines, of bids and of bidders.
+-- What the order of keys says of lines and of bidders.
 use Rattle.std.proofs.Common.{◌≡◌, ℕ, ◌<◌, ◌⊎◌, true, false, Option, Some, None, is_some, List, get_or, AllPairs, Ordering, inl, inr, refl, ap, sym, ◌∙◌, arith}
 use Rattle.std.specs.Ordering.{nat_cmp, ordering_then, is_lt, is_gt}
 use Rattle.std.specs.declared.cmp.Ordering.TheVariants.{Less, Equal, Greater}
@@ -8,7 +8,6 @@ use Rattle.tb_units.specs.Same.{same_rate}
 use Rattle.tb_units.proofs.OrderLemmas.{nat-less, nat-equal, less-nat, equal-nat}
 use Rattle.tb_units.specs.declared.rate.Rate.{Rate}
 use Rattle.tb_book.specs.declared.book_line.BookLine.{BookLine}
-use Rattle.tb_book.specs.declared.bid.Bid.{Bid}
 use Rattle.tb_book.specs.declared.bidder.Bidder.{Bidder}
 use Rattle.tb_book.specs.Books.{IsLower, IsEarlier}
 use Rattle.tb_book.specs.Indexes.{rank_of, AreOfBidders}
@@ -18,10 +17,6 @@ abbrev pub line_order : BookLine → BookLine → Ordering
 line_order one other =
     ordering_then (nat_cmp (rank_of one.rate) (rank_of other.rate))
     (ordering_then (nat_cmp one.bidder other.bidder) (nat_cmp one.number other.number))
-
--- the order of a bid's key
-abbrev pub bid_order : Bid → Bid → Ordering
-bid_order one other = ordering_then (nat_cmp one.bidder other.bidder) (nat_cmp one.number other.number)
 
 -- two orders, the first before the second
 pub then-less : (first second : Ordering) → ordering_then first second ≡ Less
@@ -74,7 +69,7 @@ rank-less None (Some other) below = absurd (omega (arith, below, other.in_range)
 rank-less None None below = absurd (omega (arith, below))
 
 -- a rank that is equal is that of the same rate
-rank-equal : (one other : Option Rate) → rank_of one ≡ rank_of other → one ≡ other
+pub rank-equal : (one other : Option Rate) → rank_of one ≡ rank_of other → one ≡ other
 rank-equal (Some one) (Some other) same = ap Some (same_rate one other same)
 rank-equal (Some one) None same = absurd (omega (arith, same, one.in_range))
 rank-equal None (Some other) same = absurd (omega (arith, same, other.in_range))

@@ -55,6 +55,14 @@ HasBid bidder number lines =
     × ((d : BookLine) → ((slice_index_or lines place d).bidder ≡ bidder)
     × ((slice_index_or lines place d).number ≡ number))
 
+-- and at this rate, or with none
+abbrev pub HasBidAt : Option Rate → ℕ → ℕ → List BookLine → Type 0
+HasBidAt rate bidder number lines =
+    (place : ℕ) × (place < length lines)
+    × ((d : BookLine) → ((slice_index_or lines place d).rate ≡ rate)
+    × ((slice_index_or lines place d).bidder ≡ bidder)
+    × ((slice_index_or lines place d).number ≡ number))
+
 -- the new lines are the old ones with the line among them, in order
 pub record IsInserted (line : BookLine) (old new : List BookLine) : Type 0 where
   pub among : HasOneMore line old new

@@ -1,9 +1,8 @@
--- How the sums of a book and its second list are kept beside its lines.
+-- How the sums of a book are kept beside its lines.
 use Rattle.std.specs.Prelude.{◌≡◌, ℕ, ◌+◌, ◌≤◌, ◌==◌, if◌then◌else◌, Option, Some, None, List, sum_by}
 use Rattle.std.specs.List.{AllPairs}
 use Rattle.tb_units.specs.declared.rate.Rate.{Rate}
 use Rattle.tb_book.specs.declared.book_line.BookLine.{BookLine}
-use Rattle.tb_book.specs.declared.bid.Bid.{Bid}
 use Rattle.tb_book.specs.declared.bidder.Bidder.{Bidder}
 use Rattle.tb_book.specs.Books.{AreKept, competitive_of, noncompetitive_of, noncompetitive_in}
 
@@ -11,14 +10,6 @@ use Rattle.tb_book.specs.Books.{AreKept, competitive_of, noncompetitive_of, nonc
 abbrev pub rank_of : Option Rate → ℕ
 rank_of (Some rate) = rate.steps
 rank_of None = 200000
-
--- the bid of a line
-abbrev pub bid_of : BookLine → Bid
-bid_of line = record { bidder = line.bidder; number = line.number; rank = rank_of line.rate }
-
--- the list of bids has just the bids of the lines: whatever is summed over them is the same
-abbrev pub AreBidsOf : List BookLine → List Bid → Type 0
-AreBidsOf lines bids = (part : Bid → ℕ) → sum_by part bids ≡ sum_by (λ line. part (bid_of line)) lines
 
 -- no bidder has two entries
 abbrev pub AreOfBidders : List Bidder → Type 0
@@ -34,10 +25,8 @@ IsRaised kind bidder amount old new =
     (other : ℕ) → total_of kind other new ≡ total_of kind other old + (if bidder == other then amount else 0)
 
 -- what a book keeps beside its lines is what they say
-pub record IsIndexed (lines : List BookLine) (bids : List Bid) (bidders : List Bidder)
-    (noncompetitive : ℕ) : Type 0 where
+pub record IsIndexed (lines : List BookLine) (bidders : List Bidder) (noncompetitive : ℕ) : Type 0 where
   pub kept : AreKept lines
-  pub bids_are : AreBidsOf lines bids
   pub apart : AreOfBidders bidders
   pub competitive_are : (bidder : ℕ)
       → total_of (λ entry. entry.competitive) bidder bidders ≡ competitive_of bidder lines
@@ -45,8 +34,7 @@ pub record IsIndexed (lines : List BookLine) (bids : List Bid) (bidders : List B
       → total_of (λ entry. entry.noncompetitive) bidder bidders ≡ noncompetitive_of bidder lines
   pub noncompetitive_is : noncompetitive ≡ noncompetitive_in lines
 
--- so many lines may be added to each list
-pub record HasSpare (spare lines bids bidders : ℕ) : Type 0 where
+-- so many lines, and bidders, may be added
+pub record HasSpare (spare lines bidders : ℕ) : Type 0 where
   pub of_lines : spare ≤ lines
-  pub of_bids : spare ≤ bids
   pub of_bidders : spare ≤ bidders

@@ -52,17 +52,21 @@ pub fn raise(bidders: &mut Ordered<Bidder>, bidder: u32, competitive: u128, nonc
     ensures apart { AreOfBidders bidders.new.elements }
     ensures room { bidders.old.spare ≤ bidders.new.spare + 1 }
 {
-    let (competitive_so_far, noncompetitive_so_far) = totals_of(bidders, bidder);
-    let entry = Bidder {
-        bidder,
-        competitive: competitive_so_far + competitive,
-        noncompetitive: noncompetitive_so_far + noncompetitive,
-    };
     match bidders.find(&bidder) {
         Some(place) => {
+            let before = *bidders.at(place);
+            let entry = Bidder {
+                bidder,
+                competitive: before.competitive + competitive,
+                noncompetitive: before.noncompetitive + noncompetitive,
+            };
             bidders.replace(place, entry);
         }
-        None => bidders.insert(entry),
+        None => bidders.insert(Bidder {
+            bidder,
+            competitive,
+            noncompetitive,
+        }),
     }
 }
 
@@ -78,16 +82,13 @@ pub fn lower(bidders: &mut Ordered<Bidder>, bidder: u32, competitive: u128, nonc
     ensures apart { AreOfBidders bidders.new.elements }
     ensures room { bidders.new.spare ≡ bidders.old.spare }
 {
-    let (competitive_so_far, noncompetitive_so_far) = totals_of(bidders, bidder);
-    let entry = Bidder {
-        bidder,
-        competitive: competitive_so_far - competitive,
-        noncompetitive: noncompetitive_so_far - noncompetitive,
-    };
-    match bidders.find(&bidder) {
-        Some(place) => {
-            bidders.replace(place, entry);
-        }
-        None => (),
+    if let Some(place) = bidders.find(&bidder) {
+        let before = *bidders.at(place);
+        let entry = Bidder {
+            bidder,
+            competitive: before.competitive - competitive,
+            noncompetitive: before.noncompetitive - noncompetitive,
+        };
+        bidders.replace(place, entry);
     }
 }

@@ -1,27 +1,24 @@
 //! The book of live bids.
 ghost use Rattle.std.specs.Prelude.{◌≡◌, ◌+◌, ◌<◌, ◌≤◌, ◌↔◌, [], ◌∷◌, length, slice_index_or, OnOk, IsOk, IfSome, IfNone, IsNone, IsPermutation};
-ghost use Rattle.tb_book.specs.Books.{HasBid, IsInserted, IsTakenOut, IsKept, competitive_of, noncompetitive_of, noncompetitive_in, par_in, most_bid};
+ghost use Rattle.tb_book.specs.Books.{HasBid, HasBidAt, IsInserted, IsTakenOut, IsKept, competitive_of, noncompetitive_of, noncompetitive_in, par_in, most_bid};
 
-use crate::bid::Bid;
 use crate::bidder::{Bidder, lower, raise, totals_of};
-use crate::book_line::{BookLine, NO_RATE};
+use crate::book_line::{BookLine, NO_RATE, find_line, rank};
 use std::alloc::Global;
 use std::marker::Model;
 use std::sync::ledger::Ledger;
 use tb_blocks::Ordered;
-use tb_units::{Dollars, Lines, OutOfMemory, RateLine, Steps};
+use tb_units::{Dollars, Lines, OutOfMemory, Rate, RateLine, Steps};
 
 /// The live bids of one auction. Contracts see the list of lines, in order of rate, bidder and number with the
 /// noncompetitive lines last, and the room for more.
 #[derive(Drop)]
 pub struct Book {
     lines: Ordered<BookLine>,
-    // The bids of the lines, in order of bidder and number.
-    bids: Ordered<Bid>,
     // The sums of each bidder, and of all noncompetitive lines.
     bidders: Ordered<Bidder>,
     noncompetitive: u128,
-    // So many more lines may be added to each list.
+    // So many more lines, and bidders, may be added.
     spare: usize,
 }
 
@@ -34,8 +31,8 @@ impl Model for Book {
     ghost view = { λ book. record { lines = book.lines.elements; spare = book.spare } };
 
     ghost invariant = { λ book.
-        IsIndexed book.lines.elements book.bids.elements book.bidders.elements book.noncompetitive
-        × HasSpare book.spare book.lines.spare book.bids.spare book.bidders.spare };
+        IsIndexed book.lines.elements book.bidders.elements book.noncompetitive
+        × HasSpare book.spare book.lines.spare book.bidders.spare };
 }
 
 impl Book {
@@ -45,7 +42,6 @@ impl Book {
     {
         Book {
             lines: Ordered::new(alloc),
-            bids: Ordered::new(alloc),
             bidders: Ordered::new(alloc),
             noncompetitive: 0,
             spare: 0,
@@ -66,7 +62,6 @@ impl Book {
             return Ok(());
         }
         self.lines.reserve(wanted)?;
-        self.bids.reserve(wanted)?;
         self.bidders.reserve(wanted)?;
         self.spare = wanted;
         Ok(())
@@ -90,7 +85,6 @@ impl Book {
         ensures room { self.old.spare ≤ self.new.spare + 1 }
     {
         self.lines.insert(line);
-        self.bids.insert(Bid::of(&line));
         raise(
             &mut self.bidders,
             line.bidder,
@@ -101,7 +95,8 @@ impl Book {
         self.spare -= 1;
     }
 
-    /// Takes out the bidder's line of this number. `None` where there is no such line.
+    /// Takes out the bidder's line of this number. `None` where there is no such line. It goes over the lines: one who
+    /// knows the rate calls `take_out_at`.
     pub fn take_out(&mut self, bidder: u32, number: u64) -> Option<BookLine>
         ensures none { IsNone result ↔ (¬ (HasBid bidder number self.old.lines)) }
         ensures taken { IfSome result (λ line. (line.bidder ≡ bidder) × (line.number ≡ number)
@@ -111,8 +106,21 @@ impl Book {
         ensures kept { IsKept self.new }
         ensures room { self.old.spare ≤ self.new.spare }
     {
-        let bid = self.bids.remove(&(bidder, number))?;
-        let line = self.lines.remove(&(bid.rank, (bidder, number))).unwrap();
+        let line = find_line(&self.lines, bidder, number)?;
+        self.take_out_at(line.rate, bidder, number)
+    }
+
+    /// Takes out the bidder's line of this rate, or of none, and of this number. `None` where there is no such line.
+    pub fn take_out_at(&mut self, rate: Option<Rate>, bidder: u32, number: u64) -> Option<BookLine>
+        ensures none { IsNone result ↔ (¬ (HasBidAt rate bidder number self.old.lines)) }
+        ensures taken { IfSome result (λ line. (line.rate ≡ rate) × (line.bidder ≡ bidder) × (line.number ≡ number)
+            × IsTakenOut line self.old.lines self.new.lines) }
+        ensures elements { IfSome result (λ line. IsPermutation self.old.lines (line ∷ self.new.lines)) }
+        ensures unchanged { IfNone result (self.new ≡ self.old) }
+        ensures kept { IsKept self.new }
+        ensures room { self.old.spare ≤ self.new.spare }
+    {
+        let line = self.lines.remove(&(rank(rate), (bidder, number)))?;
         lower(
             &mut self.bidders,
             bidder,

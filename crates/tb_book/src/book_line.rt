@@ -1,8 +1,9 @@
 //! Lines of a book.
-ghost use Rattle.std.specs.Prelude.{◌≡◌, if◌then◌else◌, is_some, is_none};
+ghost use Rattle.std.specs.Prelude.{◌≡◌, if◌then◌else◌, is_some, is_none, IfNone, IfSome};
+ghost use Rattle.tb_book.specs.Books.{HasBid, HasBidAt};
 ghost use Rattle.tb_book.specs.Indexes.{rank_of};
 
-use tb_blocks::Keyed;
+use tb_blocks::{Keyed, Ordered};
 use tb_units::{Dollars, Rate};
 
 /// Where the lines without a rate stand: behind every rate.
@@ -25,21 +26,35 @@ impl Keyed for BookLine {
     ghost key_of = { λ line. record { 0 = rank_of line.rate; 1 = record { 0 = line.bidder; 1 = line.number } } };
 
     fn key(&self) -> (u32, (u32, u64)) {
-        (self.rank(), (self.bidder, self.number))
+        (rank(self.rate), (self.bidder, self.number))
     }
 }
 
-impl BookLine {
-    /// Where the line's rate stands among rates.
-    pub(crate) fn rank(&self) -> u32
-        ensures { result ≡ rank_of self.now.rate }
-    {
-        match self.rate {
-            Some(rate) => rate.steps,
-            None => NO_RATE,
+/// Where the rate of a line stands among rates.
+pub fn rank(rate: Option<Rate>) -> u32
+    ensures { result ≡ rank_of rate }
+{
+    match rate {
+        Some(rate) => rate.steps,
+        None => NO_RATE,
+    }
+}
+
+/// The bidder's line of this number. It goes over the lines.
+pub fn find_line(lines: &Ordered<BookLine>, bidder: u32, number: u64) -> Option<BookLine>
+    ensures found { IfSome result (λ line. HasBidAt line.rate bidder number lines.now.elements) }
+    ensures none { IfNone result (¬ (HasBid bidder number lines.now.elements)) }
+{
+    for place in 0..lines.len() {
+        let line = *lines.at(place);
+        if line.bidder == bidder && line.number == number {
+            return Some(line);
         }
     }
+    None
+}
 
+impl BookLine {
     /// What the line counts among the competitive ones.
     pub(crate) fn competitive(&self) -> u128
         ensures { result ≡ if is_some self.now.rate then self.now.amount.value else 0 }

@@ -1,7 +1,6 @@
 //! The sealed book of one auction: its live bids, in order of rate. It knows nothing of rules, moments or messages.
 #![tactic(auto)]
 
-mod bid;
 mod bidder;
 mod book;
 mod book_line;

@@ -131,6 +131,19 @@ fn a_bid_is_taken_out_once(rt: HostRuntime) -> Result<(), Fail> {
 }
 
 #[test]
+fn a_line_is_taken_out_at_its_rate(rt: HostRuntime) -> Result<(), Fail> {
+    let bid = competitive(1, 1, 1065, 350_000_000);
+    let mut book = book_of(rt.alloc(), &[bid, noncompetitive(1, 2, 500)])?;
+    assert_eq!(rt; book.take_out_at(None, 1, 1), None);
+    assert_eq!(rt; book.take_out_at(Some(Rate { steps: 1064 }), 1, 1), None);
+    assert_eq!(rt; book.take_out_at(bid.rate, 1, 2), None);
+    assert_eq!(rt; totals(&book, 1), (350_000_000, 500));
+    assert_eq!(rt; book.take_out_at(bid.rate, 1, 1), Some(bid));
+    assert_eq!(rt; totals(&book, 1), (0, 500));
+    Ok(())
+}
+
+#[test]
 fn totals_are_told_apart(rt: HostRuntime) -> Result<(), Fail> {
     let book = book_of(
         rt.alloc(),

@@ -11,7 +11,7 @@ use Rattle.tb_message.specs.declared.message.Entry.{Entry}
 use Rattle.tb_message.specs.declared.message.Message.TheVariants as message
 use Rattle.tb_history.specs.declared.bids.Bid.{Bid}
 use Rattle.tb_history.specs.Roster.{add_on_of, enrolment_of, is_under, announcement_of, is_named, is_redeemed, is_registered}
-use Rattle.tb_history.specs.LiveBids.{bid_of, is_cancelled, standing_of}
+use Rattle.tb_history.specs.LiveBids.{bid_of, bids, is_cancelled, standing_of}
 use Rattle.tb_history.specs.Tables.{rows_of, announce_rows, bid_rows, cancel_rows, position_rows, publish_rows, settle_rows, add_on_rows}
 use Rattle.tb_core.specs.declared.tables.Tables.{Tables}
 use Rattle.tb_tables.specs.Auctions.{announced_in, announcement_in}
@@ -58,11 +58,11 @@ pub tied_cancel : (h : List Entry) (tables : Tables) → AreTied h tables
     → (sender : List ℕ) (moment : Moment) (auction : List ℕ) (number : ℕ)
     → (found : Option Terms) (bid : Option Bid) (cancelled : Bool)
     → announcement_in found ≡ announcement_of (announced_in tables.auctions.list) auction
-    → bid ≡ bid_of tables.bids.list sender auction number
+    → bid ≡ bid_of (bids h) sender auction number
     → cancelled ≡ is_cancelled tables.cancels.list sender auction number
     → cancel_rows (announcement_in found) bid cancelled moment ≡ rows_of h sender moment (message.Cancel auction number)
 tied_cancel h tables tied sender moment auction number found bid cancelled terms there gone =
-    rw (terms, there, gone, tied.auctions_are, tied.bids_are, tied.cancels_are) refl
+    rw (terms, there, gone, tied.auctions_are, tied.cancels_are) refl
 
 -- position
 pub tied_position : (h : List Entry) (tables : Tables) → AreTied h tables

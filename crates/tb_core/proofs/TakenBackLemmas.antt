@@ -50,7 +50,7 @@ IsNextBid h moment bid =
 shelved-back : (h : List Entry) (moment : Moment) (bid : Bid) (old new : List NamedBook)
     → IsNextBid h moment bid
     → AreShelved (enrolments h) (bids h ++ bid ∷ []) (cancels h) old
-    → IsChanged bid.auction (IsLowered (place_of (enrolments h) bid.bidder) bid.number) old new
+    → IsChanged bid.auction (IsLowered bid.rate (place_of (enrolments h) bid.bidder) bid.number) old new
     → AreShelved (enrolments h) (bids h) (cancels h) new
 shelved-back h moment bid old new next shelved changed =
     let line_of = book_line_of (enrolments h) in
@@ -69,8 +69,8 @@ shelved-back h moment bid old new next shelved changed =
     subst (λ (lines : List BookLine). IsPermutation lines (line_of bid ∷ after)) (sym more)
     (IsPermutation-push_more after after (line_of bid ∷ after) (line_of bid) (IsPermutation-refl after)
     (IsPermutation-refl (line_of bid ∷ after))) in
-    lines-changed bid.auction (IsLowered (place_of (enrolments h) bid.bidder) bid.number) before (lines_in h) old new
-    changed shelved
+    lines-changed bid.auction (IsLowered bid.rate (place_of (enrolments h) bid.bidder) bid.number) before (lines_in h)
+    old new changed shelved
     (λ one other lowered has.
     lines-taken (line_of bid) after one other
     (IsPermutation-trans one.lines (before bid.auction) (line_of bid ∷ after)
@@ -107,10 +107,10 @@ tied-back h moment before bid old new tied earlier taken =
     let announced : announcements (h ++ e ∷ []) ≡ announcements h = announcements-snoc h e
     ∙ append-nil (announcements h) in
     let rows = same_from_push new.bids.list (bids h) taken.bid bid (sym taken.bids ∙ tied.bids_are ∙ bids-snoc h e) in
-    let changed : IsChanged bid.auction (IsLowered (place_of (enrolments h) bid.bidder) bid.number) old.shelf.books
-    new.shelf.books =
-    subst (λ (b : Bid). IsChanged b.auction (IsLowered (place_of (enrolments h) b.bidder) b.number) old.shelf.books
-    new.shelf.books) rows.1
+    let changed : IsChanged bid.auction (IsLowered bid.rate (place_of (enrolments h) bid.bidder) bid.number)
+    old.shelf.books new.shelf.books =
+    subst (λ (b : Bid). IsChanged b.auction (IsLowered b.rate (place_of (enrolments h) b.bidder) b.number)
+    old.shelf.books new.shelf.books) rows.1
     (rw (← bidders, ← tied.bidders_are) taken.books) in
     let shelved : AreShelved (enrolments h) (bids h ++ bid ∷ []) (cancels h) old.shelf.books =
     rw (← bidders, ← cancelled, ← bids-snoc h e) tied.books_are.lines in
@@ -195,7 +195,7 @@ pub KeepsRoom-back : (before : Moment) (room : ℕ) (old new : Tables)
     → KeepsRoom (room_of room old) (room_of room new)
 KeepsRoom-back before room old new taken messages fits =
     let n = length messages in
-    let lowered = IsLowered (place_of old.bidders.list taken.bid.bidder) taken.bid.number in
+    let lowered = IsLowered taken.bid.rate (place_of old.bidders.list taken.bid.bidder) taken.bid.number in
     let places : (auction : List ℕ) → has_places old.shelf.books n auction ≡ true
     → has_places new.shelf.books n auction ≡ true =
     places-changed taken.bid.auction lowered old.shelf.books new.shelf.books n n (omega arith)

@@ -182,8 +182,8 @@ pub record IsTakenBack (before : Moment) (old new : Tables) : Type 0 where
   pub bid : Bid
   pub bids : old.bids.list ≡ new.bids.list ++ bid ∷ []
   pub spare : old.bids.spare ≤ new.bids.spare
-  pub books : IsChanged bid.auction (IsLowered (place_of old.bidders.list bid.bidder) bid.number) old.shelf.books
-      new.shelf.books
+  pub books : IsChanged bid.auction (IsLowered bid.rate (place_of old.bidders.list bid.bidder) bid.number)
+      old.shelf.books new.shelf.books
   pub ready : new.shelf.ready ≡ old.shelf.ready
   pub places : new.shelf.places ≡ old.shelf.places
   pub same : new ≡ with_bids old new.bids new.shelf before

@@ -127,6 +127,7 @@ fn enter(
     ensures room { TakesRoom entry.message (room_of room.old tables.old) (room_of room.new tables.new) }
 {
     tables.enter(
+        entries,
         days,
         &entry.submitter,
         entry.number,
@@ -602,7 +603,7 @@ impl Host {
         ensures { result ≡ refusal_in (rows_of self.now.history sender.now moment (message.Cancel auction.now number)) }
     {
         let terms = terms_of(&self.tables.auctions, auction);
-        let bid = find_bid(&self.tables.bids, sender, auction, number);
+        let bid = find_bid(&self.entries, sender, auction, number);
         let cancelled = has_cancel(&self.tables.cancels, sender, auction, number);
         cancel_refusal(terms, bid, cancelled, moment)
     }

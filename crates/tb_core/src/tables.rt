@@ -7,6 +7,8 @@ ghost use Rattle.tb_shelving.specs.Shelving.{TakesMessage};
 ghost use Rattle.tb_movements.specs.Told.{IsTold};
 ghost use Rattle.tb_holdings.specs.Book.{TakesRoom};
 ghost use Rattle.tb_message.specs.declared.message.Entry.{Entry};
+ghost use Rattle.tb_history.specs.Legal.{IsLegal};
+ghost use Rattle.tb_history.specs.LiveBids.{bids};
 ghost use Rattle.tb_history.specs.Roster.{announcement_of, announcements};
 ghost use Rattle.tb_tables.specs.Auctions.{IsInOrder, announced_in};
 ghost use Rattle.tb_ledger.specs.Accounting.{IsReady, TellsNext};
@@ -24,7 +26,7 @@ use tb_cashbook::{
 };
 use tb_funds::{Funds, Offer};
 use tb_holdings::Accounts;
-use tb_index::{Chained, Keyed, Latest, TwiceKeyed};
+use tb_index::{Chained, Keyed, Latest, Named, TwiceKeyed};
 use tb_ledger::{
     Scratch, account, bill_number, credit_awards, cut_auction, enter_transfer, holder_number,
     reserve_accounts,
@@ -34,7 +36,7 @@ use tb_movements::empty_book;
 use tb_shelf::Shelf;
 use tb_shelving::{count_announced, enter_line, has_settlement, have_places, reserve_places};
 use tb_tables::{
-    AddOns, Auctions, Bidders, Bids, Bills, Calendar, Cancels, Holidays, Names, Reports,
+    AddOns, Auctions, Bidders, Bids, Bills, Calendar, Cancels, Entries, Holidays, Names, Reports,
     Submitters, enter_add_on, enter_auction, enter_bid, enter_bidder, enter_calendar, enter_cancel,
     enter_holiday, enter_published, enter_redeemed, enter_report, enter_settled, enter_submitter,
     find_add_on, number_of, terms_of,
@@ -80,17 +82,17 @@ impl Tables {
     {
         Tables {
             submitters: TwiceKeyed::new(alloc),
-            bidders: Keyed::new(alloc),
+            bidders: Named::new(alloc),
             holidays: Keyed::new(alloc),
             calendar: Calendar::new(alloc),
             auctions: TwiceKeyed::new(alloc),
             bids: Chained::new(alloc),
             cancels: Keyed::new(alloc),
             reports: Latest::new(alloc),
-            published: Keyed::new(alloc),
-            settled: Keyed::new(alloc),
-            redeemed: Keyed::new(alloc),
-            add_ons: Keyed::new(alloc),
+            published: Named::new(alloc),
+            settled: Named::new(alloc),
+            redeemed: Named::new(alloc),
+            add_ons: Named::new(alloc),
             shelf: Shelf::new(alloc),
             scratch: Scratch::new(alloc),
             accounts: empty_book(alloc),
@@ -292,15 +294,18 @@ impl Tables {
         }
     }
 
-    // Adds the rows of a message of a sender under its number.
+    // Adds the rows of a message of a sender under its number. The entries are those before it.
     fn enter_rows(
         &mut self,
+        entries: &Entries,
         days: &EasternDays,
         sender: &Ident,
         number: u64,
         moment: Moment,
         message: &Message,
     )
+        requires legal { IsLegal entries.now.list }
+        requires tied { self.old.bids.list ≡ bids entries.now.list }
         requires room { HasRows 1 self.old }
         requires order { IsInOrder message.now }
         requires few { length self.old.bidders.list < 2 ^ 32 }
@@ -314,7 +319,7 @@ impl Tables {
         enter_line(
             &mut self.shelf,
             &self.bidders,
-            &self.bids,
+            entries,
             sender,
             number,
             message,
@@ -410,20 +415,23 @@ impl Tables {
     {
         let bid = self.bids.pop().unwrap();
         let bidder = number_of(&self.bidders, &bid.bidder);
-        self.shelf.take_out(&bid.auction, bidder, bid.number);
+        self.shelf
+            .take_out(&bid.auction, bid.rate, bidder, bid.number);
         self.last = before;
     }
 
-    /// Enters what a message of a sender under its number says, and moves what it moves.
+    /// Enters what a message of a sender under its number says, and moves what it moves. The entries are those before
+    /// it.
     pub fn enter(
         &mut self,
+        entries: &Entries,
         days: &EasternDays,
         sender: &Ident,
         number: u64,
         moment: Moment,
         message: &Message,
     )
-        requires tied { (history : List Entry) × AreTied history self.old }
+        requires tied { AreTied entries.now.list self.old }
         requires room { HasRoom 1 self.old }
         requires order { IsInOrder message.now }
         requires few { length self.old.bidders.list < 2 ^ 32 }
@@ -440,6 +448,6 @@ impl Tables {
         ensures last { self.new.last ≡ moment }
     {
         self.move_all(sender, number, message);
-        self.enter_rows(days, sender, number, moment, message);
+        self.enter_rows(entries, days, sender, number, moment, message);
     }
 }

@@ -69,13 +69,21 @@ pub(crate) fn enrolled(number: u64, bidder: &str) -> Option<Entry>
 pub(crate) fn announced() -> Option<Entry>
     ensures range { IfSome result IsInRange }
 {
+    announced_as(3, "bill13")
+}
+
+// An auction of this name, of the same bill.
+fn announced_as(number: u64, auction: &str) -> Option<Entry>
+    requires { (1 ≤ number) × (number ≤ 10 ^ 9) }
+    ensures range { IfSome result IsInRange }
+{
     Some(Entry {
         submitter: Ident::read("operator")?,
-        number: 3,
+        number,
         moment: MOMENT,
         message: Message::Announce {
             terms: Announcement {
-                auction: Ident::read("bill13")?,
+                auction: Ident::read(auction)?,
                 cusip: BILL,
                 offering: Dollars {
                     value: 1_000_000_000,
@@ -176,12 +184,20 @@ fn cancelled(number: u64, bid: u64) -> Option<Entry>
     requires bid { (1 ≤ bid) × (bid ≤ 10 ^ 9) }
     ensures range { IfSome result IsInRange }
 {
+    cancelled_in("bill13", number, bid)
+}
+
+fn cancelled_in(auction: &str, number: u64, bid: u64) -> Option<Entry>
+    requires number { (1 ≤ number) × (number ≤ 10 ^ 9) }
+    requires bid { (1 ≤ bid) × (bid ≤ 10 ^ 9) }
+    ensures range { IfSome result IsInRange }
+{
     Some(Entry {
         submitter: Ident::read("dealer1")?,
         number,
         moment: MOMENT,
         message: Message::Cancel {
-            auction: Ident::read("bill13")?,
+            auction: Ident::read(auction)?,
             bid,
         },
     })
@@ -254,6 +270,32 @@ fn a_cancelled_bid_leaves_its_book(rt: HostRuntime) {
     let mut host = with_bidder(rt.alloc()).expect(&rt, "memory");
     assert_eq!(rt; bid_up(&mut host), Some(true));
     assert_eq!(rt; make_way(&mut host), Some(true));
+    assert_eq!(rt; host.entries(), 6);
+}
+
+// A bid in one of two auctions that are announced.
+fn bid_in_one(host: &mut Host) -> Option<bool> {
+    Some(
+        submit(host, announced())?
+            && submit(host, announced_as(4, "bill26"))?
+            && submit(host, bid(1, 1))?,
+    )
+}
+
+#[test]
+fn a_cancel_finds_only_a_bid_of_its_auction(rt: HostRuntime) {
+    let mut host = with_bidder(rt.alloc()).expect(&rt, "memory");
+    assert_eq!(rt; bid_in_one(&mut host), Some(true));
+    // The bid of this number is in the other auction.
+    assert_eq!(rt;
+        submit(&mut host, cancelled_in("bill26", 2, 1)),
+        Some(false)
+    );
+    // Nothing stands under the number.
+    assert_eq!(rt; submit(&mut host, cancelled(2, 2)), Some(false));
+    assert_eq!(rt; submit(&mut host, cancelled(2, 1)), Some(true));
+    // What stands under it now is a cancel.
+    assert_eq!(rt; submit(&mut host, cancelled(3, 2)), Some(false));
     assert_eq!(rt; host.entries(), 6);
 }
 

@@ -1,20 +1,15 @@
 -- How many elements there are up to the last that passes a test, and the ends of the keys of a list.
-use Rattle.std.proofs.Common.{◌≡◌, ℕ, zero, suc, ◌+◌, ◌-◌, ◌<◌, ◌≤◌, map, Bool, true, false, cond, nat_lt, List, [], ◌∷◌, ◌++◌, inl, inr, length, get_or, take, set, refl, sym, ap, ◌∙◌, arith}
-use Rattle.std.specs.List.{filter, insert, list_any}
-use Rattle.std.specs.Ordering.{is_eq}
-use Rattle.std.specs.Cmp.{IsTotalOrder}
-use Rattle.std.specs.declared.cmp.Ordering.{Ordering}
-use Rattle.std.specs.declared.cmp.Ordering.TheVariants.{Equal}
+use Rattle.std.proofs.Common.{◌≡◌, ℕ, zero, suc, ◌+◌, ◌-◌, ◌<◌, ◌≤◌, map, Bool, true, false, cond, nat_lt, Some, None, List, [], ◌∷◌, ◌++◌, inl, inr, length, get_or, take, refl, sym, ap, ◌∙◌, arith}
+use Rattle.std.specs.List.{filter, list_any}
+use Rattle.std.specs.HashMap.{HashMap, get}
+use Rattle.std.specs.Map.{count_at}
+use Rattle.std.specs.Option.{unwrap_or}
+use Rattle.std.specs.Cmp.{IsEquivalence}
 use Rattle.std.proofs.lemmas.Bool.{cases_Bool, ltb-true, ltb-false}
-use Rattle.std.proofs.lemmas.Cmp.{alike_right, tied_itself}
 use Rattle.std.proofs.lemmas.List.{length_push}
 use Rattle.std.proofs.lemmas.List.Elements.{filter_more}
-use Rattle.tb_blocks.specs.Orders.{AreOrdered, HasKey, HasKeyAt}
-use Rattle.tb_blocks.proofs.OrderLemmas.{equal-is}
-use Rattle.tb_index.specs.declared.counts.Count.{Count}
-use Rattle.tb_index.specs.Indexes.{end_by, end_of, AreEnds}
-use Rattle.tb_index.proofs.KeyLemmas.{Matches}
-use Rattle.tb_index.proofs.CountedLemmas.{key_in, IsKept, kept-key, kept-equal, AreCounted-nil, AreCounted-kept, AreCounted-new, AreCounted-set}
+use Rattle.tb_index.specs.Indexes.{end_by, end_of, AreCounts, AreEnds}
+use Rattle.tb_index.proofs.KeyLemmas.{alike}
 
 -- a number that follows another is above 0
 positive : (n : ℕ) → nat_lt 0 (suc n) ≡ true
@@ -156,113 +151,98 @@ end_by-map p f [] = refl
 end_by-map p f (x ∷ xs) = ap (λ end. cond (nat_lt 0 end) (suc end) (cond (p (f x)) 1 0)) (end_by-map p f xs)
 
 -- the end of a key among those of rows is that of the rows that have it
-pub end_of-rows : {X K : Type 0} (same : K → K → Bool) (compare : K → K → Ordering) (key_of : X → K) (key : K)
-    (rows : List X)
-    → Matches same compare
-    → end_of compare key (map key_of rows) ≡ end_by (λ row. same (key_of row) key) rows
-end_of-rows same compare key_of key rows matches =
-    end_by-map (λ other. is_eq (compare other key)) key_of rows
-    ∙ (λ i. end_by (λ row. sym (matches (key_of row) key) i) rows)
+pub end_of-rows : {X K : Type 0} (same : K → K → Bool) (key_of : X → K) (key : K) (rows : List X)
+    → end_of same key (map key_of rows) ≡ end_by (λ row. same (key_of row) key) rows
+end_of-rows same key_of key rows = end_by-map (λ other. same other key) key_of rows
 
 -- equal keys have one end
-pub end_of-same : {K : Type 0} (compare : K → K → Ordering) (one other : K) (keys : List K)
-    → IsTotalOrder compare
-    → compare one other ≡ Equal
-    → end_of compare one keys ≡ end_of compare other keys
-end_of-same compare one other keys total equal =
-    λ i. end_by (λ k. is_eq (alike_right total one other k equal i)) keys
+pub end_of-same : {K : Type 0} {same : K → K → Bool} → IsEquivalence same
+    → (one other : K) (keys : List K)
+    → same one other ≡ true
+    → end_of same one keys ≡ end_of same other keys
+end_of-same laws one other keys equal = λ i. end_by (λ k. alike laws one other k equal i) keys
 
 -- a key that differs from the new one has the end that it had
-pub end_of-other : {K : Type 0} (compare : K → K → Ordering) (key : K) (keys : List K) (new : K)
-    → is_eq (compare new key) ≡ false
-    → end_of compare key (keys ++ new ∷ []) ≡ end_of compare key keys
-end_of-other compare key keys new apart =
-    end_by-push (λ other. is_eq (compare other key)) keys new
-    ∙ ap (λ b. cond b (suc (length keys)) (end_of compare key keys)) apart
+pub end_of-other : {K : Type 0} (same : K → K → Bool) (key : K) (keys : List K) (new : K)
+    → same new key ≡ false
+    → end_of same key (keys ++ new ∷ []) ≡ end_of same key keys
+end_of-other same key keys new apart =
+    end_by-push (λ other. same other key) keys new
+    ∙ ap (λ b. cond b (suc (length keys)) (end_of same key keys)) apart
 
 -- and one that equals it has it at the end
-pub end_of-last : {K : Type 0} (compare : K → K → Ordering) (key : K) (keys : List K) (new : K)
-    → is_eq (compare new key) ≡ true
-    → end_of compare key (keys ++ new ∷ []) ≡ length keys + 1
-end_of-last compare key keys new same =
-    let last : end_of compare key (keys ++ new ∷ []) ≡ suc (length keys) =
-    end_by-push (λ other. is_eq (compare other key)) keys new
-    ∙ ap (λ b. cond b (suc (length keys)) (end_of compare key keys)) same in
+pub end_of-last : {K : Type 0} (same : K → K → Bool) (key : K) (keys : List K) (new : K)
+    → same new key ≡ true
+    → end_of same key (keys ++ new ∷ []) ≡ length keys + 1
+end_of-last same key keys new equal =
+    let last : end_of same key (keys ++ new ∷ []) ≡ suc (length keys) =
+    end_by-push (λ other. same other key) keys new
+    ∙ ap (λ b. cond b (suc (length keys)) (end_of same key keys)) equal in
     omega (arith, last)
 
+-- a map that has the numbers of all keys before, and gets another at one key, has those after
+pub numbers-set : {K S : Type 0} (same : K → K → Bool) (before after : K → ℕ) (old next : HashMap K ℕ S) (key : K)
+    (number : ℕ)
+    → ((q : K) → count_at (get same old) q ≡ before q)
+    → ((q : K) → get same next q ≡ cond (same key q) (Some number) (get same old q))
+    → ((q : K) → same key q ≡ true → after q ≡ number)
+    → ((q : K) → same key q ≡ false → after q ≡ before q)
+    → (q : K)
+    → count_at (get same next) q ≡ after q
+numbers-set same before after old next key number are is right rest q =
+    let step : (b : Bool) → same key q ≡ b
+    → count_at (get same next) q ≡ unwrap_or (cond b (Some number) (get same old q)) 0 =
+    λ b e. ap (λ o. unwrap_or o 0) (is q ∙ ap (λ x. cond x (Some number) (get same old q)) e) in
+    elim (cases_Bool (same key q)) [
+      | inl equal ↦ step true equal ∙ sym (right q equal)
+      | inr apart ↦ step false apart ∙ (are q ∙ sym (rest q apart))
+    ]
+
+-- no keys have no counts
+pub AreCounts-nil : {K S : Type 0} (same : K → K → Bool) (counts : HashMap K ℕ S)
+    → counts.entries ≡ []
+    → AreCounts same [] counts
+AreCounts-nil same counts none = λ key. rw none refl
+
 -- no keys have no ends
-pub AreEnds-nil : {K : Type 0} (compare : K → K → Ordering) → AreEnds {K = K} compare [] []
-AreEnds-nil compare = AreCounted-nil compare (λ key. end_of compare key []) (λ key. refl)
+pub AreEnds-nil : {K S : Type 0} (same : K → K → Bool) (ends : HashMap K ℕ S)
+    → ends.entries ≡ []
+    → AreEnds same [] ends
+AreEnds-nil same ends none = λ key. rw none refl
 
--- what an end that is kept says of an equal key
-pub end_of-kept : {K : Type 0} (compare : K → K → Ordering) (keys : List K) (ends : List (Count K)) (key : K) (at : ℕ)
-    (end : Count K)
-    → IsTotalOrder compare
-    → AreEnds compare keys ends
-    → HasKeyAt compare key_in key ends at
-    → end ≡ get_or ends at end
-    → end_of compare key keys ≡ end.count
-end_of-kept compare keys ends key at end total are has is =
-    AreCounted-kept compare (λ k. end_of compare k keys) ends key at end
-    (λ one other equal. end_of-same compare one other keys total equal) are has is
-
--- a key that isn't kept gets the end of the list
-pub AreEnds-new : {K : Type 0} (compare : K → K → Ordering) (keys : List K) (ends : List (Count K)) (key : K)
-    (end i : ℕ)
-    → IsTotalOrder compare
+-- a key that is added has its end at the end of the list
+pub AreEnds-later : {K S : Type 0} (same : K → K → Bool) (keys : List K) (ends next : HashMap K ℕ S) (key : K)
+    (end : ℕ)
+    → AreEnds same keys ends
+    → ((q : K) → get same next q ≡ cond (same key q) (Some end) (get same ends q))
     → length keys + 1 ≡ end
-    → AreEnds compare keys ends
-    → ¬ (HasKey compare key_in key ends)
-    → i ≤ length ends
-    → AreOrdered compare key_in (insert ends i (record { key = key; count = end }))
-    → AreEnds compare (keys ++ key ∷ []) (insert ends i (record { key = key; count = end }))
-AreEnds-new compare keys ends key end i total long are lacks within order =
-    AreCounted-new compare (λ k. end_of compare k keys) (λ k. end_of compare k (keys ++ key ∷ [])) ends key end i
-    total are lacks within order
-    (end_of-last compare key keys key (ap is_eq (tied_itself total key)) ∙ long)
-    (λ other apart. end_of-other compare other keys key apart)
-
--- and so does one that is kept
-pub AreEnds-later : {K : Type 0} (compare : K → K → Ordering) (keys : List K) (ends : List (Count K)) (key : K)
-    (at end : ℕ) (found : Count K)
-    → IsKept compare (λ k. end_of compare k keys) ends key at found
-    → length keys + 1 ≡ end
-    → AreOrdered compare key_in (set ends at (record { key = found.key; count = end }))
-    → AreEnds compare (keys ++ key ∷ []) (set ends at (record { key = found.key; count = end }))
-AreEnds-later {K} compare keys ends key at end found kept long order =
-    let before : K → ℕ = λ k. end_of compare k keys in
-    let new : Count _ = record { key = found.key; count = end } in
-    AreCounted-set compare before (λ k. end_of compare k (keys ++ key ∷ [])) ends key at new kept.total order kept.are
-    kept.has
-    (kept-key compare before ends key at found new kept refl)
-    (end_of-last compare found.key keys key (kept-equal compare before ends key at found kept) ∙ long)
-    (λ other differs. end_of-other compare other keys key differs)
+    → AreEnds same (keys ++ key ∷ []) next
+AreEnds-later same keys ends next key end are is long =
+    numbers-set same (λ q. end_of same q keys) (λ q. end_of same q (keys ++ key ∷ [])) ends next key end are is
+    (λ q equal. end_of-last same q keys key equal ∙ long)
+    (λ q apart. end_of-other same q keys key apart)
 
 -- it gets the end that it had where it is taken off
-pub AreEnds-earlier : {K : Type 0} (compare : K → K → Ordering) (keys : List K) (ends : List (Count K)) (key : K)
-    (at end : ℕ) (found : Count K)
-    → IsKept compare (λ k. end_of compare k (keys ++ key ∷ [])) ends key at found
-    → end_of compare key keys ≡ end
-    → AreOrdered compare key_in (set ends at (record { key = found.key; count = end }))
-    → AreEnds compare keys (set ends at (record { key = found.key; count = end }))
-AreEnds-earlier {K} compare keys ends key at end found kept had order =
-    let before : K → ℕ = λ k. end_of compare k (keys ++ key ∷ []) in
-    let new : Count _ = record { key = found.key; count = end } in
-    AreCounted-set compare before (λ k. end_of compare k keys) ends key at new kept.total order kept.are kept.has
-    (kept-key compare before ends key at found new kept refl)
-    (sym (end_of-same compare key found.key keys kept.total
-    (equal-is (compare key found.key) (kept-equal compare before ends key at found kept)))
-    ∙ had)
-    (λ other differs. sym (end_of-other compare other keys key differs))
+pub AreEnds-earlier : {K S : Type 0} {same : K → K → Bool} → IsEquivalence same
+    → (keys : List K) (ends next : HashMap K ℕ S) (key : K) (end : ℕ)
+    → AreEnds same (keys ++ key ∷ []) ends
+    → ((q : K) → get same next q ≡ cond (same key q) (Some end) (get same ends q))
+    → end_of same key keys ≡ end
+    → AreEnds same keys next
+AreEnds-earlier {same = same} laws keys ends next key end are is had =
+    numbers-set same (λ q. end_of same q (keys ++ key ∷ [])) (λ q. end_of same q keys) ends next key end are is
+    (λ q equal. sym (end_of-same laws key q keys equal) ∙ had)
+    (λ q apart. sym (end_of-other same q keys key apart))
 
--- a key that stands at the end is kept
-pub AreEnds-has : {K : Type 0} (compare : K → K → Ordering) (keys : List K) (ends : List (Count K)) (key : K)
-    → IsTotalOrder compare
-    → AreEnds compare (keys ++ key ∷ []) ends
-    → ¬ (HasKey compare key_in key ends)
+-- a key that stands at the end has one
+pub AreEnds-has : {K S : Type 0} {same : K → K → Bool} → IsEquivalence same
+    → (keys : List K) (ends : HashMap K ℕ S) (key : K)
+    → AreEnds same (keys ++ key ∷ []) ends
+    → get same ends key ≡ None
     → ⊥
-AreEnds-has compare keys ends key total are lacks =
-    omega (arith, are.others key lacks, end_of-last compare key keys key (ap is_eq (tied_itself total key)))
+AreEnds-has {same = same} laws keys ends key are lacks =
+    let none : count_at (get same ends) key ≡ 0 = ap (λ o. unwrap_or o 0) lacks in
+    omega (arith, none, are key, end_of-last same key keys key (laws.refl key))
 
 -- the row before an end is the last that passes
 pub filter-to_end : {X : Type 0} (p : X → Bool) (xs : List X) (end : ℕ) (row : X)

@@ -2,8 +2,11 @@
 use Rattle.std.proofs.Common.{◌≡◌, ℕ, ◌+◌, ◌-◌, ◌<◌, ◌≤◌, map, Bool, true, false, cond, is_some, Option, Some, None, List, ◌∷◌, inl, inr, length, get_or, take, drop, arith, sym, ap, ◌∙◌}
 use Rattle.std.specs.List.{All, insert, remove, count_by, position}
 use Rattle.std.specs.Option.{IfSome}
+use Rattle.std.specs.Result.{IsOk, OnOk}
+use Rattle.std.specs.declared.result.Result.{Result}
+use Rattle.std.specs.declared.result.Result.TheVariants.{Ok, Err}
 use Rattle.std.specs.Ordering.{is_eq, is_lt}
-use Rattle.std.specs.Cmp.{IsTotalOrder}
+use Rattle.std.specs.Cmp.{IsEquivalence, IsTotalOrder}
 use Rattle.std.specs.declared.cmp.Ordering.{Ordering}
 use Rattle.std.specs.declared.cmp.Ordering.TheVariants.{Equal}
 use Rattle.std.proofs.lemmas.Bool.{cases_Bool, cases_order, cases_lt, false≢true}
@@ -12,7 +15,7 @@ use Rattle.std.proofs.lemmas.List.Elements.{All-append, All-cons, All-take, All-
 use Rattle.std.proofs.lemmas.List.Folds.{fold-map}
 use Rattle.std.proofs.lemmas.List.Edits.{length-insert, get_or-insert_below, get_or-insert_at, get_or-insert_above, length-remove, get_or-remove_below, get_or-remove_above}
 use Rattle.tb_blocks.specs.Orders.{AreOrdered, HasKey}
-use Rattle.tb_index.specs.Indexes.{first_of, number_of}
+use Rattle.tb_index.specs.Indexes.{first_of, number_of, tied}
 use Rattle.tb_index.proofs.PositionLemmas.{position-map, position-agree}
 
 -- what holds of each element holds with one more
@@ -140,30 +143,36 @@ pub some-both : {X : Type 0} (P Q : X → Type 0) (found : Option X)
 some-both P Q None is first second = absurd (false≢true is)
 some-both P Q (Some x) is first second = (x, first, second)
 
--- elements that pass a test of what is made of them
-count_by-map : {X Y : Type 0} (p : Y → Bool) (f : X → Y) (xs : List X)
-    → count_by p (map f xs) ≡ count_by (λ x. p (f x)) xs
-count_by-map p f xs = fold-map (λ a y. a + cond (p y) 1 0) f 0 xs
-
 -- two keys are equal just where their order says so
 abbrev pub Matches : {K : Type 0} → (K → K → Bool) → (K → K → Ordering) → Type 0
 Matches {K} same compare = (one other : K) → same one other ≡ is_eq (compare one other)
 
--- the first place of a key among those of rows is that of the first row that has it
-pub first_of-rows : {X K : Type 0} (same : K → K → Bool) (compare : K → K → Ordering) (key_of : X → K) (key : K)
-    (rows : List X)
+-- what holds where it succeeds holds where it is sure to succeed
+pub at-ok : {X Y : Type 0} (P : Type 0) (result : Result X Y) → IsOk result → OnOk result P → P
+at-ok P (Ok x) sure at = at
+at-ok P (Err e) sure at = absurd (false≢true sure)
+
+-- so the first place of a key is the same by its order
+pub first_of-tied : {K : Type 0} (same : K → K → Bool) (compare : K → K → Ordering) (key : K) (keys : List K)
     → Matches same compare
-    → first_of compare key (map key_of rows) ≡ position (λ row. same (key_of row) key) rows
-first_of-rows same compare key_of key rows matches =
-    position-map (λ other. is_eq (compare other key)) key_of rows
-    ∙ position-agree (λ row. is_eq (compare (key_of row) key)) (λ row. same (key_of row) key) rows
-    (λ row. sym (matches (key_of row) key))
+    → first_of (tied compare) key keys ≡ first_of same key keys
+first_of-tied same compare key keys matches =
+    position-agree (λ other. is_eq (compare other key)) (λ other. same other key) keys
+    (λ other. sym (matches other key))
+
+-- equal keys are equal to the same ones
+pub alike : {K : Type 0} {same : K → K → Bool} → IsEquivalence same
+    → (one other key : K)
+    → same one other ≡ true
+    → same key one ≡ same key other
+alike laws one other key equal = laws.symm key one ∙ (laws.congr one other key equal ∙ laws.symm other key)
+
+-- the first place of a key among those of rows is that of the first row that has it
+pub first_of-rows : {X K : Type 0} (same : K → K → Bool) (key_of : X → K) (key : K) (rows : List X)
+    → first_of same key (map key_of rows) ≡ position (λ row. same (key_of row) key) rows
+first_of-rows same key_of key rows = position-map (λ other. same other key) key_of rows
 
 -- a key stands among those of rows as often as rows have it
-pub number_of-rows : {X K : Type 0} (same : K → K → Bool) (compare : K → K → Ordering) (key_of : X → K) (key : K)
-    (rows : List X)
-    → Matches same compare
-    → number_of compare key (map key_of rows) ≡ count_by (λ row. same (key_of row) key) rows
-number_of-rows same compare key_of key rows matches =
-    count_by-map (λ other. is_eq (compare other key)) key_of rows
-    ∙ (λ i. count_by (λ row. sym (matches (key_of row) key) i) rows)
+pub number_of-rows : {X K : Type 0} (same : K → K → Bool) (key_of : X → K) (key : K) (rows : List X)
+    → number_of same key (map key_of rows) ≡ count_by (λ row. same (key_of row) key) rows
+number_of-rows same key_of key rows = fold-map (λ n other. n + cond (same other key) 1 0) key_of 0 rows

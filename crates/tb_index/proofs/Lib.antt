@@ -1,7 +1,6 @@
 pub mod PositionLemmas
 pub mod KeyLemmas
 pub mod PlaceLemmas
-pub mod CountedLemmas
-pub mod CountLemmas
+pub mod FirstLemmas
 pub mod EndLemmas
 pub mod LinkLemmas

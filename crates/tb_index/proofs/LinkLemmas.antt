@@ -1,28 +1,22 @@
 -- The links of the keys of a list, as it grows and shrinks at its end, and as rows of one key are gone through by them.
 use Rattle.std.proofs.Common.{◌≡◌, ℕ, suc, ◌+◌, ◌-◌, ◌<◌, ◌≤◌, map, Bool, true, List, [], ◌∷◌, ◌++◌, inl, inr, length, get_or, take, reverse, refl, sym, ap, ◌∙◌, subst, arith, append-nil}
 use Rattle.std.specs.List.{filter}
-use Rattle.std.specs.Cmp.{IsTotalOrder}
-use Rattle.std.specs.declared.cmp.Ordering.{Ordering}
-use Rattle.std.specs.declared.cmp.Ordering.TheVariants.{Equal}
+use Rattle.std.specs.Cmp.{IsEquivalence}
 use Rattle.std.proofs.lemmas.Bool.{cases_lt}
 use Rattle.std.proofs.lemmas.List.{append_assoc, get_or-map, get_or-take, get_or_default, get_or_append_left, get_or_push, length-map, length-take-le, length_push, reverse-append, take-append-le, take-map, take-take, take_at}
-use Rattle.std.specs.Ordering.{is_eq}
-use Rattle.std.proofs.lemmas.Cmp.{tied_itself}
-use Rattle.tb_blocks.proofs.OrderLemmas.{equal-is}
 use Rattle.tb_index.specs.Indexes.{end_by, end_of, AreLinks}
-use Rattle.tb_index.proofs.KeyLemmas.{Matches}
 use Rattle.tb_index.proofs.EndLemmas.{end_by-within, end_of-rows, end_of-same, end-passes, filter-end, filter-last}
 
 -- no keys have no links
-pub AreLinks-nil : {K : Type 0} (compare : K → K → Ordering) → AreLinks {K = K} compare [] []
-AreLinks-nil compare = record { long = refl; each = λ k key d short. absurd (omega (arith, short)) }
+pub AreLinks-nil : {K : Type 0} (same : K → K → Bool) → AreLinks {K = K} same [] []
+AreLinks-nil same = record { long = refl; each = λ k key d short. absurd (omega (arith, short)) }
 
 -- one key more
-pub AreLinks-push : {K : Type 0} (compare : K → K → Ordering) (keys : List K) (links : List ℕ) (key : K) (link : ℕ)
-    → AreLinks compare keys links
-    → link ≡ end_of compare key keys
-    → AreLinks compare (keys ++ key ∷ []) (links ++ link ∷ [])
-AreLinks-push compare keys links key link are is =
+pub AreLinks-push : {K : Type 0} (same : K → K → Bool) (keys : List K) (links : List ℕ) (key : K) (link : ℕ)
+    → AreLinks same keys links
+    → link ≡ end_of same key keys
+    → AreLinks same (keys ++ key ∷ []) (links ++ link ∷ [])
+AreLinks-push same keys links key link are is =
     let more : length (keys ++ key ∷ []) ≡ length keys + 1 = length_push keys key in
     let more_links : length (links ++ link ∷ []) ≡ length links + 1 = length_push links link in
     record {
@@ -32,24 +26,24 @@ AreLinks-push compare keys links key link are is =
             | inl below ↦
                 get_or_append_left links (link ∷ []) d k (omega (arith, below, are.long))
                 ∙ (are.each k e d below
-                ∙ sym (ap (λ x. end_of compare x (take k (keys ++ key ∷ [])))
+                ∙ sym (ap (λ x. end_of same x (take k (keys ++ key ∷ [])))
                 (get_or_append_left keys (key ∷ []) e k below)
-                ∙ ap (λ front. end_of compare (get_or keys k e) front)
+                ∙ ap (λ front. end_of same (get_or keys k e) front)
                 (take-append-le k keys (key ∷ []) (omega (arith, below)))))
             | inr above ↦
                 let end : length keys ≡ k = omega (arith, above, short, more) in
                 get_or_push links link d k (are.long ∙ end)
                 ∙ (is
-                ∙ sym (ap (λ x. end_of compare x (take k (keys ++ key ∷ []))) (get_or_push keys key e k end)
-                ∙ ap (λ front. end_of compare key front) (take_at keys (key ∷ []) k end)))
+                ∙ sym (ap (λ x. end_of same x (take k (keys ++ key ∷ []))) (get_or_push keys key e k end)
+                ∙ ap (λ front. end_of same key front) (take_at keys (key ∷ []) k end)))
           ];
     }
 
 -- one key fewer: its link is its end in those that are left
-pub AreLinks-pop : {K : Type 0} (compare : K → K → Ordering) (keys : List K) (links : List ℕ) (key : K) (link : ℕ)
-    → AreLinks compare (keys ++ key ∷ []) (links ++ link ∷ [])
-    → AreLinks compare keys links × (end_of compare key keys ≡ link)
-AreLinks-pop compare keys links key link are =
+pub AreLinks-pop : {K : Type 0} (same : K → K → Bool) (keys : List K) (links : List ℕ) (key : K) (link : ℕ)
+    → AreLinks same (keys ++ key ∷ []) (links ++ link ∷ [])
+    → AreLinks same keys links × (end_of same key keys ≡ link)
+AreLinks-pop same keys links key link are =
     let more : length (keys ++ key ∷ []) ≡ length keys + 1 = length_push keys key in
     let more_links : length (links ++ link ∷ []) ≡ length links + 1 = length_push links link in
     let long : length links ≡ length keys = omega (arith, more, more_links, are.long) in (
@@ -58,15 +52,15 @@ AreLinks-pop compare keys links key link are =
         each = λ k e d short.
             sym (get_or_append_left links (link ∷ []) d k (omega (arith, short, long)))
             ∙ (are.each k e d (omega (arith, short, more))
-            ∙ (ap (λ x. end_of compare x (take k (keys ++ key ∷ []))) (get_or_append_left keys (key ∷ []) e k short)
-            ∙ ap (λ front. end_of compare (get_or keys k e) front)
+            ∙ (ap (λ x. end_of same x (take k (keys ++ key ∷ []))) (get_or_append_left keys (key ∷ []) e k short)
+            ∙ ap (λ front. end_of same (get_or keys k e) front)
             (take-append-le k keys (key ∷ []) (omega (arith, short)))));
       },
       sym (sym (get_or_push links link link (length keys) long)
           ∙ (are.each (length keys) key link (omega (arith, more))
-          ∙ (ap (λ x. end_of compare x (take (length keys) (keys ++ key ∷ [])))
+          ∙ (ap (λ x. end_of same x (take (length keys) (keys ++ key ∷ [])))
           (get_or_push keys key key (length keys) refl)
-          ∙ ap (λ front. end_of compare key front) (take_at keys (key ∷ []) (length keys) refl)))),
+          ∙ ap (λ front. end_of same key front) (take_at keys (key ∷ []) (length keys) refl)))),
     )
 
 -- so far rows that pass are found from the last on back to the end, and the one before the end passes
@@ -126,41 +120,38 @@ IsFoundTo-all p rows found end so_far none =
     sym (so_far.rest ∙ ap (λ e. filter p (take e rows) ++ reverse found) none)
 
 -- the link of a row that has the key is the key's end before it
-pub link-is : {X K : Type 0} (same : K → K → Bool) (compare : K → K → Ordering) (key_of : X → K) (key : K)
+pub link-is : {X K : Type 0} (same : K → K → Bool) (key_of : X → K) (key : K)
     (rows : List X) (links : List ℕ) (n link : ℕ) (d : X)
-    → Matches same compare
-    → IsTotalOrder compare
-    → AreLinks compare (map key_of rows) links
+    → IsEquivalence same
+    → AreLinks same (map key_of rows) links
     → n < length rows
     → link ≡ get_or links n link
     → same (key_of (get_or rows n d)) key ≡ true
     → link ≡ end_by (λ row. same (key_of row) key) (take n rows)
-link-is same compare key_of key rows links n link d matches total are short is has =
+link-is same key_of key rows links n link d laws are short is has =
     let one = key_of (get_or rows n d) in
-    let equal : compare one key ≡ Equal = equal-is (compare one key) (sym (matches one key) ∙ has) in
     let there : get_or (map key_of rows) n one ≡ one = get_or-map key_of rows n d one short in
     is
     ∙ (are.each n one link (subst (λ m. n < m) (sym (length-map rows key_of)) short)
-    ∙ (ap (λ x. end_of compare x (take n (map key_of rows))) there
-    ∙ (end_of-same compare one key (take n (map key_of rows)) total equal
-    ∙ (ap (λ front. end_of compare key front) (take-map key_of n rows)
-    ∙ end_of-rows same compare key_of key (take n rows) matches))))
+    ∙ (ap (λ x. end_of same x (take n (map key_of rows))) there
+    ∙ (end_of-same laws one key (take n (map key_of rows)) has
+    ∙ (ap (λ front. end_of same key front) (take-map key_of n rows)
+    ∙ end_of-rows same key_of key (take n rows)))))
 
 -- and where rows are found to an end, the link before it leads to the end that is next
-pub next-is : {X K : Type 0} (same : K → K → Bool) (compare : K → K → Ordering) (key_of : X → K) (key : K)
+pub next-is : {X K : Type 0} (same : K → K → Bool) (key_of : X → K) (key : K)
     (rows found : List X) (links : List ℕ) (end d : ℕ) (row : X)
-    → Matches same compare
-    → IsTotalOrder compare
-    → AreLinks compare (map key_of rows) links
+    → IsEquivalence same
+    → AreLinks same (map key_of rows) links
     → IsFoundTo (λ one. same (key_of one) key) rows found end
     → 0 < end
     → get_or links (end - 1) d ≡ end_by (λ one. same (key_of one) key) (take (end - 1) rows)
-next-is same compare key_of key rows found links end d row matches total are so_far some =
+next-is same key_of key rows found links end d row laws are so_far some =
     let n = end - 1 in
     let at : end ≡ suc n = omega (arith, some) in
     let short : n < length rows = omega (arith, so_far.within, some) in
     let within : n < length links = omega (arith, short, are.long, length-map rows key_of) in
-    link-is same compare key_of key rows links n (get_or links n d) row matches total are short
+    link-is same key_of key rows links n (get_or links n d) row laws are short
     (get_or_default links n d (get_or links n d) within)
     (so_far.passes n row at)
 
@@ -175,15 +166,14 @@ next-smaller p rows end next within some is =
     omega (arith, is, long, some, end_by-within p (take (end - 1) rows))
 
 -- the link of a row leads to the end of its own key before it
-pub link-own : {X K : Type 0} (same : K → K → Bool) (compare : K → K → Ordering) (key_of : X → K) (rows : List X)
+pub link-own : {X K : Type 0} (same : K → K → Bool) (key_of : X → K) (rows : List X)
     (links : List ℕ) (n link : ℕ) (d : X)
-    → Matches same compare
-    → IsTotalOrder compare
-    → AreLinks compare (map key_of rows) links
+    → IsEquivalence same
+    → AreLinks same (map key_of rows) links
     → n < length rows
     → link ≡ get_or links n link
     → link ≡ end_by (λ row. same (key_of row) (key_of (get_or rows n d))) (take n rows)
-link-own same compare key_of rows links n link d matches total are short is =
+link-own same key_of rows links n link d laws are short is =
     let one = key_of (get_or rows n d) in
-    link-is same compare key_of one rows links n link d matches total are short is
-    (matches one one ∙ ap is_eq (tied_itself total one))
+    link-is same key_of one rows links n link d laws are short is
+    (laws.refl one)

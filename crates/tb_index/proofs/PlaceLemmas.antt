@@ -12,7 +12,7 @@ use Rattle.std.proofs.lemmas.List.Edits.{length-remove, get_or-remove_below, get
 use Rattle.tb_blocks.specs.Orders.{AreOrdered, HasKey, HasKeyAt}
 use Rattle.tb_blocks.proofs.OrderLemmas.{equal-is}
 use Rattle.tb_index.specs.declared.places.Place.{Place}
-use Rattle.tb_index.specs.Indexes.{first_of, ArePlaces}
+use Rattle.tb_index.specs.Indexes.{first_of, tied, ArePlaces}
 use Rattle.tb_index.proofs.PositionLemmas.{position-stays, position-new, position-none, position-none_before, position-before, position-within, position-last}
 use Rattle.tb_index.proofs.KeyLemmas.{All-insert, HasKey-insert, HasKey-inserted, HasKey-remove, ordered-apart}
 
@@ -20,12 +20,12 @@ use Rattle.tb_index.proofs.KeyLemmas.{All-insert, HasKey-insert, HasKey-inserted
 abbrev pub key_in : {K : Type 0} → Place K → K
 key_in place = place.key
 
--- equal keys stand first at the same place
-pub first_of-same : {K : Type 0} (compare : K → K → Ordering) (one other : K) (keys : List K)
+-- keys that their order ties stand first at the same place
+pub first_of-equal : {K : Type 0} (compare : K → K → Ordering) (one other : K) (keys : List K)
     → IsTotalOrder compare
     → compare one other ≡ Equal
-    → first_of compare one keys ≡ first_of compare other keys
-first_of-same compare one other keys total equal =
+    → first_of (tied compare) one keys ≡ first_of (tied compare) other keys
+first_of-equal compare one other keys total equal =
     λ i. position (λ k. is_eq (alike_right total one other k equal i)) keys
 
 -- what a place that is kept says of an equal key
@@ -35,11 +35,11 @@ pub first_of-kept : {K : Type 0} (compare : K → K → Ordering) (keys : List K
     → ArePlaces compare keys places
     → HasKeyAt compare key_in key places at
     → place ≡ get_or places at place
-    → first_of compare key keys ≡ Some place.place
+    → first_of (tied compare) key keys ≡ Some place.place
 first_of-kept compare keys places key at place total are has is =
     let equal : compare place.key key ≡ Equal = ap (λ p. compare (key_in p) key) is ∙ has.same place in
-    sym (first_of-same compare place.key key keys total equal)
-    ∙ (ap (λ p. first_of compare (key_in p) keys) is
+    sym (first_of-equal compare place.key key keys total equal)
+    ∙ (ap (λ p. first_of (tied compare) (key_in p) keys) is
     ∙ (are.each at place has.within ∙ ap (λ (p : Place _). Some p.place) (sym is)))
 
 -- no keys have no places
@@ -52,11 +52,11 @@ ArePlaces-nil compare = record {
 
 -- the keys that are kept stay at their places when a key is added
 each-stays : {K : Type 0} (compare : K → K → Ordering) (keys : List K) (key : K) (places : List (Place K))
-    → All (λ (place : Place K). first_of compare place.key keys ≡ Some place.place) places
-    → All (λ (place : Place K). first_of compare place.key (keys ++ key ∷ []) ≡ Some place.place) places
+    → All (λ (place : Place K). first_of (tied compare) place.key keys ≡ Some place.place) places
+    → All (λ (place : Place K). first_of (tied compare) place.key (keys ++ key ∷ []) ≡ Some place.place) places
 each-stays compare keys key places each =
-    All-weaker (λ (place : Place _). first_of compare place.key keys ≡ Some place.place)
-    (λ (place : Place _). first_of compare place.key (keys ++ key ∷ []) ≡ Some place.place)
+    All-weaker (λ (place : Place _). first_of (tied compare) place.key keys ≡ Some place.place)
+    (λ (place : Place _). first_of (tied compare) place.key (keys ++ key ∷ []) ≡ Some place.place)
     (λ place is. position-stays (λ other. is_eq (compare other place.key)) keys key place.place is) places each
 
 -- a key that isn't kept gets the end as its place
@@ -72,7 +72,7 @@ ArePlaces-new compare keys places key i total are lacks within order =
     let new : Place _ = record { key = key; place = length keys } in
     record {
       order = order;
-      each = All-insert (λ (place : Place _). first_of compare place.key (keys ++ key ∷ []) ≡ Some place.place) places i
+      each = All-insert (λ (place : Place _). first_of (tied compare) place.key (keys ++ key ∷ []) ≡ Some place.place) places i
           new
           (each-stays compare keys key places are.each)
           (position-new (λ other. is_eq (compare other key)) keys key (are.others key lacks)
@@ -120,8 +120,8 @@ pub ArePlaces-has : {K : Type 0} (compare : K → K → Ordering) (keys : List K
     → ¬ (HasKey compare key_in key places)
     → ⊥
 ArePlaces-has compare keys places key total are lacks =
-    let none : first_of compare key (keys ++ key ∷ []) ≡ None = are.others key lacks in
-    let some : first_of compare key (keys ++ key ∷ []) ≡ Some (length keys) =
+    let none : first_of (tied compare) key (keys ++ key ∷ []) ≡ None = are.others key lacks in
+    let some : first_of (tied compare) key (keys ++ key ∷ []) ≡ Some (length keys) =
     position-new (λ other. is_eq (compare other key)) keys key
     (position-none_before (λ other. is_eq (compare other key)) keys key none) (ap is_eq (tied_itself total key)) in
     cc
@@ -130,19 +130,19 @@ ArePlaces-has compare keys places key total are lacks =
 pub ArePlaces-kept : {K : Type 0} (compare : K → K → Ordering) (keys : List K) (places : List (Place K)) (key : K)
     → IsTotalOrder compare
     → ArePlaces compare (keys ++ key ∷ []) places
-    → (first_of compare key (keys ++ key ∷ []) ≡ Some (length keys) → ⊥)
+    → (first_of (tied compare) key (keys ++ key ∷ []) ≡ Some (length keys) → ⊥)
     → ArePlaces compare keys places
 ArePlaces-kept compare keys places key total are earlier = record {
   order = are.order;
   each = λ k d short.
       let place = get_or places k d in
-      let is : first_of compare place.key (keys ++ key ∷ []) ≡ Some place.place = are.each k d short in
+      let is : first_of (tied compare) place.key (keys ++ key ∷ []) ≡ Some place.place = are.each k d short in
       elim (cases_Bool (is_eq (compare key place.key))) [
         | inl same ↦
             let equal = equal-is (compare key place.key) same in
             position-within (λ other. is_eq (compare other place.key)) keys key place.place is
             (λ end. earlier
-            (first_of-same compare key place.key (keys ++ key ∷ []) total equal ∙ (is ∙ ap (λ n. Some n) end)))
+            (first_of-equal compare key place.key (keys ++ key ∷ []) total equal ∙ (is ∙ ap (λ n. Some n) end)))
         | inr apart ↦ position-before (λ other. is_eq (compare other place.key)) keys key place.place is apart
       ];
   others = λ other none. position-none_before (λ k. is_eq (compare k other)) keys key (are.others other none);
@@ -153,13 +153,13 @@ pub ArePlaces-removed : {K : Type 0} (compare : K → K → Ordering) (keys : Li
     (i : ℕ)
     → IsTotalOrder compare
     → ArePlaces compare (keys ++ key ∷ []) places
-    → first_of compare key (keys ++ key ∷ []) ≡ Some (length keys)
+    → first_of (tied compare) key (keys ++ key ∷ []) ≡ Some (length keys)
     → HasKeyAt compare key_in key places i
     → AreOrdered compare key_in (remove places i)
     → ArePlaces compare keys (remove places i)
 ArePlaces-removed {K} compare keys places key i total are last has order =
     let apart-at : (k : ℕ) (d : Place K) → k < length places → (k ≡ i → ⊥)
-    → first_of compare (key_in (get_or places k d)) keys ≡ Some (get_or places k d).place =
+    → first_of (tied compare) (key_in (get_or places k d)) keys ≡ Some (get_or places k d).place =
     λ k d short other.
     let place = get_or places k d in
     elim (cases_Bool (is_eq (compare key place.key))) [
@@ -174,7 +174,7 @@ ArePlaces-removed {K} compare keys places key i total are last has order =
     let d : Place K = record { key = key; place = 0 } in
     sym (total.congr (key_in (get_or places i d)) key other (has.same d))
     ∙ (ap (λ n. compare (key_in (get_or places n d)) other) (sym at) ∙ there.1.same d) in
-    let none-before : first_of compare key keys ≡ None = position-last (λ k. is_eq (compare k key)) keys key last in
+    let none-before : first_of (tied compare) key keys ≡ None = position-last (λ k. is_eq (compare k key)) keys key last in
     record {
       order = order;
       each = λ k d short.
@@ -182,12 +182,12 @@ ArePlaces-removed {K} compare keys places key i total are last has order =
           elim (cases_lt k i) [
             | inl below ↦
                 let e = get_or-remove_below places i d k below has.within in
-                ap (λ p. first_of compare (key_in p) keys) e
+                ap (λ p. first_of (tied compare) (key_in p) keys) e
                 ∙ (apart-at k d (omega (arith, below, has.within)) (λ at. omega (arith, at, below))
                 ∙ ap (λ (p : Place K). Some p.place) (sym e))
             | inr above ↦
                 let e = get_or-remove_above places i d k above has.within in
-                ap (λ p. first_of compare (key_in p) keys) e
+                ap (λ p. first_of (tied compare) (key_in p) keys) e
                 ∙ (apart-at (k + 1) d (omega (arith, fewer, short)) (λ at. omega (arith, at, above))
                 ∙ ap (λ (p : Place K). Some p.place) (sym e))
           ];
@@ -195,7 +195,7 @@ ArePlaces-removed {K} compare keys places key i total are last has order =
           elim (cases_Bool (is_eq (compare key other))) [
             | inl same ↦
                 let equal = equal-is (compare key other) same in
-                sym (first_of-same compare key other keys total equal) ∙ none-before
+                sym (first_of-equal compare key other keys total equal) ∙ none-before
             | inr apart ↦
                 position-none_before (λ k. is_eq (compare k other)) keys key
                 (are.others other (λ there. none (HasKey-remove compare key_in other places i has.within there

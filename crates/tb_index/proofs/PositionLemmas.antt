@@ -18,6 +18,19 @@ position-push p xs y =
     let most : position_or_len p xs ≤ length xs = prefix_len-le-length (λ x. not (p x)) xs in
     grind (arith, nat_tests)
 
+-- a place or none, or else none
+or-none : (found : Option ℕ) → option_or found None ≡ found
+or-none None = refl
+or-none (Some i) = refl
+
+-- where the new element fails, the place is the old one
+pub position-other : {X : Type 0} (p : X → Bool) (xs : List X) (y : X)
+    → p y ≡ false
+    → position p (xs ++ y ∷ []) ≡ position p xs
+position-other p xs y fails =
+    position-push p xs y
+    ∙ (ap (λ b. option_or (position p xs) (cond b (Some (length xs)) None)) fails ∙ or-none (position p xs))
+
 -- a place stays
 pub position-stays : {X : Type 0} (p : X → Bool) (xs : List X) (y : X) (i : ℕ)
     → position p xs ≡ Some i

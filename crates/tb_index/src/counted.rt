@@ -6,8 +6,8 @@ use crate::counts::{Counts, add_count, count_of, take_count};
 use crate::keyed::Keyed;
 use crate::keys::KeyOf;
 use std::alloc::Global;
+use std::collections::HashMap;
 use std::marker::Model;
-use tb_blocks::Ordered;
 use tb_units::OutOfMemory;
 
 /// Rows in the order of adding, found by one key and counted by another. Contracts see the list of the rows, and how
@@ -20,6 +20,7 @@ pub struct Counted<T, By: KeyOf<T>, Of: KeyOf<T>> {
 
 impl<T, By: KeyOf<T>, Of: KeyOf<T>> Model for Counted<T, By, Of> {
     ghost use Rattle.std.specs.Prelude.{min, map};
+    ghost use Rattle.std.specs.HashMap.{spare};
     ghost use Rattle.tb_index.specs.Listed.{Listed};
     ghost use Rattle.tb_index.specs.Indexes.{AreCounts};
 
@@ -27,10 +28,10 @@ impl<T, By: KeyOf<T>, Of: KeyOf<T>> Model for Counted<T, By, Of> {
 
     ghost view = { λ counted. record {
       list = counted.keyed.list;
-      spare = min counted.keyed.spare counted.counts.spare;
+      spare = min counted.keyed.spare (spare counted.counts);
     } };
 
-    ghost invariant = { λ counted. AreCounts Of.Key.cmp (map Of.key_of counted.keyed.list) counted.counts.elements };
+    ghost invariant = { λ counted. AreCounts Of.Key.eq (map Of.key_of counted.keyed.list) counted.counts };
 }
 
 impl<T: Drop, By: KeyOf<T>, Of: KeyOf<T>> Counted<T, By, Of> {
@@ -41,7 +42,7 @@ impl<T: Drop, By: KeyOf<T>, Of: KeyOf<T>> Counted<T, By, Of> {
     {
         Counted {
             keyed: Keyed::new(alloc),
-            counts: Ordered::new(alloc),
+            counts: HashMap::new(alloc),
         }
     }
 
@@ -61,7 +62,8 @@ impl<T: Drop, By: KeyOf<T>, Of: KeyOf<T>> Counted<T, By, Of> {
     pub fn spare(&self) -> usize
         ensures { result ≡ self.now.spare }
     {
-        self.keyed.spare().min(self.counts.spare())
+        let spare = self.counts.capacity() - self.counts.len();
+        self.keyed.spare().min(spare)
     }
 
     /// The rows, in the order of adding.

@@ -1,78 +1,44 @@
-//! How often each key of a list stands in it, in the order of the keys.
+//! How often each name of a list stands in it, found by the hash of the name.
 ghost use Rattle.std.specs.Prelude.{◌≡◌, ◌+◌, ◌-◌, ◌^◌, ◌<◌, ◌≤◌, [], ◌∷◌, ◌++◌, List, length};
+ghost use Rattle.std.specs.HashMap.{spare};
 ghost use Rattle.tb_index.specs.Indexes.{number_of, AreCounts};
 
-use tb_blocks::Ordered;
+use std::collections::HashMap;
+use std::hash::Hash;
 
-/// A key with how often it stands in a list.
-#[derive(Clone, Copy, Drop)]
-pub struct Count<K> {
-    pub key: K,
-    pub count: usize,
-}
+/// The names of a list, each with a number: how often it stands there, or where it ends. A name that was taken off may
+/// stay, with none.
+pub type Counts<K> = HashMap<K, usize>;
 
-impl<K: Ord + Copy + Drop> tb_blocks::Keyed for Count<K> {
-    type Key = K;
-
-    ghost key_of = { λ count. count.key };
-
-    fn key(&self) -> K {
-        self.key
-    }
-}
-
-/// The keys of a list with their counts. A key that was taken off may stay, with none.
-pub type Counts<K> = Ordered<Count<K>>;
-
-/// How often the key stands in the list.
-pub fn count_of<K: Ord + Copy + Drop>(counts: &Counts<K>, key: &K) -> usize
-    ensures { (keys : List K) → AreCounts K.cmp keys counts.now.elements → result ≡ number_of K.cmp key.now keys }
+/// How often the name stands in the list.
+pub fn count_of<K: Eq + Hash + Copy + Drop>(counts: &Counts<K>, key: &K) -> usize
+    ensures { (keys : List K) → AreCounts K.eq keys counts.now → result ≡ number_of K.eq key.now keys }
 {
-    match counts.find(key) {
-        Some(at) => counts.at(at).count,
-        None => 0,
-    }
+    counts.get(key).copied().unwrap_or(0)
 }
 
-/// Adds the key to the list, which isn't too long.
-pub fn add_count<K: Ord + Copy + Drop>(counts: &mut Counts<K>, key: K)
-    requires room { 0 < counts.old.spare }
-    requires few { (keys : List K) × AreCounts K.cmp keys counts.old.elements × (length keys < 2 ^ 64 - 1) }
-    ensures counts { (keys : List K) → AreCounts K.cmp keys counts.old.elements
-        → AreCounts K.cmp (keys ++ key ∷ []) counts.new.elements }
-    ensures spare { counts.old.spare ≤ counts.new.spare + 1 }
+/// Adds the name to the list, which isn't too long.
+pub fn add_count<K: Eq + Hash + Copy + Drop>(counts: &mut Counts<K>, key: K)
+    requires room { 0 < spare counts.old }
+    requires few { (keys : List K) × AreCounts K.eq keys counts.old × (length keys < 2 ^ 64 - 1) }
+    ensures counts { (keys : List K) → AreCounts K.eq keys counts.old → AreCounts K.eq (keys ++ key ∷ []) counts.new }
+    ensures spare { spare counts.old ≤ spare counts.new + 1 }
 {
-    match counts.find(&key) {
-        Some(at) => {
-            let found = *counts.at(at);
-            let count = found.count + 1;
-            let _ = counts.replace(
-                at,
-                Count {
-                    key: found.key,
-                    count,
-                },
-            );
+    match counts.get_mut(&key) {
+        Some(count) => *count += 1,
+        None => {
+            let _ = counts.insert(key, 1);
         }
-        None => counts.insert(Count { key, count: 1 }),
     }
 }
 
-/// Takes the key off the end of the list.
-pub fn take_count<K: Ord + Copy + Drop>(counts: &mut Counts<K>, key: &K)
-    ensures counts { (keys : List K) → AreCounts K.cmp (keys ++ key.now ∷ []) counts.old.elements
-        → AreCounts K.cmp keys counts.new.elements }
-    ensures spare { counts.old.spare ≤ counts.new.spare }
+/// Takes the name off the end of the list.
+pub fn take_count<K: Eq + Hash + Copy + Drop>(counts: &mut Counts<K>, key: &K)
+    ensures counts { (keys : List K) → AreCounts K.eq (keys ++ key.now ∷ []) counts.old
+        → AreCounts K.eq keys counts.new }
+    ensures spare { spare counts.old ≤ spare counts.new }
 {
-    if let Some(at) = counts.find(key) {
-        let found = *counts.at(at);
-        let count = found.count.saturating_sub(1);
-        let _ = counts.replace(
-            at,
-            Count {
-                key: found.key,
-                count,
-            },
-        );
+    if let Some(count) = counts.get_mut(key) {
+        *count = count.saturating_sub(1);
     }
 }

@@ -1,55 +1,39 @@
-//! How many rows there are up to the last one of each key, in the order of the keys.
+//! How many rows there are up to the last one of each name, found by the hash of the name.
 ghost use Rattle.std.specs.Prelude.{◌≡◌, ◌+◌, ◌<◌, ◌≤◌, [], ◌∷◌, ◌++◌, List, length};
+ghost use Rattle.std.specs.HashMap.{spare};
 ghost use Rattle.tb_index.specs.Indexes.{end_of, AreEnds};
 
-use crate::counts::{Count, Counts};
+use crate::counts::Counts;
+use std::hash::Hash;
 
-/// How many keys of the list there are up to the last place of this one. It is 0 where the key isn't there.
-pub fn end_in<K: Ord + Copy + Drop>(ends: &Counts<K>, key: &K) -> usize
-    ensures { (keys : List K) → AreEnds K.cmp keys ends.now.elements → result ≡ end_of K.cmp key.now keys }
+/// How many names of the list there are up to the last place of this one. It is 0 where the name isn't there.
+pub fn end_in<K: Eq + Hash + Copy + Drop>(ends: &Counts<K>, key: &K) -> usize
+    ensures { (keys : List K) → AreEnds K.eq keys ends.now → result ≡ end_of K.eq key.now keys }
 {
-    match ends.find(key) {
-        Some(at) => ends.at(at).count,
-        None => 0,
+    ends.get(key).copied().unwrap_or(0)
+}
+
+/// Adds the name at the end of a list that has so many names then. Gives its end before.
+pub fn add_end<K: Eq + Hash + Copy + Drop>(ends: &mut Counts<K>, key: K, end: usize) -> usize
+    requires { 0 < spare ends.old }
+    ensures before { (keys : List K) → AreEnds K.eq keys ends.old → result ≡ end_of K.eq key keys }
+    ensures ends { (keys : List K) → length keys + 1 ≡ end → AreEnds K.eq keys ends.old
+        → AreEnds K.eq (keys ++ key ∷ []) ends.new }
+    ensures spare { spare ends.old ≤ spare ends.new + 1 }
+{
+    match ends.insert(key, end) {
+        Ok(Some(before)) => before,
+        _ => 0,
     }
 }
 
-/// Adds the key at the end of a list that has so many keys then.
-pub fn add_end<K: Ord + Copy + Drop>(ends: &mut Counts<K>, key: K, end: usize)
-    requires { 0 < ends.old.spare }
-    ensures ends { (keys : List K) → length keys + 1 ≡ end → AreEnds K.cmp keys ends.old.elements
-        → AreEnds K.cmp (keys ++ key ∷ []) ends.new.elements }
-    ensures spare { ends.old.spare ≤ ends.new.spare + 1 }
+/// Takes the name off the end of the list, in which its end is this one then.
+pub fn take_end<K: Eq + Hash + Copy + Drop>(ends: &mut Counts<K>, key: &K, end: usize)
+    ensures ends { (keys : List K) → end_of K.eq key.now keys ≡ end
+        → AreEnds K.eq (keys ++ key.now ∷ []) ends.old → AreEnds K.eq keys ends.new }
+    ensures spare { spare ends.old ≤ spare ends.new }
 {
-    match ends.find(&key) {
-        Some(at) => {
-            let found = *ends.at(at);
-            let _ = ends.replace(
-                at,
-                Count {
-                    key: found.key,
-                    count: end,
-                },
-            );
-        }
-        None => ends.insert(Count { key, count: end }),
-    }
-}
-
-/// Takes the key off the end of the list, in which its end is this one then.
-pub fn take_end<K: Ord + Copy + Drop>(ends: &mut Counts<K>, key: &K, end: usize)
-    ensures ends { (keys : List K) → end_of K.cmp key.now keys ≡ end
-        → AreEnds K.cmp (keys ++ key.now ∷ []) ends.old.elements → AreEnds K.cmp keys ends.new.elements }
-    ensures spare { ends.old.spare ≤ ends.new.spare }
-{
-    if let Some(at) = ends.find(key) {
-        let found = *ends.at(at);
-        let _ = ends.replace(
-            at,
-            Count {
-                key: found.key,
-                count: end,
-            },
-        );
+    if let Some(last) = ends.get_mut(key) {
+        *last = end;
     }
 }

@@ -6,8 +6,8 @@ use crate::counts::Counts;
 use crate::ends::{add_end, end_in};
 use crate::keys::KeyOf;
 use std::alloc::Global;
+use std::collections::HashMap;
 use std::marker::Model;
-use tb_blocks::Ordered;
 use tb_units::OutOfMemory;
 
 /// Rows in the order of adding, found by a key. Several rows may have one key: the last of them is found. Contracts see
@@ -20,6 +20,7 @@ pub struct Latest<T, By: KeyOf<T>> {
 
 impl<T, By: KeyOf<T>> Model for Latest<T, By> {
     ghost use Rattle.std.specs.Prelude.{◌-◌, min, map, vec_len, vec_capacity};
+    ghost use Rattle.std.specs.HashMap.{spare};
     ghost use Rattle.tb_index.specs.Listed.{Listed};
     ghost use Rattle.tb_index.specs.Indexes.{AreEnds};
 
@@ -27,10 +28,10 @@ impl<T, By: KeyOf<T>> Model for Latest<T, By> {
 
     ghost view = { λ latest. record {
       list = latest.rows.items;
-      spare = min (vec_capacity latest.rows - vec_len latest.rows) latest.ends.spare;
+      spare = min (vec_capacity latest.rows - vec_len latest.rows) (spare latest.ends);
     } };
 
-    ghost invariant = { λ latest. AreEnds By.Key.cmp (map By.key_of latest.rows.items) latest.ends.elements };
+    ghost invariant = { λ latest. AreEnds By.Key.eq (map By.key_of latest.rows.items) latest.ends };
 }
 
 impl<T: Drop, By: KeyOf<T>> Latest<T, By> {
@@ -41,7 +42,7 @@ impl<T: Drop, By: KeyOf<T>> Latest<T, By> {
     {
         Latest {
             rows: Vec::new(alloc),
-            ends: Ordered::new(alloc),
+            ends: HashMap::new(alloc),
         }
     }
 
@@ -62,7 +63,7 @@ impl<T: Drop, By: KeyOf<T>> Latest<T, By> {
         ensures { result ≡ self.now.spare }
     {
         let spare = self.rows.capacity() - self.rows.len();
-        spare.min(self.ends.spare())
+        spare.min(self.ends.capacity() - self.ends.len())
     }
 
     /// The rows, in the order of adding.
@@ -99,7 +100,7 @@ impl<T: Drop, By: KeyOf<T>> Latest<T, By> {
         ensures spare { self.old.spare ≤ self.new.spare + 1 }
     {
         let end = self.rows.len() + 1;
-        add_end(&mut self.ends, By::key_of(&row), end);
+        let _ = add_end(&mut self.ends, By::key_of(&row), end);
         self.rows.push_reserved(row);
     }
 }

@@ -5,10 +5,12 @@ mod chained;
 mod counted;
 mod counts;
 mod ends;
+mod firsts;
 mod keyed;
 mod keys;
 mod latest;
 mod links;
+mod named;
 mod places;
 mod twice_keyed;
 
@@ -17,4 +19,5 @@ pub use counted::Counted;
 pub use keyed::Keyed;
 pub use keys::KeyOf;
 pub use latest::Latest;
+pub use named::Named;
 pub use twice_keyed::TwiceKeyed;

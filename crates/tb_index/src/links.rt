@@ -15,8 +15,8 @@ pub fn rows_up_to<T: Copy + Drop, In: KeyOf<T>>(
     key: &In::Key,
     end: usize,
 ) -> Result<Vec<T>, OutOfMemory>
-    requires links { AreLinks In.Key.cmp (map In.key_of rows.now) links.now }
-    requires end { end ≡ end_of In.Key.cmp key.now (map In.key_of rows.now) }
+    requires links { AreLinks In.Key.eq (map In.key_of rows.now) links.now }
+    requires end { end ≡ end_of In.Key.eq key.now (map In.key_of rows.now) }
     ensures { IfOk result (λ found. found.items ≡ filter (λ row. In.Key.eq (In.key_of row) key.now) rows.now) }
 {
     let mut found = Vec::new(alloc);

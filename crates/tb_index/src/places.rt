@@ -1,6 +1,6 @@
 //! The first place of each key of a list, in the order of the keys.
 ghost use Rattle.std.specs.Prelude.{◌≡◌, ◌+◌, ◌<◌, ◌≤◌, [], ◌∷◌, ◌++◌, List, length};
-ghost use Rattle.tb_index.specs.Indexes.{first_of, ArePlaces};
+ghost use Rattle.tb_index.specs.Indexes.{first_of, tied, ArePlaces};
 
 use tb_blocks::Ordered;
 
@@ -26,7 +26,7 @@ pub type Places<K> = Ordered<Place<K>>;
 
 /// The first place of the key in the list.
 pub fn first_place<K: Ord + Copy + Drop>(places: &Places<K>, key: &K) -> Option<usize>
-    ensures { (keys : List K) → ArePlaces K.cmp keys places.now.elements → result ≡ first_of K.cmp key.now keys }
+    ensures { (keys : List K) → ArePlaces K.cmp keys places.now.elements → result ≡ first_of (tied K.cmp) key.now keys }
 {
     let at = places.find(key)?;
     Some(places.at(at).place)

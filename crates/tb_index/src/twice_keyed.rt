@@ -5,20 +5,20 @@ ghost use Rattle.tb_index.specs.Indexes.{end_by};
 
 use crate::counts::Counts;
 use crate::ends::{add_end, end_in, take_end};
-use crate::keyed::Keyed;
+use crate::firsts::{Firsts, add_first, first_in, take_first};
 use crate::keys::KeyOf;
-use crate::places::{Places, add_place, first_place, take_place};
+use crate::named::Named;
 use std::alloc::Global;
+use std::collections::HashMap;
 use std::marker::Model;
-use tb_blocks::Ordered;
 use tb_units::OutOfMemory;
 
 /// Rows in the order of adding, found by either of two keys. Contracts see the list of the rows, and how many adds are
 /// sure.
 #[derive(Drop)]
 pub struct TwiceKeyed<T, By: KeyOf<T>, Or: KeyOf<T>> {
-    keyed: Keyed<T, By>,
-    places: Places<Or::Key>,
+    named: Named<T, By>,
+    firsts: Firsts<Or::Key>,
     ends: Counts<Or::Key>,
     // For each row, how many rows there are up to the one before it with its other key.
     links: Vec<usize>,
@@ -26,20 +26,21 @@ pub struct TwiceKeyed<T, By: KeyOf<T>, Or: KeyOf<T>> {
 
 impl<T, By: KeyOf<T>, Or: KeyOf<T>> Model for TwiceKeyed<T, By, Or> {
     ghost use Rattle.std.specs.Prelude.{◌-◌, min, map, vec_len, vec_capacity};
+    ghost use Rattle.std.specs.HashMap.{spare};
     ghost use Rattle.tb_index.specs.Listed.{Listed};
-    ghost use Rattle.tb_index.specs.Indexes.{AreEnds, AreLinks, ArePlaces};
+    ghost use Rattle.tb_index.specs.Indexes.{AreEnds, AreFirsts, AreLinks};
 
     ghost Value = { Listed T };
 
     ghost view = { λ twice. record {
-      list = twice.keyed.list;
-      spare = min (min twice.keyed.spare twice.places.spare)
-          (min (vec_capacity twice.links - vec_len twice.links) twice.ends.spare);
+      list = twice.named.list;
+      spare = min (min twice.named.spare (spare twice.firsts))
+          (min (vec_capacity twice.links - vec_len twice.links) (spare twice.ends));
     } };
 
-    ghost invariant = { λ twice. ArePlaces Or.Key.cmp (map Or.key_of twice.keyed.list) twice.places.elements
-        × AreEnds Or.Key.cmp (map Or.key_of twice.keyed.list) twice.ends.elements
-        × AreLinks Or.Key.cmp (map Or.key_of twice.keyed.list) twice.links.items };
+    ghost invariant = { λ twice. AreFirsts Or.Key.eq (map Or.key_of twice.named.list) twice.firsts
+        × AreEnds Or.Key.eq (map Or.key_of twice.named.list) twice.ends
+        × AreLinks Or.Key.eq (map Or.key_of twice.named.list) twice.links.items };
 }
 
 impl<T: Drop, By: KeyOf<T>, Or: KeyOf<T>> TwiceKeyed<T, By, Or> {
@@ -49,9 +50,9 @@ impl<T: Drop, By: KeyOf<T>, Or: KeyOf<T>> TwiceKeyed<T, By, Or> {
         ensures spare { result.spare ≡ 0 }
     {
         TwiceKeyed {
-            keyed: Keyed::new(alloc),
-            places: Ordered::new(alloc),
-            ends: Ordered::new(alloc),
+            named: Named::new(alloc),
+            firsts: HashMap::new(alloc),
+            ends: HashMap::new(alloc),
             links: Vec::new(alloc),
         }
     }
@@ -63,8 +64,8 @@ impl<T: Drop, By: KeyOf<T>, Or: KeyOf<T>> TwiceKeyed<T, By, Or> {
         ensures list { self.new.list ≡ self.old.list }
         ensures room { self.old.spare ≤ self.new.spare }
     {
-        self.keyed.reserve(more)?;
-        self.places.reserve(more)?;
+        self.named.reserve(more)?;
+        self.firsts.reserve(more)?;
         self.ends.reserve(more)?;
         self.links.reserve(more)?;
         Ok(())
@@ -75,29 +76,30 @@ impl<T: Drop, By: KeyOf<T>, Or: KeyOf<T>> TwiceKeyed<T, By, Or> {
         ensures { result ≡ self.now.spare }
     {
         let spare = self.links.capacity() - self.links.len();
-        let found = self.keyed.spare().min(self.places.spare());
-        found.min(spare.min(self.ends.spare()))
+        let firsts = self.firsts.capacity() - self.firsts.len();
+        let ends = self.ends.capacity() - self.ends.len();
+        self.named.spare().min(firsts).min(spare.min(ends))
     }
 
     /// The rows, in the order of adding.
     pub fn rows(&self) -> &[T]
         ensures { result.now ≡ self.now.list }
     {
-        self.keyed.rows()
+        self.named.rows()
     }
 
     /// The rows, to be found by the one key.
-    pub fn keyed(&self) -> &Keyed<T, By>
+    pub fn named(&self) -> &Named<T, By>
         ensures { result.now.list ≡ self.now.list }
     {
-        &self.keyed
+        &self.named
     }
 
     /// The place of the first row that has the other key.
     pub fn find_other(&self, key: &Or::Key) -> Option<usize>
         ensures { result ≡ position (λ row. Or.Key.eq (Or.key_of row) key.now) self.now.list }
     {
-        first_place(&self.places, key)
+        first_in(&self.firsts, key)
     }
 
     /// The first row that has the other key.
@@ -139,11 +141,10 @@ impl<T: Drop, By: KeyOf<T>, Or: KeyOf<T>> TwiceKeyed<T, By, Or> {
         ensures spare { self.old.spare ≤ self.new.spare + 1 }
     {
         let key = Or::key_of(&row);
-        add_place(&mut self.places, key, self.keyed.len());
-        let link = end_in(&self.ends, &key);
-        add_end(&mut self.ends, key, self.links.len() + 1);
+        add_first(&mut self.firsts, key, self.named.len());
+        let link = add_end(&mut self.ends, key, self.links.len() + 1);
         self.links.push_reserved(link);
-        self.keyed.push(row);
+        self.named.push(row);
     }
 
     /// Takes the last row back. `None` where there is no row.
@@ -154,10 +155,10 @@ impl<T: Drop, By: KeyOf<T>, Or: KeyOf<T>> TwiceKeyed<T, By, Or> {
         // No room is lost.
         ensures spare { self.old.spare ≤ self.new.spare }
     {
-        let row = self.keyed.pop()?;
+        let row = self.named.pop()?;
         let link = self.links.pop().unwrap();
         let key = Or::key_of(&row);
-        take_place(&mut self.places, &key, self.keyed.len());
+        take_first(&mut self.firsts, &key, self.named.len());
         take_end(&mut self.ends, &key, link);
         Some(row)
     }

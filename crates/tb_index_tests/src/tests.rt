@@ -2,7 +2,7 @@
 use std::alloc::Global;
 use std::process::Abort;
 use std::test::Fail;
-use tb_index::{Chained, Counted, KeyOf, Latest, TwiceKeyed};
+use tb_index::{Chained, Counted, KeyOf, Latest, Named, TwiceKeyed};
 use tb_units::{Ident, OutOfMemory};
 
 // A bid is found by its bidder and number, and counted by its auction.
@@ -172,8 +172,8 @@ fn add_page(pages: &mut Pages, year: u64, number: u64) -> Result<(), OutOfMemory
 fn finds_as_a_walk(pages: &Pages, key: u64) -> bool {
     let by_year = pages.rows().iter().position(|page| page.year == key);
     let by_number = pages.rows().iter().position(|page| page.number == key);
-    pages.keyed().find(&key) == by_year
-        && pages.keyed().has(&key) == by_year.is_some()
+    pages.named().find(&key) == by_year
+        && pages.named().has(&key) == by_year.is_some()
         && pages.find_other(&key) == by_number
         && pages.has_other(&key) == by_number.is_some()
 }
@@ -203,12 +203,40 @@ fn pages_are_found_by_either_key_as_a_walk_finds_them(rt: HostRuntime) -> Result
     }
     // The first page of the year 2 is the third, since 2 * 5 = 8 + 2.
     let third = Page { year: 2, number: 6 };
-    assert!(rt; pages.keyed().get(&2).copied() == Some(third));
+    assert!(rt; pages.named().get(&2).copied() == Some(third));
     assert!(rt; pages.get_other(&6).copied() == Some(third));
     for _ in 0..40 {
         assert!(rt; pages.pop().is_some() && finds_all(&pages));
     }
     assert!(rt; pages.rows().len() == 0);
+    Ok(())
+}
+
+type Opened = Named<Bid, InAuction>;
+
+// The first bid of the auction stands at this place.
+fn opens_at(rt: &impl Abort, bids: &Opened, auction: &str, place: Option<usize>) -> bool {
+    let auction = name(rt, auction);
+    bids.find(&auction) == place && bids.has(&auction) == place.is_some()
+}
+
+#[test]
+fn the_first_bid_of_an_auction_is_found(rt: HostRuntime) -> Result<(), Fail> {
+    let mut bids: Opened = Named::new(rt.alloc());
+    bids.reserve(3)?;
+    assert!(rt; 3 <= bids.spare());
+    bids.push(bid_of(&rt, "ann", 7, "bill13"));
+    bids.push(bid_of(&rt, "bob", 7, "bill26"));
+    bids.push(bid_of(&rt, "eve", 1, "bill13"));
+    assert!(rt; opens_at(&rt, &bids, "bill13", Some(0)));
+    assert!(rt; opens_at(&rt, &bids, "bill26", Some(1)));
+    assert!(rt; opens_at(&rt, &bids, "bill52", None));
+    let first = bids.get(&name(&rt, "bill13")).copied();
+    assert!(rt; first == Some(bid_of(&rt, "ann", 7, "bill13")));
+    // The later of the two goes, and the first is still found; the only one of the other goes.
+    assert!(rt; bids.pop().is_some() && opens_at(&rt, &bids, "bill13", Some(0)));
+    assert!(rt; bids.pop().is_some() && opens_at(&rt, &bids, "bill26", None));
+    assert!(rt; bids.len() == 1);
     Ok(())
 }
 
@@ -246,7 +274,7 @@ fn the_last_bid_of_an_auction_is_found(rt: HostRuntime) -> Result<(), Fail> {
     Ok(())
 }
 
-type Chain = Chained<Bid, ByNumber, OfAuction, InAuction>;
+type Chain = Chained<Bid, OfAuction, InAuction>;
 
 fn add_in_chain(
     rt: &impl Abort,
@@ -297,7 +325,7 @@ fn an_auction_is_gone_through_bid_by_bid(rt: HostRuntime) -> Result<(), Fail> {
     assert!(rt; has_numbers(&rt, &bids, "bill13", &[1, 3, 4])?);
     assert!(rt; has_numbers(&rt, &bids, "bill26", &[2, 5])?);
     assert!(rt; has_numbers(&rt, &bids, "bill52", &[])?);
-    assert!(rt; bids.keyed().find(&(name(&rt, "ann"), 3)) == Some(2));
+    assert!(rt; bids.rows().get(2).copied() == Some(bid_of(&rt, "ann", 3, "bill13")));
     assert!(rt; bids.count(&name(&rt, "bill13")) == 3);
     Ok(())
 }

@@ -42,7 +42,7 @@ pub fn reserve_accounts(
 fn place_of_submitter(submitters: &Submitters, name: &Ident) -> Option<usize>
     ensures { result ≡ position (λ r. is_same r.submitter name.now) submitters.now.list }
 {
-    submitters.keyed().find(name)
+    submitters.named().find(name)
 }
 
 /// A participant's number in the accounts: its place in the order of registration.

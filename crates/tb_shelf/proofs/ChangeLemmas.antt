@@ -11,8 +11,9 @@ use Rattle.std.proofs.lemmas.List.Folds.{position_or_len-set}
 use Rattle.std.proofs.lemmas.List.Recursion.{found_set_other}
 use Rattle.std.proofs.lemmas.List.Sums.{passes_at_first}
 use Rattle.std.proofs.lemmas.Slice.Eq.{bytes_eq-Decides}
+use Rattle.tb_units.specs.declared.rate.Rate.{Rate}
 use Rattle.tb_book.specs.declared.book_line.BookLine.{BookLine}
-use Rattle.tb_book.specs.Books.{Bids, HasBid, IsTakenOut, most_bid, par_in}
+use Rattle.tb_book.specs.Books.{Bids, HasBidAt, IsTakenOut, most_bid, par_in}
 use Rattle.tb_shelf.specs.declared.named.NamedBook.{NamedBook}
 use Rattle.tb_shelf.specs.Shelves.{IsChanged, IsChangedAt, IsLowered, IsOpened, Shelved, TakesLine, book_in, has_places, is_of, names_in}
 use Rattle.tb_shelf.proofs.FindLemmas.{position-place, found_at, found_none}
@@ -107,22 +108,23 @@ IsChanged-none auction Change books none =
     record { names = refl; changed = rw (book_in-none books auction none) tt; others = λ other apart. refl }
 
 -- a line was taken out of a book, or there was none
-pub IsLowered-taken : (taken : Option BookLine) (bidder number : ℕ) (old new : Bids)
-    → IsNone taken ↔ (¬ (HasBid bidder number old.lines))
-    → IfSome taken (λ line. (line.bidder ≡ bidder) × (line.number ≡ number) × IsTakenOut line old.lines new.lines)
+pub IsLowered-taken : (taken : Option BookLine) (rate : Option Rate) (bidder number : ℕ) (old new : Bids)
+    → IsNone taken ↔ (¬ (HasBidAt rate bidder number old.lines))
+    → IfSome taken (λ line. (line.rate ≡ rate) × (line.bidder ≡ bidder) × (line.number ≡ number)
+    × IsTakenOut line old.lines new.lines)
     → IfSome taken (λ line. IsPermutation old.lines (line ∷ new.lines))
     → IfNone taken (new ≡ old)
     → old.spare ≤ new.spare
-    → IsLowered bidder number old new
-IsLowered-taken None bidder number old new none is elements unchanged room =
+    → IsLowered rate bidder number old new
+IsLowered-taken None rate bidder number old new none is elements unchanged room =
     record {
       taken = λ has. absurd (none.0 refl has);
       none = λ lacks. ap (λ (book : Bids). book.lines) unchanged;
       room = room;
     }
-IsLowered-taken (Some line) bidder number old new none is elements unchanged room =
+IsLowered-taken (Some line) rate bidder number old new none is elements unchanged room =
     record {
-      taken = λ has. (line, is.0, is.1, elements);
+      taken = λ has. (line, is.0, is.1, is.2, elements);
       none = λ lacks. let wrong : true ≡ false = none.1 lacks in absurd cc;
       room = room;
     }

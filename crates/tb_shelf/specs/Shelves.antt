@@ -3,8 +3,9 @@ use Rattle.std.specs.Prelude.{◌≡◌, ℕ, ◌+◌, ◌<◌, ◌≤◌, Bool,
 use Rattle.std.specs.List.{find}
 use Rattle.std.specs.Option.{option_map, option_map_or}
 use Rattle.std.specs.Str.{bytes_eq}
+use Rattle.tb_units.specs.declared.rate.Rate.{Rate}
 use Rattle.tb_book.specs.declared.book_line.BookLine.{BookLine}
-use Rattle.tb_book.specs.Books.{Bids, HasBid, par_in, most_bid}
+use Rattle.tb_book.specs.Books.{Bids, HasBid, HasBidAt, par_in, most_bid}
 use Rattle.tb_shelf.specs.declared.named.NamedBook.{NamedBook}
 
 -- what a contract sees of a shelf: the books under the names of their auctions, in the order in which these were
@@ -37,11 +38,12 @@ pub record IsAdded (line : BookLine) (old new : Bids) : Type 0 where
   pub elements : IsPermutation (line ∷ old.lines) new.lines
   pub room : old.spare ≤ new.spare + 1
 
--- the bidder's line of this number is taken out, if it is there
-pub record IsLowered (bidder number : ℕ) (old new : Bids) : Type 0 where
-  pub taken : HasBid bidder number old.lines
-      → (line : BookLine) × (line.bidder ≡ bidder) × (line.number ≡ number) × IsPermutation old.lines (line ∷ new.lines)
-  pub none : ¬ (HasBid bidder number old.lines) → new.lines ≡ old.lines
+-- the bidder's line of this rate, or of none, and of this number is taken out, if it is there
+pub record IsLowered (rate : Option Rate) (bidder number : ℕ) (old new : Bids) : Type 0 where
+  pub taken : HasBidAt rate bidder number old.lines
+      → (line : BookLine) × (line.rate ≡ rate) × (line.bidder ≡ bidder) × (line.number ≡ number)
+      × IsPermutation old.lines (line ∷ new.lines)
+  pub none : ¬ (HasBidAt rate bidder number old.lines) → new.lines ≡ old.lines
   pub room : old.spare ≤ new.spare
 
 -- the lines stay, and no room is lost

@@ -6,7 +6,7 @@ ghost use Rattle.tb_shelf.specs.Shelves.{IsAdded, IsChangedAt, IsKeptBook, IsLow
 
 use crate::named::{NamedBook, Names};
 use tb_book::{Book, BookLine};
-use tb_units::{Ident, OutOfMemory};
+use tb_units::{Ident, OutOfMemory, Rate};
 
 /// Where the book of the auction stands among books of these names.
 pub fn place_of(names: &Names, auction: &Ident) -> Option<usize>
@@ -36,12 +36,12 @@ pub fn add_at(books: &mut [NamedBook], place: usize, line: BookLine)
     books[place].book.add(line);
 }
 
-/// Takes the bidder's line of this number out of the book at the place.
-pub fn take_at(books: &mut [NamedBook], place: usize, bidder: u32, number: u64)
+/// Takes the bidder's line of this rate and number out of the book at the place.
+pub fn take_at(books: &mut [NamedBook], place: usize, rate: Option<Rate>, bidder: u32, number: u64)
     requires { place < length books.old }
-    ensures { IsChangedAt place (IsLowered bidder number) books.old books.new }
+    ensures { IsChangedAt place (IsLowered rate bidder number) books.old books.new }
 {
-    let _ = books[place].book.take_out(bidder, number);
+    let _ = books[place].book.take_out_at(rate, bidder, number);
 }
 
 /// Makes so many adds sure in the book at the place.

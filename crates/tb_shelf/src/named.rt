@@ -1,6 +1,6 @@
 //! The book of one auction under its name, and the names by which books are found.
 use tb_book::Book;
-use tb_index::{KeyOf, Keyed};
+use tb_index::{KeyOf, Named};
 use tb_units::Ident;
 
 /// The book of an auction.
@@ -24,4 +24,4 @@ impl KeyOf<Ident> for ByName {
 }
 
 /// The names of auctions, in the order in which their books were opened.
-pub type Names = Keyed<Ident, ByName>;
+pub type Names = Named<Ident, ByName>;

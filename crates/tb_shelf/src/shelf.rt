@@ -8,8 +8,8 @@ use crate::preparing::{fill, raise_all};
 use std::alloc::Global;
 use std::marker::Model;
 use tb_book::{Book, BookLine};
-use tb_index::Keyed;
-use tb_units::{Ident, OutOfMemory};
+use tb_index::Named;
+use tb_units::{Ident, OutOfMemory, Rate};
 
 /// The books of auctions. Contracts see them under their names, how many empty books stand ready, and for how many
 /// lines each of those has room.
@@ -46,7 +46,7 @@ impl Shelf {
     {
         Shelf {
             alloc,
-            names: Keyed::new(alloc),
+            names: Named::new(alloc),
             books: Vec::new(alloc),
             ready: Vec::new(alloc),
             places: 0,
@@ -123,13 +123,13 @@ impl Shelf {
         }
     }
 
-    /// Takes the bidder's line of this number out of the auction's book, if there is one.
-    pub fn take_out(&mut self, auction: &Ident, bidder: u32, number: u64)
-        ensures books { IsChanged auction.now (IsLowered bidder number) self.old.books self.new.books }
+    /// Takes the bidder's line of this rate, or of none, and of this number out of the auction's book, if there is one.
+    pub fn take_out(&mut self, auction: &Ident, rate: Option<Rate>, bidder: u32, number: u64)
+        ensures books { IsChanged auction.now (IsLowered rate bidder number) self.old.books self.new.books }
         ensures ready { (self.new.ready ≡ self.old.ready) × (self.new.places ≡ self.old.places) }
     {
         if let Some(place) = place_of(&self.names, auction) {
-            take_at(&mut self.books, place, bidder, number);
+            take_at(&mut self.books, place, rate, bidder, number);
         }
     }
 

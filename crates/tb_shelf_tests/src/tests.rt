@@ -42,9 +42,9 @@ fn a_line_stands_in_its_auctions_book_until_it_is_taken_out(rt: HostRuntime) {
         .expect(&rt, "memory");
     assert_eq!(rt; par_of(&shelf, &name("bill13", &rt), 3, &rt), 500);
     assert!(rt; shelf.book(&name("bill14", &rt)).is_none());
-    shelf.take_out(&name("bill13", &rt), 3, 8);
+    shelf.take_out(&name("bill13", &rt), None, 3, 8);
     assert_eq!(rt; par_of(&shelf, &name("bill13", &rt), 3, &rt), 500);
-    shelf.take_out(&name("bill13", &rt), 3, 7);
+    shelf.take_out(&name("bill13", &rt), None, 3, 7);
     assert_eq!(rt; par_of(&shelf, &name("bill13", &rt), 3, &rt), 0);
 }
 

@@ -140,7 +140,7 @@ shelved-cancel : (h : List Entry) (s auction : List ℕ) (n : ℕ) (bid : Bid) (
     → bid_of (bids h) s auction n ≡ Some bid
     → is_cancelled (cancels h) s auction n ≡ false
     → AreBooks h old
-    → IsChanged auction (IsLowered (place_of (enrolments h) bid.bidder) n) old new
+    → IsChanged auction (IsLowered bid.rate (place_of (enrolments h) bid.bidder) n) old new
     → AreShelved (enrolments h) (bids h) (cancels h ++ (record { submitter = s; auction = auction; bid = n }) ∷ []) new
 shelved-cancel h s auction n bid old new orderly numbered found still books changed =
     let c : Cancel = record { submitter = s; auction = auction; bid = n } in
@@ -165,14 +165,14 @@ shelved-cancel h s auction n bid old new orderly numbered found still books chan
     let taken : IsPermutation (lines_in h auction) (line_of bid ∷ map line_of (left auction)) =
     IsPermutation-map line_of (live_bids_in (bids h) (cancels h) auction) (bid ∷ left auction)
     (live-taken (bids h) (cancels h) s auction n bid found still (numbered.once s n)) in
-    lines-changed auction (IsLowered (place_of (enrolments h) bid.bidder) n) (lines_in h)
+    lines-changed auction (IsLowered bid.rate (place_of (enrolments h) bid.bidder) n) (lines_in h)
     (λ name. map line_of (left name)) old new changed books.lines
     (λ one other lowered has.
     lines-taken (line_of bid) (map line_of (left auction)) one other
     (IsPermutation-trans one.lines (lines_in h auction) (line_of bid ∷ map line_of (left auction))
     (IsPermutation-sym (lines_in h auction) one.lines has) taken)
     others
-    (subst (λ (x : ℕ). IsLowered (place_of (enrolments h) bid.bidder) x one other) (sym number) lowered))
+    (subst (λ (x : ℕ). IsLowered bid.rate (place_of (enrolments h) bid.bidder) x one other) (sym number) lowered))
     (λ name apart. ap (map line_of) (live-cancel_other (bids h) (cancels h) c name apart))
 
 -- more bidders leave the lines

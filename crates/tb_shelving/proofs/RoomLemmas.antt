@@ -212,7 +212,7 @@ places-out : (enrolled : List Enrolment) (found : Option Bid) (name : List ℕ) 
 places-out enrolled None name number old new n out auction has =
     rw out (places-less (book_in old auction) (n + 1) n (omega arith) has)
 places-out enrolled (Some bid) name number old new n out auction has =
-    places-changed name (IsLowered (place_of enrolled bid.bidder) number) old new (n + 1) n (omega arith)
+    places-changed name (IsLowered bid.rate (place_of enrolled bid.bidder) number) old new (n + 1) n (omega arith)
     (λ one other lowered enough. omega (arith, lowered.room, enough)) out auction has
 
 -- a message takes one place of a book at most

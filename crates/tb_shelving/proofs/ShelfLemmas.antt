@@ -8,7 +8,7 @@ use Rattle.std.proofs.lemmas.List.Sorted.{Contains-permutation, IsPermutation-sy
 use Rattle.std.proofs.lemmas.List.Sums.{passes_at_first}
 use Rattle.tb_message.specs.declared.message.Entry.{Entry}
 use Rattle.tb_book.specs.declared.book_line.BookLine.{BookLine}
-use Rattle.tb_book.specs.Books.{Bids, HasBid}
+use Rattle.tb_book.specs.Books.{Bids, HasBidAt}
 use Rattle.tb_book.proofs.CallerLemmas.{IsOther}
 use Rattle.tb_shelf.specs.declared.named.NamedBook.{NamedBook}
 use Rattle.tb_shelf.specs.Shelves.{Goes, IsChanged, IsLowered, book_in, is_of}
@@ -140,24 +140,31 @@ same-line line lines other (suc k) others within is bidder number =
 pub lines-taken : (line : BookLine) (rest : List BookLine) (old new : Bids)
     → IsPermutation old.lines (line ∷ rest)
     → All (IsOther line.bidder line.number) rest
-    → IsLowered line.bidder line.number old new
+    → IsLowered line.rate line.bidder line.number old new
     → IsPermutation rest new.lines
 lines-taken line rest old new has others lowered =
     let here : Contains old.lines line =
     Contains-permutation (line ∷ rest) old.lines line (IsPermutation-sym old.lines (line ∷ rest) has)
     (Contains-get_or (line ∷ rest) 0 line (omega arith)) in
     let at = at_from_Contains old.lines line here in
-    let bid : HasBid line.bidder line.number old.lines =
-    (at.0, at.1, λ d. (ap (λ (l : BookLine). l.bidder) (at.2 d), ap (λ (l : BookLine). l.number) (at.2 d))) in
+    let bid : HasBidAt line.rate line.bidder line.number old.lines = (
+      at.0,
+      at.1,
+      λ d. (
+        ap (λ (l : BookLine). l.rate) (at.2 d),
+        ap (λ (l : BookLine). l.bidder) (at.2 d),
+        ap (λ (l : BookLine). l.number) (at.2 d),
+      ),
+    ) in
     let taken = lowered.taken bid in
     let among : Contains (line ∷ rest) taken.0 =
     Contains-permutation old.lines (line ∷ rest) taken.0 has
     (Contains-permutation (taken.0 ∷ new.lines) old.lines taken.0
-    (IsPermutation-sym old.lines (taken.0 ∷ new.lines) taken.3)
+    (IsPermutation-sym old.lines (taken.0 ∷ new.lines) taken.4)
     (Contains-get_or (taken.0 ∷ new.lines) 0 taken.0 (omega arith))) in
     let found = at_from_Contains (line ∷ rest) taken.0 among in
     let same : taken.0 ≡ line =
-    same-line line rest taken.0 found.0 others found.1 (found.2 taken.0) taken.1 taken.2 in
+    same-line line rest taken.0 found.0 others found.1 (found.2 taken.0) taken.2 taken.3 in
     IsPermutation-rest line rest new.lines
     (IsPermutation-trans (line ∷ rest) old.lines (line ∷ new.lines) (IsPermutation-sym old.lines (line ∷ rest) has)
-    (subst (λ (l : BookLine). IsPermutation old.lines (l ∷ new.lines)) same taken.3))
+    (subst (λ (l : BookLine). IsPermutation old.lines (l ∷ new.lines)) same taken.4))

@@ -39,7 +39,7 @@ TakesMessage enrolled submitter number other shelf = Unit {0}
 abbrev pub IsOut : List Enrolment → Option Bid → List ℕ → ℕ → List NamedBook → List NamedBook → Type 0
 IsOut enrolled None auction number old new = new ≡ old
 IsOut enrolled (Some bid) auction number old new =
-    IsChanged auction (IsLowered (place_of enrolled bid.bidder) number) old new
+    IsChanged auction (IsLowered bid.rate (place_of enrolled bid.bidder) number) old new
 
 -- a message of the submitter under the number opens a book, adds a line, takes one out, or leaves all books
 abbrev pub Shelves : List Enrolment → List Bid → List ℕ → ℕ → Message → Shelved → Shelved → Type 0

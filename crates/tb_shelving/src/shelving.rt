@@ -1,27 +1,29 @@
 //! The books of auctions, as messages change them.
 ghost use Rattle.std.specs.Prelude.{◌≡◌, ◌<◌, ◌^◌, length};
-ghost use Rattle.tb_history.specs.LiveBids.{bid_of};
+ghost use Rattle.tb_history.specs.Legal.{IsLegal};
+ghost use Rattle.tb_history.specs.LiveBids.{bid_of, bids};
 ghost use Rattle.tb_shelving.specs.Shelving.{HasShelved, IsOut, TakesMessage};
 
 use tb_book::BookLine;
 use tb_message::Message;
 use tb_shelf::Shelf;
-use tb_tables::{Bidders, Bids, find_bid, number_of};
+use tb_tables::{Bidders, Entries, find_bid, number_of};
 use tb_units::Ident;
 
 /// Opens the book of an auction that is announced, adds the line of a bid of the sender under its number, or takes that
-/// of a bid that it cancels out.
+/// of a bid that it cancels out, which the entries before the message have.
 pub fn enter_line(
     shelf: &mut Shelf,
     bidders: &Bidders,
-    bids: &Bids,
+    entries: &Entries,
     sender: &Ident,
     number: u64,
     message: &Message,
 )
+    requires legal { IsLegal entries.now.list }
     requires few { length bidders.now.list < 2 ^ 32 }
     requires takes { TakesMessage bidders.now.list sender.now number message.now shelf.old }
-    ensures { HasShelved bidders.now.list bids.now.list sender.now number message.now shelf.old shelf.new }
+    ensures { HasShelved bidders.now.list (bids entries.now.list) sender.now number message.now shelf.old shelf.new }
 {
     match message {
         Message::Announce { terms } => shelf.open(terms.auction),
@@ -40,7 +42,7 @@ pub fn enter_line(
             shelf.add(auction, line);
         }
         Message::Cancel { auction, bid } => cancel_line(
-            shelf, bidders, bids, sender, auction, *bid,
+            shelf, bidders, entries, sender, auction, *bid,
         ),
         _ => (),
     }
@@ -50,17 +52,19 @@ pub fn enter_line(
 fn cancel_line(
     shelf: &mut Shelf,
     bidders: &Bidders,
-    bids: &Bids,
+    entries: &Entries,
     sender: &Ident,
     auction: &Ident,
     number: u64,
 )
-    requires { length bidders.now.list < 2 ^ 32 }
-    ensures out { IsOut bidders.now.list (bid_of bids.now.list sender.now auction.now number)
+    requires legal { IsLegal entries.now.list }
+    requires few { length bidders.now.list < 2 ^ 32 }
+    ensures out { IsOut bidders.now.list (bid_of (bids entries.now.list) sender.now auction.now number)
         auction.now number shelf.old.books shelf.new.books }
     ensures ready { (shelf.new.ready ≡ shelf.old.ready) × (shelf.new.places ≡ shelf.old.places) }
 {
-    if let Some(bid) = find_bid(bids, sender, auction, number) {
-        shelf.take_out(auction, number_of(bidders, &bid.bidder), number);
+    if let Some(bid) = find_bid(entries, sender, auction, number) {
+        let bidder = number_of(bidders, &bid.bidder);
+        shelf.take_out(auction, bid.rate, bidder, number);
     }
 }

@@ -5,3 +5,4 @@ pub mod CalendarLemmas
 pub mod BehindLemmas
 pub mod UnsettledLemmas
 pub mod ReportLemmas
+pub mod BidLemmas

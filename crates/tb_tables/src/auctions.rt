@@ -8,7 +8,7 @@ ghost use Rattle.tb_tables.specs.Auctions.{announced_in, announcement_in};
 use crate::keys::{ByBill, ByName};
 use crate::names::{Names, has_name};
 use tb_history::AddOn;
-use tb_index::{Keyed, TwiceKeyed};
+use tb_index::{Named, TwiceKeyed};
 use tb_terms::{Cusip, Terms};
 use tb_units::Ident;
 
@@ -16,13 +16,13 @@ use tb_units::Ident;
 pub type Auctions = TwiceKeyed<Terms, ByName, ByBill>;
 
 /// The add-ons, in their order.
-pub type AddOns = Keyed<AddOn, ByName>;
+pub type AddOns = Named<AddOn, ByName>;
 
 /// The terms of the auction.
 pub fn terms_of(auctions: &Auctions, auction: &Ident) -> Option<Terms>
     ensures { announcement_in result ≡ announcement_of (announced_in auctions.now.list) auction.now }
 {
-    auctions.keyed().get(auction).copied()
+    auctions.named().get(auction).copied()
 }
 
 /// Whether an auction of this name is announced.

@@ -2,18 +2,22 @@
 ghost use Rattle.std.specs.Prelude.{◌≡◌, ◌&&◌, length, min, IfOk};
 ghost use Rattle.std.specs.List.{filter};
 ghost use Rattle.tb_history.specs.declared.bids.Bid.{Bid};
-ghost use Rattle.tb_history.specs.Entries.{is_same};
+ghost use Rattle.tb_history.specs.Entries.{bid_by, is_same};
+ghost use Rattle.tb_history.specs.Legal.{IsLegal};
 ghost use Rattle.tb_history.specs.LiveBids.{bid_of, bids_of};
 ghost use Rattle.tb_history.specs.LiveBids as standing;
 
+use crate::kept::{Entries, find_kept};
 use crate::keys::{ByBidder, ByNumber, BySender};
+use crate::names::is_same;
 use std::alloc::Global;
 use tb_history::{Bid, Cancel, Report};
 use tb_index::{Chained, Keyed, Latest};
+use tb_message::Message;
 use tb_units::{Ident, OutOfMemory};
 
 /// Accepted bids, in the order of acceptance.
-pub type Bids = Chained<Bid, ByNumber, ByBidder, BySender>;
+pub type Bids = Chained<Bid, ByBidder, BySender>;
 
 /// Accepted cancels of bids.
 pub type Cancels = Keyed<Cancel, ByNumber>;
@@ -24,11 +28,36 @@ pub type Reports = Latest<Report, ByBidder>;
 // Accepted bids of a bidder in an auction.
 const MOST_BIDS: usize = 1000;
 
-/// The submitter's accepted bid of this number in the auction.
-pub fn find_bid(bids: &Bids, submitter: &Ident, auction: &Ident, number: u64) -> Option<Bid>
-    ensures { result ≡ bid_of bids.now.list submitter.now auction.now number }
+/// The submitter's accepted bid of this number in the auction: the accepted message of the number, where it is one. The
+/// bids need no index by number, since a submitter's number stands once in a legal history.
+pub fn find_bid(entries: &Entries, submitter: &Ident, auction: &Ident, number: u64) -> Option<Bid>
+    requires { IsLegal entries.now.list }
+    ensures { result ≡ bid_of (standing.bids entries.now.list) submitter.now auction.now number }
 {
-    bids.keyed().get(&(number, *submitter, *auction)).copied()
+    let entry = find_kept(entries, submitter, number)?;
+    bid_in(auction, submitter, number, &entry.message)
+}
+
+// The bid in the auction that the submitter's message of this number is, if it is one.
+fn bid_in(auction: &Ident, submitter: &Ident, number: u64, message: &Message) -> Option<Bid>
+    ensures { result ≡ bid_of (bid_by submitter.now number message.now) submitter.now auction.now number }
+{
+    match message {
+        Message::Bid {
+            auction: own,
+            bidder,
+            rate,
+            amount,
+        } if is_same(own, auction) => Some(Bid {
+            submitter: *submitter,
+            number,
+            auction: *own,
+            bidder: *bidder,
+            rate: *rate,
+            amount: *amount,
+        }),
+        _ => None,
+    }
 }
 
 /// The submitter's accepted bids in the auction, in the order of acceptance.

@@ -11,8 +11,8 @@ pub struct ByName;
 /// By a submitter's key.
 pub struct ByKey;
 
-/// By the number of a message and its submitter; a bid and its cancel by the auction too. The number comes first, since
-/// few submitters have the same, and a comparison ends there.
+/// By the number of a message and its submitter; a cancel by the number of its bid, its submitter and the auction. The
+/// number comes first, since few submitters have the same, and a comparison ends there.
 pub struct ByNumber;
 
 /// By the submitter.
@@ -137,16 +137,6 @@ impl KeyOf<Entry> for BySubmitter {
 
     fn key_of(entry: &Entry) -> Ident {
         entry.submitter
-    }
-}
-
-impl KeyOf<Bid> for ByNumber {
-    type Key = (u64, Ident, Ident);
-
-    ghost key_of = { λ bid. (bid.number, bid.submitter, bid.auction) };
-
-    fn key_of(bid: &Bid) -> (u64, Ident, Ident) {
-        (bid.number, bid.submitter, bid.auction)
     }
 }
 

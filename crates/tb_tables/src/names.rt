@@ -5,11 +5,11 @@ ghost use Rattle.tb_history.specs.Entries as entries;
 ghost use Rattle.tb_history.specs.Roster.{is_named};
 
 use crate::keys::ByName;
-use tb_index::Keyed;
+use tb_index::Named;
 use tb_units::Ident;
 
 /// Names of auctions, in the order in which they were published or settled.
-pub type Names = Keyed<Ident, ByName>;
+pub type Names = Named<Ident, ByName>;
 
 /// Whether two names are one.
 pub fn is_same(one: &Ident, other: &Ident) -> bool

@@ -9,7 +9,7 @@ ghost use Rattle.tb_history.specs.Answer.{submitter_of};
 use crate::keys::{ByBill, ByDay, ByKey, ByName};
 use crate::names::is_same;
 use tb_history::{Enrolment, Registration};
-use tb_index::{Keyed, TwiceKeyed};
+use tb_index::{Keyed, Named, TwiceKeyed};
 use tb_terms::Cusip;
 use tb_units::{Day, Ident};
 
@@ -17,19 +17,19 @@ use tb_units::{Day, Ident};
 pub type Submitters = TwiceKeyed<Registration, ByName, ByKey>;
 
 /// Bidders with their submitters, in the order of enrolment.
-pub type Bidders = Keyed<Enrolment, ByName>;
+pub type Bidders = Named<Enrolment, ByName>;
 
 /// Holidays, in the order in which they were entered.
 pub type Holidays = Keyed<Day, ByDay>;
 
 /// Redeemed bills.
-pub type Bills = Keyed<Cusip, ByBill>;
+pub type Bills = Named<Cusip, ByBill>;
 
 /// Whether a submitter of this name is registered.
 pub fn has_submitter(submitters: &Submitters, submitter: &Ident) -> bool
     ensures { result ≡ is_registered submitters.now.list submitter.now }
 {
-    submitters.keyed().has(submitter)
+    submitters.named().has(submitter)
 }
 
 /// Whether the name or the key is in use.

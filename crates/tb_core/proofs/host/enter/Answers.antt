@@ -8,7 +8,7 @@ use Rattle.tb_core.proofs.MoneyLemmas.{CanEnterMoney-tied}
 use Rattle.tb_core.proofs.host.enter.Goals as goal
 
 pub enter-requires-clause-tied : goal.enter-requires-clause-tied
-enter-requires-clause-tied c = (c.args.entries.now.list, c.requires.house.tied)
+enter-requires-clause-tied c = c.requires.house.tied
 
 pub enter-requires-clause-settling : goal.enter-requires-clause-settling
 enter-requires-clause-settling c is =

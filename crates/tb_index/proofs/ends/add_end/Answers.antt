@@ -1,24 +1,22 @@
--- The end of the key is that of the list, whether it was kept or not.
-use Rattle.std.proofs.Common.{refl}
-use Rattle.tb_index.proofs.EndLemmas.{AreEnds-later, AreEnds-new}
+-- The end of the name is that of the list, whether it was there or not.
+use Rattle.std.specs.HashMap.{Updates}
+use Rattle.std.proofs.Common.{Some}
+use Rattle.tb_index.proofs.EndLemmas.{AreEnds-later}
+use Rattle.tb_index.proofs.KeyLemmas.{at-ok}
 use Rattle.tb_index.proofs.ends.add_end.Goals as goal
 
-pub returns-in-Some-clause-ends : goal.returns-in-Some-clause-ends
-returns-in-Some-clause-ends g c keys long are =
-    rw c.replace.ensures.elements
-    (AreEnds-later g.K.Ord.cmp keys c.args.ends.now.elements c.args.key c.in-Some.at c.args.end c.at-found.result.now
-    (record {
-      total = g.met.K.Ord.total;
-      are = are;
-      has = c.in-Some.ensures.found;
-      is = c.at-found.ensures;
-    })
-    long
-    (rw c.replace.ensures.elements at c.replace.ensures.ordered))
+pub returns-in-Ok-Some-clause-ends : goal.returns-in-Ok-Some-clause-ends
+returns-in-Ok-Some-clause-ends g c keys long are =
+    let same = g.K.PartialEq.eq in
+    let next = c.insert.new.self in
+    let updates = at-ok (Updates same c.args.ends.now next c.args.key (Some c.args.end)) c.insert.result
+    (c.insert.ensures.succeeds c.requires) c.insert.ensures.updates in
+    AreEnds-later same keys c.args.ends.now next c.args.key c.args.end are updates.0 long
 
-pub returns-in-None-clause-ends : goal.returns-in-None-clause-ends
-returns-in-None-clause-ends g c keys long are =
-    rw c.insert.ensures.inserted.is
-    (AreEnds-new g.K.Ord.cmp keys c.args.ends.now.elements c.args.key c.args.end c.insert.ensures.inserted.place
-    g.met.K.Ord.total long are (c.in-None.ensures.none.0 refl) c.insert.ensures.inserted.within
-    (rw c.insert.ensures.inserted.is at c.insert.ensures.ordered))
+pub returns-in_default-clause-ends : goal.returns-in_default-clause-ends
+returns-in_default-clause-ends g c keys long are =
+    let same = g.K.PartialEq.eq in
+    let next = c.insert.new.self in
+    let updates = at-ok (Updates same c.args.ends.now next c.args.key (Some c.args.end)) c.insert.result
+    (c.insert.ensures.succeeds c.requires) c.insert.ensures.updates in
+    AreEnds-later same keys c.args.ends.now next c.args.key c.args.end are updates.0 long

@@ -12,7 +12,7 @@ loop-end-init g c =
     rw c.new-found.ensures.items
     (IsFoundTo-start passes c.args.rows.now c.args.end
     (c.requires.end
-    ∙ end_of-rows same g.In.Key.Ord.cmp key_of c.args.key.now c.args.rows.now g.met.In.Key.Ord.matches_eq))
+    ∙ end_of-rows same key_of c.args.key.now c.args.rows.now))
 
 pub loop-end-smaller : goal.loop-end-smaller
 loop-end-smaller g c =
@@ -22,8 +22,8 @@ loop-end-smaller g c =
     let end = c.loop-end.end in
     next-smaller passes c.args.rows.now end (get_or c.args.links.now (end - 1) 0) c.loop-end.invariant.within
     c.loop-end-test.true
-    (next-is same g.In.Key.Ord.cmp key_of c.args.key.now c.args.rows.now c.loop-end.found.items c.args.links.now end 0
-    c.index-rows-end.result g.met.In.Key.Ord.matches_eq g.met.In.Key.Ord.total c.requires.links c.loop-end.invariant
+    (next-is same key_of c.args.key.now c.args.rows.now c.loop-end.found.items c.args.links.now end 0
+    c.index-rows-end.result g.met.In.Key.Eq.laws c.requires.links c.loop-end.invariant
     c.loop-end-test.true)
 
 pub loop-end-preserved : goal.loop-end-preserved
@@ -35,6 +35,6 @@ loop-end-preserved g c =
     rw c.in_ok-push.ensures.items
     (IsFoundTo-step passes c.args.rows.now c.loop-end.found.items end (get_or c.args.links.now (end - 1) 0)
     c.index-rows-end.result c.loop-end.invariant c.loop-end-test.true c.index-rows-end.is
-    (next-is same g.In.Key.Ord.cmp key_of c.args.key.now c.args.rows.now c.loop-end.found.items c.args.links.now end 0
-    c.index-rows-end.result g.met.In.Key.Ord.matches_eq g.met.In.Key.Ord.total c.requires.links c.loop-end.invariant
+    (next-is same key_of c.args.key.now c.args.rows.now c.loop-end.found.items c.args.links.now end 0
+    c.index-rows-end.result g.met.In.Key.Eq.laws c.requires.links c.loop-end.invariant
     c.loop-end-test.true))

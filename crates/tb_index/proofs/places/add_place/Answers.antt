@@ -1,5 +1,5 @@
 -- A new key has the end as its place, and one that is kept stays where it stood.
-use Rattle.std.proofs.Common.{true, false, inl, inr, sym, ◌∙◌}
+use Rattle.std.proofs.Common.{inl, inr, sym, ◌∙◌}
 use Rattle.std.proofs.lemmas.Bool.{true≢false, cases_Bool}
 use Rattle.tb_blocks.specs.Orders.{HasKey}
 use Rattle.tb_index.proofs.PlaceLemmas.{key_in, ArePlaces-new, ArePlaces-known}

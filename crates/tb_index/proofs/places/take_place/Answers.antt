@@ -3,7 +3,7 @@ use Rattle.std.proofs.Common.{◌≡◌, ◌∷◌, ◌++◌, [], length, ap, �
 use Rattle.std.specs.declared.cmp.Ordering.TheVariants.{Equal}
 use Rattle.tb_blocks.specs.Orders.{IsRemoved}
 use Rattle.tb_index.specs.declared.places.Place.{Place}
-use Rattle.tb_index.specs.Indexes.{first_of}
+use Rattle.tb_index.specs.Indexes.{first_of, tied}
 use Rattle.tb_index.proofs.KeyLemmas.{is-there, some-both}
 use Rattle.tb_index.proofs.PlaceLemmas.{key_in, first_of-kept, ArePlaces-has, ArePlaces-kept, ArePlaces-removed}
 use Rattle.tb_index.proofs.places.take_place.Goals as goal
@@ -18,7 +18,7 @@ returns-then-at-place-clause-places g c keys long are =
     (λ (e : Place _). compare e.key key ≡ Equal) c.remove.result there c.remove.ensures.removed c.remove.ensures.key in
     let first = first_of-kept compare (keys ++ key ∷ []) places key c.in-Some.at c.at.result.now g.met.K.Ord.total are
     c.in-Some.ensures.found c.at.ensures in
-    let last : first_of compare key (keys ++ key ∷ []) ≡ Some (length keys) =
+    let last : first_of (tied compare) key (keys ++ key ∷ []) ≡ Some (length keys) =
     first ∙ ap (λ n. Some n) (c.if-at-place.true ∙ sym long) in
     rw out.1.is
     (ArePlaces-removed compare keys places key out.1.place g.met.K.Ord.total are last

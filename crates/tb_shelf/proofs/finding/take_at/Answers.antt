@@ -10,15 +10,16 @@ pub returns : goal.returns
 returns c =
     let old : NamedBook = get_or c.args.books.now c.args.place c.index-books-place.result in
     record {
-      named = record { auction = old.auction; book = c.take_out.new.self };
+      named = record { auction = old.auction; book = c.take_out_at.new.self };
       is = refl;
       name = λ d.
           ap (λ (named : NamedBook). named.auction)
           (get_or_default c.args.books.now c.args.place c.index-books-place.result d c.requires);
       changed = λ d.
-          subst (λ (named : NamedBook). IsLowered c.args.bidder c.args.number named.book c.take_out.new.self)
+          let left = c.take_out_at.new.self in
+          let says = c.take_out_at.ensures in
+          subst (λ (named : NamedBook). IsLowered c.args.rate c.args.bidder c.args.number named.book left)
           (get_or_default c.args.books.now c.args.place c.index-books-place.result d c.requires)
-          (IsLowered-taken c.take_out.result c.args.bidder c.args.number old.book c.take_out.new.self
-          c.take_out.ensures.none c.take_out.ensures.taken c.take_out.ensures.elements c.take_out.ensures.unchanged
-          c.take_out.ensures.room);
+          (IsLowered-taken c.take_out_at.result c.args.rate c.args.bidder c.args.number old.book left
+          says.none says.taken says.elements says.unchanged says.room);
     }

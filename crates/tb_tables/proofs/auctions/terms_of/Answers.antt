@@ -14,5 +14,5 @@ returns c =
     let found : c.copied.result ≡ find (λ (terms : Terms). test terms.announcement) c.args.auctions.now.list =
     c.copied.ensures
     ∙ (c.get.ensures ∙ ap (λ (list : List Terms). find (λ (terms : Terms). test terms.announcement) list)
-    c.keyed.ensures) in
+    c.named.ensures) in
     ap announcement_in found ∙ announced_at test c.args.auctions.now.list

@@ -1,19 +1,17 @@
--- The line, its bid and its part of the sums go in, for which there is room.
+-- The line and its part of the sums go in, for which there is room.
 use Rattle.std.proofs.Common.{◌+◌, ap, subst, is_some, is_none, arith}
 use Rattle.tb_units.proofs.SumLemmas.{cond-le}
-use Rattle.tb_book.specs.Books.{HasBid}
-use Rattle.tb_book.specs.Indexes.{IsRaised}
+use Rattle.tb_book.specs.Indexes.{IsRaised, rank_of}
 use Rattle.tb_book.proofs.KeyLemmas.{earlier-lines}
-use Rattle.tb_book.proofs.IndexLemmas.{HasBid-key, competitive-le, noncompetitive-le, noncompetitive_in-le, IsIndexed-added, HasOneMore-inserted, IsPermutation-inserted}
+use Rattle.tb_book.proofs.IndexLemmas.{HasBid-line_key, competitive-le, noncompetitive-le, noncompetitive_in-le, IsIndexed-added, HasOneMore-inserted, IsPermutation-inserted}
 use Rattle.tb_book.proofs.book.Book.add.Goals as goal
 
-pub insert-requires-2-clause-new : goal.insert-requires-2-clause-new
-insert-requires-2-clause-new c =
-    let lines = c.self.inside.lines.elements in
+pub insert-requires-clause-new : goal.insert-requires-clause-new
+insert-requires-clause-new c =
+    let line = c.args.line in
     let new = rw (← c.self.view_is) at c.requires.new in
-    λ has. new (subst (λ bid. HasBid bid.bidder bid.number lines) c.of.ensures
-    (HasBid-key c.of.result.bidder c.of.result.number lines c.self.inside.bids.elements c.self.invariant.0.bids_are
-    (has.0, has.1.within, has.1.same)))
+    λ has. new (HasBid-line_key (rank_of line.rate) line.bidder line.number c.self.inside.lines.elements
+    (has.0, has.1.within, has.1.same))
 
 pub raise-requires-clause-competitive : goal.raise-requires-clause-competitive
 raise-requires-clause-competitive c =
@@ -61,13 +59,10 @@ invariant_of-self c =
     let raised = c.raise.new.bidders.elements in
     let noncompetitive = c.self.inside.noncompetitive in
     let more = c.insert.new.self.elements in (
-      IsIndexed-added line c.self.inside.lines.elements more c.of.result c.self.inside.bids.elements
-          c.insert-2.new.self.elements bidders raised noncompetitive (noncompetitive + c.noncompetitive-2.result)
-          c.self.invariant.0
+      IsIndexed-added line c.self.inside.lines.elements more bidders raised noncompetitive
+          (noncompetitive + c.noncompetitive-2.result) c.self.invariant.0
           (record {
             line_in = c.insert.ensures.inserted;
-            bid_in = c.insert-2.ensures.inserted;
-            bid_is = c.of.ensures;
             order = earlier-lines more c.insert.ensures.ordered;
             new = rw (← c.self.view_is) at c.requires.new;
             fits = rw (← c.self.view_is) at c.requires.fits;
@@ -81,7 +76,6 @@ invariant_of-self c =
           (ap (λ part. noncompetitive + part) c.noncompetitive-2.ensures),
       record {
         of_lines = omega (arith, c.insert.ensures.spare, c.self.invariant.1.of_lines);
-        of_bids = omega (arith, c.insert-2.ensures.spare, c.self.invariant.1.of_bids);
         of_bidders = omega (arith, c.raise.ensures.room, c.self.invariant.1.of_bidders);
       },
     )

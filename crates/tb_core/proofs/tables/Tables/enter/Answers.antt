@@ -1,7 +1,8 @@
 -- The rows are those before par and money were moved.
-use Rattle.std.proofs.Common.{◌<◌, ◌^◌, length, sym, subst}
+use Rattle.std.proofs.Common.{◌≡◌, ◌<◌, ◌^◌, length, sym, subst}
 use Rattle.tb_holdings.specs.Book.{Book}
 use Rattle.tb_funds.specs.Funds.{Money}
+use Rattle.tb_history.specs.LiveBids.{bids}
 use Rattle.tb_core.specs.declared.tables.Tables.{Tables}
 use Rattle.tb_ledger.specs.Accounting.{TellsNext}
 use Rattle.tb_core.specs.Crediting.{movement_in}
@@ -9,6 +10,14 @@ use Rattle.tb_core.specs.House.{EntersMoney}
 use Rattle.tb_shelving.specs.Shelving.{TakesMessage}
 use Rattle.tb_core.proofs.EnterLemmas.{HasEntered-kept, HasRoom-left, HasRows-kept}
 use Rattle.tb_core.proofs.tables.Tables.enter.Goals as goal
+
+pub move_all-requires-clause-tied : goal.move_all-requires-clause-tied
+move_all-requires-clause-tied c = (c.args.entries.now.list, c.requires.tied)
+
+pub enter_rows-requires-clause-tied : goal.enter_rows-requires-clause-tied
+enter_rows-requires-clause-tied c =
+    subst (λ (tables : Tables). tables.bids.list ≡ bids c.args.entries.now.list) (sym c.move_all.ensures.keeps.same)
+    c.requires.tied.bids_are
 
 pub enter_rows-requires-clause-room : goal.enter_rows-requires-clause-room
 enter_rows-requires-clause-room c =

@@ -11,5 +11,5 @@ returns g c =
     let same = g.Of.Key.PartialEq.eq in
     let is : rows ≡ c.args.self.now.list = λ i. (c.self.view_is i).list in
     c.count_of.ensures (map key_of rows) c.self.invariant
-    ∙ (number_of-rows same g.Of.Key.Ord.cmp key_of c.args.key.now rows g.met.Of.Key.Ord.matches_eq
+    ∙ (number_of-rows same key_of c.args.key.now rows
     ∙ ap (λ list. count_by (λ row. same (key_of row) c.args.key.now) list) is)

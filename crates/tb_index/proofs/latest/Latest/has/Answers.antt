@@ -14,5 +14,5 @@ returns g c =
     let is : rows ≡ c.args.self.now.list = λ i. (c.self.view_is i).list in
     let end : c.end_in.result ≡ end_by passes rows =
     c.end_in.ensures (map key_of rows) c.self.invariant
-    ∙ end_of-rows same g.By.Key.Ord.cmp key_of c.args.key.now rows g.met.By.Key.Ord.matches_eq in
+    ∙ end_of-rows same key_of c.args.key.now rows in
     ap (nat_lt 0) end ∙ (any-end passes rows ∙ ap (list_any passes) is)

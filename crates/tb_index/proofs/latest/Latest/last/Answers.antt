@@ -15,7 +15,7 @@ returns-then-end-eq0-clause-none g c =
     let is : rows ≡ c.args.self.now.list = λ i. (c.self.view_is i).list in
     let end : c.end_in-end.result ≡ end_by passes rows =
     c.end_in-end.ensures (map key_of rows) c.self.invariant
-    ∙ end_of-rows same g.By.Key.Ord.cmp key_of c.args.key.now rows g.met.By.Key.Ord.matches_eq in (
+    ∙ end_of-rows same key_of c.args.key.now rows in (
       λ none. subst (λ xs. filter passes xs ≡ []) is (filter-none passes rows (sym end ∙ c.if-end-eq0.true)),
       λ none. refl,
     )
@@ -28,7 +28,7 @@ index-requires g c =
     let passes : g.row.T.Denot → Bool = λ row. same (key_of row) c.args.key.now in
     let end : c.end_in-end.result ≡ end_by passes rows =
     c.end_in-end.ensures (map key_of rows) c.self.invariant
-    ∙ end_of-rows same g.By.Key.Ord.cmp key_of c.args.key.now rows g.met.By.Key.Ord.matches_eq in
+    ∙ end_of-rows same key_of c.args.key.now rows in
     let long : vec_len c.self.inside.rows ≡ length rows = search rules in
     omega (arith, long, end, end_by-within passes rows, c.if-end-eq0.false)
 
@@ -41,7 +41,7 @@ returns-clause-none g c =
     let is : rows ≡ c.args.self.now.list = λ i. (c.self.view_is i).list in
     let end : c.end_in-end.result ≡ end_by passes rows =
     c.end_in-end.ensures (map key_of rows) c.self.invariant
-    ∙ end_of-rows same g.By.Key.Ord.cmp key_of c.args.key.now rows g.met.By.Key.Ord.matches_eq in (
+    ∙ end_of-rows same key_of c.args.key.now rows in (
       λ wrong. absurd (true≢false wrong),
       λ none. absurd (filter-some passes rows c.end_in-end.result c.index.result.now end c.if-end-eq0.false
           c.index.ensures (ap (filter passes) is ∙ none)),
@@ -56,7 +56,7 @@ returns-clause-some g c =
     let is : rows ≡ c.args.self.now.list = λ i. (c.self.view_is i).list in
     let end : c.end_in-end.result ≡ end_by passes rows =
     c.end_in-end.ensures (map key_of rows) c.self.invariant
-    ∙ end_of-rows same g.By.Key.Ord.cmp key_of c.args.key.now rows g.met.By.Key.Ord.matches_eq in (
+    ∙ end_of-rows same key_of c.args.key.now rows in (
       filter passes (take (c.end_in-end.result - 1) rows),
       ap (filter passes) (sym is)
           ∙ filter-to_end passes rows c.end_in-end.result c.index.result.now end c.if-end-eq0.false c.index.ensures,

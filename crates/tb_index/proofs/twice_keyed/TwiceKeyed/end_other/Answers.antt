@@ -6,11 +6,11 @@ use Rattle.tb_index.proofs.twice_keyed.TwiceKeyed.end_other.Goals as goal
 
 pub returns : goal.returns
 returns g c =
-    let rows = c.self.inside.keyed.list in
+    let rows = c.self.inside.named.list in
     let key_of = g.Or.KeyOf.key_of in
     let same = g.Or.Key.PartialEq.eq in
     let passes : g.row.T.Denot → Bool = λ row. same (key_of row) c.args.key.now in
     let is : rows ≡ c.args.self.now.list = λ i. (c.self.view_is i).list in
     c.end_in.ensures (map key_of rows) c.self.invariant.1
-    ∙ (end_of-rows same g.Or.Key.Ord.cmp key_of c.args.key.now rows g.met.Or.Key.Ord.matches_eq
+    ∙ (end_of-rows same key_of c.args.key.now rows
     ∙ ap (λ list. end_by passes list) is)

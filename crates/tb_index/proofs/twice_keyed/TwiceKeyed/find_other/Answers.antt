@@ -6,10 +6,10 @@ use Rattle.tb_index.proofs.twice_keyed.TwiceKeyed.find_other.Goals as goal
 
 pub returns : goal.returns
 returns g c =
-    let rows = c.self.inside.keyed.list in
+    let rows = c.self.inside.named.list in
     let key_of = g.Or.KeyOf.key_of in
     let same = g.Or.Key.PartialEq.eq in
     let is : rows ≡ c.args.self.now.list = λ i. (c.self.view_is i).list in
-    c.first_place.ensures (map key_of rows) c.self.invariant.0
-    ∙ (first_of-rows same g.Or.Key.Ord.cmp key_of c.args.key.now rows g.met.Or.Key.Ord.matches_eq
+    c.first_in.ensures (map key_of rows) c.self.invariant.0
+    ∙ (first_of-rows same key_of c.args.key.now rows
     ∙ ap (λ list. position (λ row. same (key_of row) c.args.key.now) list) is)
