@@ -108,7 +108,7 @@ impl<T: Annals> TurnLock<T> {
             .fetch_add::<RaiseCount<K>>(seat, COUNT, entries);
     }
 
-    // Lets the next ticket's turn come, and wakes the one behind it, which is the next in line from now on.
+    // Lets the next ticket's turn come, and wakes who sleeps for it.
     pub(crate) fn pass_on(&self, seat: &mut Seat<Option<T>, View>)
         requires own { IsSeatOf self.now seat.old }
         requires counted { (n : ℕ) × (seat.old.me.0.stage ≡ Counted n) }
@@ -116,6 +116,6 @@ impl<T: Annals> TurnLock<T> {
         ensures idle { seat.new.me ≡ (at_stage Idle seat.old.me.0, seat.old.me.1) }
     {
         let served = self.table.shared.fetch_add::<PassOn>(seat, SERVING, 1);
-        self.bells.ring(served.wrapping_add(2));
+        self.bells.ring(served.wrapping_add(1));
     }
 }

@@ -9,12 +9,19 @@ use crate::lock::TurnLock;
 use crate::view::View;
 use atomic_table::Seat;
 use std::sync::Wait;
-use std::thread;
 
 impl<T: Annals> TurnLock<T> {
     ghost use Rattle.tb_lock.specs.Passes.{IsSeatOf};
 
     // Waits until the ticket's turn has come.
+    //
+    // Whoever waits sleeps at once, also the next in line. One that looks again and again, or yields, would be sooner by
+    // what it takes to rouse a sleeper. But where other programs keep the machine busy, each yield gives one of them a
+    // whole slice, and all that wait here wait for that too.
+    //
+    // Who sleeps is woken. The bell's count is read before the look at serving, and the bell rings behind the step on
+    // serving: where the look came before that step, the ring is past the count that was read. So it ends the sleep, or the
+    // sleep doesn't begin.
     pub(crate) fn await_turn<R: Wait>(&self, rt: &R, seat: &mut Seat<Option<T>, View>, ticket: u64)
         requires own { IsSeatOf self.now seat.old }
         requires waits { (n : ℕ) × (ticket ≡ n % 2 ^ 64) × (seat.old.me.0.stage ≡ Waiting n) }
@@ -23,16 +30,10 @@ impl<T: Annals> TurnLock<T> {
     {
         for _ in rt.forever() {
             let rung = self.bells.rung(ticket);
-            let served = self.look_at_serving(seat, ticket);
-            if served == ticket {
+            if self.look_at_serving(seat, ticket) == ticket {
                 return;
             }
-            if ticket.wrapping_sub(served) == 1 {
-                // The next in line stays awake: a turn can be shorter than it takes to rouse a sleeper.
-                thread::yield_now();
-            } else {
-                self.bells.sleep(rt, ticket, rung);
-            }
+            self.bells.sleep(rt, ticket, rung);
         }
         unreachable!()
     }

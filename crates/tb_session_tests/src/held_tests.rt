@@ -195,7 +195,12 @@ fn serve_held<'a, R: Threads + Wait + Sync + Abort>(
     mut gates: Vec<HeldGate<'a>>,
     accepted: u64,
 ) -> Result<(Memory, Vec<HeldGate<'a>>), Fail> {
-    assert!(rt; gates.len() <= 64 && !room.desk.unsure());
+    if gates.len() > 64 {
+        return Err("too many gates")?;
+    }
+    if room.desk.unsure() {
+        return Err("a group is in doubt")?;
+    }
     let Ok(ended) = serve_gates(rt, alloc, room, &mut gates) else {
         panic!(rt; "no memory")
     };

@@ -233,7 +233,12 @@ fn serve<R: Threads + Wait + Sync + Abort>(
     room: Memory,
     mut gates: Vec<ListGate>,
 ) -> Result<(Memory, Told), Fail> {
-    assert!(rt; gates.len() <= 64 && !room.desk.unsure());
+    if gates.len() > 64 {
+        return Err("too many gates")?;
+    }
+    if room.desk.unsure() {
+        return Err("a group is in doubt")?;
+    }
     let Ok(
         Ended {
             room,
