@@ -1,9 +1,10 @@
 -- Fields of a text, from its front.
-use Rattle.std.proofs.Common.{◌≡◌, ◌≢◌, ℕ, ◌<◌, List, [], ◌∷◌, length, sym, ap, ◌∙◌, arith}
+use Rattle.std.proofs.Common.{◌≡◌, ◌≢◌, ℕ, ◌+◌, ◌<◌, List, [], ◌∷◌, take, drop, length, sym, ap, ◌∙◌, arith}
 use Rattle.std.specs.List.{position_or_len}
-use Rattle.std.proofs.lemmas.List.Splits.{slice_split_none, length-slice_split}
-use Rattle.std.proofs.lemmas.List.Sums.{fails_before_first}
-use Rattle.std.specs.Prelude.{Option, Some}
+use Rattle.std.proofs.lemmas.List.Splits.{slice_split_first, slice_split_none, length-slice_split}
+use Rattle.std.proofs.lemmas.List.Sums.{fails_before_first, prefix_len-le-length}
+use Rattle.std.proofs.lemmas.Bool.Decides.{nat_tests}
+use Rattle.std.specs.Prelude.{None, Option, Some, not, position}
 use Rattle.std.specs.Borrow.{Bor}
 use Rattle.tb_host.specs.Fields.{fields, fields_of, is_blank}
 
@@ -15,6 +16,21 @@ fields-some text = rw (length-slice_split is_blank text) (omega arith)
 pub fields-whole : (text : List ℕ) → position_or_len is_blank text ≡ length text → fields text ≡ text ∷ []
 fields-whole text whole =
     slice_split_none is_blank text (λ k d below. fails_before_first is_blank text k d (rw whole below))
+
+-- a text with a blank is a field and the fields behind that
+pub fields-first : (text : List ℕ) (end : ℕ)
+    → position is_blank text ≡ Some end
+    → fields text ≡ take end text ∷ fields (drop (end + 1) text)
+fields-first text end is =
+    let within : position_or_len is_blank text < length text = grind (arith, nat_tests) in
+    let at : position_or_len is_blank text ≡ end = grind (arith, nat_tests) in
+    rw (← at) (slice_split_first is_blank text 0 within)
+
+-- a text without one is a field
+pub fields-only : (text : List ℕ) → position is_blank text ≡ None → fields text ≡ text ∷ []
+fields-only text none =
+    let most = prefix_len-le-length (λ byte. not (is_blank byte)) text in
+    fields-whole text (grind (arith, nat_tests))
 
 -- no text is without fields
 pub fields-not_none : (text : List ℕ) → fields text ≢ []

@@ -1,4 +1,6 @@
 pub mod FieldLemmas
+pub mod AsciiLemmas
+pub mod DigitLemmas
 pub mod DecimalLemmas
 pub mod PositionLemmas
 pub mod BookLineLemmas

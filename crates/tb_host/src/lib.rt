@@ -18,6 +18,7 @@ mod laws;
 mod line_end;
 mod migrate_command;
 mod notice;
+mod numbers;
 mod parcel_input;
 mod plan_words;
 mod planned;

@@ -14,21 +14,16 @@ pub enum Word {
 }
 
 /// The word that the text is.
-pub fn word_of(text: &str) -> Option<Word>
+pub fn word_of(text: &[u8]) -> Option<Word>
     ensures word { IfSome result (λ word. text.now ≡ spelling_of word) }
     ensures none { IfNone result ((word : Word) → text.now ≢ spelling_of word) }
 {
-    if text == "offering" {
-        Some(Word::Offering)
-    } else if text == "n" {
-        Some(Word::Noncompetitive)
-    } else if text == "c" {
-        Some(Word::Competitive)
-    } else if text == "p" {
-        Some(Word::Position)
-    } else if text == "end" {
-        Some(Word::End)
-    } else {
-        None
+    match text {
+        b"n" => Some(Word::Noncompetitive),
+        b"c" => Some(Word::Competitive),
+        b"p" => Some(Word::Position),
+        b"end" => Some(Word::End),
+        b"offering" => Some(Word::Offering),
+        _ => None,
     }
 }

@@ -1,4 +1,4 @@
-use Rattle.std.proofs.Common.{inl}
+use Rattle.std.proofs.Common.{inl, inr, refl}
 use Rattle.tb_host.proofs.serve_command.serve_room.Goals as goal
 
 pub returns-in-Ok : goal.returns-in-Ok
@@ -14,4 +14,10 @@ returns-in-Ok g c = record {
     counted = c.finish.ensures.counted;
     ends = c.finish.ensures.told;
   });
+}
+
+-- the room came back, and with it the disk and the gates
+pub returns-in-Err : goal.returns-in-Err
+returns-in-Err g c = record {
+  ends = inr (refl, rw (c.leave.ensures.disk, c.in-Err.ensures.unserved, c.in-Err.ensures.untouched) refl);
 }

@@ -1,5 +1,5 @@
 use Rattle.tb_host.proofs.BookLineLemmas.{Says-word}
-use Rattle.tb_host.proofs.read_line.read_text.Goals as goal
+use Rattle.tb_host.proofs.read_line.read_fields.Goals as goal
 
 pub returns-in_err-word_of-clause-none : goal.returns-in_err-word_of-clause-none
 returns-in_err-word_of-clause-none c = rw c.from_residual.ensures (λ line says.
