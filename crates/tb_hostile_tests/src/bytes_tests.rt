@@ -2,7 +2,7 @@
 use crate::auction::{ANNOUNCE, EMPTY, ENROL, FIRST_LINE, REGISTER, RUN, SEND, journal};
 use crate::link_tests::SERVE;
 use crate::trying::{
-    Host, Outcome, disk_of, gate, is_ended, joined, repeated, run, serve, takes, whole,
+    Host, Outcome, SPARE, disk_of, gate, is_ended, joined, repeated, run, serve, takes, whole,
 };
 use std::sync::Wait;
 use std::test::Fail;
@@ -133,6 +133,44 @@ fn a_byte_more_in_the_payload_is_damage_at_17(rt: HostRuntime) -> Result<(), Fai
     assert!(rt; is_damaged(&host, &TAKE, &longer, "damaged at 17\n")?);
     assert!(rt; is_damaged(&host, &FILE, &longer, "damaged at 17\n")?);
     assert!(rt; is_unserved(&host, &longer, "damaged at 17\n")?);
+    Ok(())
+}
+
+// A file of the first version, of these pieces behind its title, is damaged there, and both disks stay.
+fn is_not_migrated<R: Threads + Wait + Sync>(
+    host: &Host<'_, R>,
+    pieces: &[&[u8]],
+    told: &str,
+) -> Result<bool, Fail> {
+    let mut file = b"TBHOSTJOURNAL001".to_vec(host.alloc)?;
+    for bytes in pieces {
+        file.extend_from_slice(bytes)?;
+    }
+    let run = run(host, &["migrate"], FIRST_LINE, disk_of(host, &file)?)?;
+    Ok(
+        is_ended(&run, 8, b"", told)
+            && run.disk.contents() == file.as_slice()
+            && run.spare.contents() == SPARE,
+    )
+}
+
+// There a frame begins at 16 with an open gate, and has no ordinal; the first entry's moment has four bytes.
+#[test]
+fn damage_in_the_first_version_is_told(rt: HostRuntime) -> Result<(), Fail> {
+    let host = Host {
+        rt: &rt,
+        alloc: rt.alloc(),
+    };
+    let first: &[u8] = b"\x08operator\0\0\0\0\0\0\0\x01\x67\x28\x62\xe0\x01\x07dealer1\x02k1";
+    let head: &[u8] = b"\x01\0\0\0\x21";
+    let twice: [&[u8]; 5] = [head, first, head, first, b"\0"];
+    let empty: [&[u8]; 3] = [b"\x01\0\0\0\0", first, b"\0"];
+    let long: [&[u8]; 3] = [b"\x01\0\0\x80\x01", first, b"\0"];
+    let one_more: [&[u8]; 3] = [b"\x01\0\0\0\x22", first, b"x\0"];
+    assert!(rt; is_not_migrated(&host, &twice, "damaged at 54\n")?);
+    assert!(rt; is_not_migrated(&host, &empty, "damaged at 16\n")?);
+    assert!(rt; is_not_migrated(&host, &long, "damaged at 16\n")?);
+    assert!(rt; is_not_migrated(&host, &one_more, "damaged at 16\n")?);
     Ok(())
 }
 

@@ -11,6 +11,8 @@ mod call_tests;
 #[cfg(test)]
 mod front_tests;
 #[cfg(test)]
+mod lines_tests;
+#[cfg(test)]
 mod link_tests;
 #[cfg(test)]
 mod room_tests;

@@ -29,8 +29,12 @@ pub struct Outcome {
     pub out: TextSink,
     pub err: TextSink,
     pub disk: MemoryDisk,
+    pub spare: MemoryDisk,
     pub gates: Vec<ListGate>,
 }
+
+/// What the spare holds before a run.
+pub const SPARE: &[u8] = b"spare";
 
 /// The run ended with this status, and has written this to its output and this to its errors.
 pub fn is_ended(run: &Outcome, status: u8, out: &[u8], err: &str) -> bool {
@@ -74,6 +78,18 @@ pub fn serve<R: Threads + Wait + Sync>(
     words: &[&str],
     text: &str,
     disk: MemoryDisk,
+    gates: Vec<ListGate>,
+) -> Result<Outcome, Fail> {
+    serve_with_room(host, words, text, 20_000, disk, gates)
+}
+
+/// The same, whose output has room for so many bytes.
+pub fn serve_with_room<R: Threads + Wait + Sync>(
+    host: &Host<'_, R>,
+    words: &[&str],
+    text: &str,
+    room: usize,
+    disk: MemoryDisk,
     mut gates: Vec<ListGate>,
 ) -> Result<Outcome, Fail> {
     let (rt, alloc) = (host.rt, host.alloc);
@@ -87,9 +103,9 @@ pub fn serve<R: Threads + Wait + Sync>(
         return Err("other gates")?;
     }
     let mut input = TextSource::new(text.as_bytes().to_vec(alloc)?, 4096, Vec::new(alloc));
-    let mut out = TextSink::new(alloc, 20_000, Vec::new(alloc))?;
+    let mut out = TextSink::new(alloc, room, Vec::new(alloc))?;
     let mut err = TextSink::new(alloc, 1_000, Vec::new(alloc))?;
-    let mut spare = MemoryDisk::new(alloc, b"spare", 5, 0, Vec::new(alloc), 0)?;
+    let mut spare = MemoryDisk::new(alloc, SPARE, 5, 0, Vec::new(alloc), 0)?;
     let mut keeper = MemoryKeeper::new(alloc, Vec::new(alloc));
     let clock = ListClock::new(Vec::from_array(alloc, [MORNING])?);
     let ended = host_main(
@@ -110,6 +126,7 @@ pub fn serve<R: Threads + Wait + Sync>(
         out,
         err,
         disk: ended.disk,
+        spare,
         gates,
     })
 }
