@@ -14,7 +14,7 @@ use std::alloc::Global;
 use tb_core::QueryRefused;
 use tb_desk::Desk;
 use tb_disk::Disk;
-use tb_message::{Key, Message, Query, ReadFault, Request, read_request};
+use tb_message::{Key, Message, Query, ReadFault, Request, RequestReader};
 use tb_terms::Refusal;
 use tb_units::{Ident, Moment, OutOfMemory};
 
@@ -22,6 +22,7 @@ use tb_units::{Ident, Moment, OutOfMemory};
 /// Where memory runs out the history is as it was. The operator's key is `op:` and this name.
 pub fn answer<D: Disk>(
     alloc: Global,
+    requests: &mut RequestReader,
     desk: &mut Desk<D>,
     operator: &Ident,
     moment: Moment,
@@ -36,7 +37,7 @@ pub fn answer<D: Disk>(
 {
     match caller(desk, operator, key) {
         None => Ok(Reply::refused(Refusal::UnknownKey)),
-        Some(caller) => answer_caller(alloc, desk, &caller, moment, json),
+        Some(caller) => answer_caller(alloc, requests, desk, &caller, moment, json),
     }
 }
 
@@ -53,6 +54,7 @@ pub fn caller<D: Disk>(desk: &Desk<D>, operator: &Ident, key: &Key) -> Option<Id
 
 fn answer_caller<D: Disk>(
     alloc: Global,
+    requests: &mut RequestReader,
     desk: &mut Desk<D>,
     caller: &Ident,
     moment: Moment,
@@ -63,7 +65,7 @@ fn answer_caller<D: Disk>(
     ensures stays { OnErr result (standing (D.disk desk.new.disk) desk.new ≡ standing (D.disk desk.old.disk) desk.old) }
     ensures kept { (desk.new.opened ≡ desk.old.opened) × (desk.new.recovered ≡ desk.old.recovered) }
 {
-    match read_request(alloc, json) {
+    match requests.read(json) {
         Ok(Request::Message { number, message }) => {
             let turned = submit(desk, caller, number, moment, &message)?;
             Ok(Reply::of_turn(turned))

@@ -18,6 +18,7 @@ use std::alloc::Global;
 use tb_desk::Desk;
 use tb_disk::Disk;
 use tb_link::{Sink, Source};
+use tb_message::RequestReader;
 use tb_units::Ident;
 
 /// Acts on a script over the history that the disk stands for, and hands the disk back: each reply is written as soon
@@ -60,9 +61,11 @@ fn act_on_script<D: Disk, I: Source, O: Sink>(
         × ((O.sink out.new).faults ≡ (O.sink out.old).faults) }
 {
     let mut reader = LineReader::new(alloc);
+    let mut requests = RequestReader::new(alloc);
     for read in 0..MOST_LINES {
         if let Some(ending) = act_on_next(
             alloc,
+            &mut requests,
             desk,
             operator,
             &mut reader,
@@ -79,6 +82,7 @@ fn act_on_script<D: Disk, I: Source, O: Sink>(
 // Acts on the next line, the line of this number. `None` where the script goes on.
 fn act_on_next<D: Disk, I: Source, O: Sink>(
     alloc: Global,
+    requests: &mut RequestReader,
     desk: &mut Desk<D>,
     operator: &Ident,
     reader: &mut LineReader,
@@ -106,7 +110,15 @@ fn act_on_next<D: Disk, I: Source, O: Sink>(
     ensures once { StaysAtEnd reader.old reader.new (I.source input.old) (I.source input.new) }
 {
     match reader.next_line(alloc, input) {
-        Ok(NextLine::Line) => act_on_line(alloc, desk, operator, reader.line(), number, out),
+        Ok(NextLine::Line) => act_on_line(
+            alloc,
+            requests,
+            desk,
+            operator,
+            reader.line(),
+            number,
+            out,
+        ),
         Ok(NextLine::End) => Some(TextEnding::BadInput(number)),
         Ok(NextLine::TooLong) => Some(TextEnding::BadInput(number)),
         Err(InputFault::Read) => Some(TextEnding::ReadFault),
@@ -116,6 +128,7 @@ fn act_on_next<D: Disk, I: Source, O: Sink>(
 
 fn act_on_line<D: Disk, O: Sink>(
     alloc: Global,
+    requests: &mut RequestReader,
     desk: &mut Desk<D>,
     operator: &Ident,
     line: &[u8],
@@ -129,7 +142,7 @@ fn act_on_line<D: Disk, O: Sink>(
     match read_script_line(line) {
         Some(ScriptLine::Ask(ask)) => {
             let json = &line[ask.json_at..];
-            match answer(alloc, desk, operator, ask.moment, &ask.key, json) {
+            match answer(alloc, requests, desk, operator, ask.moment, &ask.key, json) {
                 Ok(reply) => match reply.write(out) {
                     Ok(()) => None,
                     Err(_) => Some(TextEnding::WriteFault),

@@ -5,3 +5,4 @@ pub mod RecordLaws
 pub mod Same
 pub mod Ranges
 pub mod OneRequest
+pub mod PlainLemmas

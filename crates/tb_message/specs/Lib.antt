@@ -6,4 +6,5 @@ pub mod Messages
 pub mod Spelling
 pub mod Reading
 pub mod Requests
+pub mod Plain
 pub mod Verdicts

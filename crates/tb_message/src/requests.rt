@@ -1,22 +1,20 @@
 //! Requests, read from JSON.
 ghost use Rattle.std.specs.Prelude.{◌≡◌, Some, IfOk, IfErr};
-ghost use Rattle.serde_json.specs.View.{view};
 ghost use Rattle.tb_message.specs.Forms.{whole};
 ghost use Rattle.tb_message.specs.Kinds.{kind_of_text};
 ghost use Rattle.tb_message.specs.Queries.{query_of_text, query_kind_of, query_parts_of};
 ghost use Rattle.tb_message.specs.Messages.{kind_of, parts_of};
 ghost use Rattle.tb_message.specs.Spelling.{IsNumbered};
 ghost use Rattle.tb_message.specs.Requests.{result_map, body_in, message_in, object_in, request_in, query};
-ghost use Rattle.tb_message.specs.Requests.{asked_by, Says, FaultOf, AnswerOf, IsRequestInRange};
+ghost use Rattle.tb_message.specs.Requests.{asked_by, IsRequestInRange};
 ghost use Rattle.tb_message.specs.Requests as asked;
 ghost use Rattle.tb_message.specs.declared.kind.Kind.TheVariants as kinds;
 
 use crate::kind::Kind;
 use crate::members;
 use crate::message::Message;
-use crate::query::{Query, QueryKind, ReadFault, Request};
-use serde_json::{Category, Value};
-use std::alloc::Global;
+use crate::object::Object;
+use crate::query::{Query, QueryKind, Request};
 use tb_terms::{Announcement, Field};
 
 #[tactic(auto, unfolding(crate::specs::Kinds::kind_of_text))]
@@ -64,8 +62,8 @@ fn query_kind_of_name(text: &str) -> Option<QueryKind>
     }
 }
 
-fn register(object: &Value) -> Result<Message, Field>
-    ensures { result_map (λ m. (kind_of m, parts_of m)) result ≡ body_in (view object.now) kinds.Register }
+fn register<O: Object>(object: &O) -> Result<Message, Field>
+    ensures { result_map (λ m. (kind_of m, parts_of m)) result ≡ body_in (O.said object.now) kinds.Register }
 {
     Ok(Message::Register {
         submitter: members::name(object, Field::Submitter)?,
@@ -73,8 +71,8 @@ fn register(object: &Value) -> Result<Message, Field>
     })
 }
 
-fn enrol(object: &Value) -> Result<Message, Field>
-    ensures { result_map (λ m. (kind_of m, parts_of m)) result ≡ body_in (view object.now) kinds.Enrol }
+fn enrol<O: Object>(object: &O) -> Result<Message, Field>
+    ensures { result_map (λ m. (kind_of m, parts_of m)) result ≡ body_in (O.said object.now) kinds.Enrol }
 {
     Ok(Message::Enrol {
         bidder: members::name(object, Field::Bidder)?,
@@ -82,16 +80,16 @@ fn enrol(object: &Value) -> Result<Message, Field>
     })
 }
 
-fn holiday(object: &Value) -> Result<Message, Field>
-    ensures { result_map (λ m. (kind_of m, parts_of m)) result ≡ body_in (view object.now) kinds.Holiday }
+fn holiday<O: Object>(object: &O) -> Result<Message, Field>
+    ensures { result_map (λ m. (kind_of m, parts_of m)) result ≡ body_in (O.said object.now) kinds.Holiday }
 {
     Ok(Message::Holiday {
         day: members::day(object, Field::Day)?,
     })
 }
 
-fn announce(object: &Value) -> Result<Message, Field>
-    ensures { result_map (λ m. (kind_of m, parts_of m)) result ≡ body_in (view object.now) kinds.Announce }
+fn announce<O: Object>(object: &O) -> Result<Message, Field>
+    ensures { result_map (λ m. (kind_of m, parts_of m)) result ≡ body_in (O.said object.now) kinds.Announce }
 {
     Ok(Message::Announce {
         terms: Announcement {
@@ -111,8 +109,8 @@ fn announce(object: &Value) -> Result<Message, Field>
     })
 }
 
-fn bid(object: &Value) -> Result<Message, Field>
-    ensures { result_map (λ m. (kind_of m, parts_of m)) result ≡ body_in (view object.now) kinds.Bid }
+fn bid<O: Object>(object: &O) -> Result<Message, Field>
+    ensures { result_map (λ m. (kind_of m, parts_of m)) result ≡ body_in (O.said object.now) kinds.Bid }
 {
     Ok(Message::Bid {
         auction: members::name(object, Field::Auction)?,
@@ -122,8 +120,8 @@ fn bid(object: &Value) -> Result<Message, Field>
     })
 }
 
-fn noncompetitive(object: &Value) -> Result<Message, Field>
-    ensures { result_map (λ m. (kind_of m, parts_of m)) result ≡ body_in (view object.now) kinds.Noncompetitive }
+fn noncompetitive<O: Object>(object: &O) -> Result<Message, Field>
+    ensures { result_map (λ m. (kind_of m, parts_of m)) result ≡ body_in (O.said object.now) kinds.Noncompetitive }
 {
     Ok(Message::Bid {
         auction: members::name(object, Field::Auction)?,
@@ -133,8 +131,8 @@ fn noncompetitive(object: &Value) -> Result<Message, Field>
     })
 }
 
-fn cancel(object: &Value) -> Result<Message, Field>
-    ensures { result_map (λ m. (kind_of m, parts_of m)) result ≡ body_in (view object.now) kinds.Cancel }
+fn cancel<O: Object>(object: &O) -> Result<Message, Field>
+    ensures { result_map (λ m. (kind_of m, parts_of m)) result ≡ body_in (O.said object.now) kinds.Cancel }
 {
     Ok(Message::Cancel {
         auction: members::name(object, Field::Auction)?,
@@ -142,8 +140,8 @@ fn cancel(object: &Value) -> Result<Message, Field>
     })
 }
 
-fn position(object: &Value) -> Result<Message, Field>
-    ensures { result_map (λ m. (kind_of m, parts_of m)) result ≡ body_in (view object.now) kinds.Position }
+fn position<O: Object>(object: &O) -> Result<Message, Field>
+    ensures { result_map (λ m. (kind_of m, parts_of m)) result ≡ body_in (O.said object.now) kinds.Position }
 {
     Ok(Message::Position {
         auction: members::name(object, Field::Auction)?,
@@ -152,24 +150,24 @@ fn position(object: &Value) -> Result<Message, Field>
     })
 }
 
-fn publish(object: &Value) -> Result<Message, Field>
-    ensures { result_map (λ m. (kind_of m, parts_of m)) result ≡ body_in (view object.now) kinds.Publish }
+fn publish<O: Object>(object: &O) -> Result<Message, Field>
+    ensures { result_map (λ m. (kind_of m, parts_of m)) result ≡ body_in (O.said object.now) kinds.Publish }
 {
     Ok(Message::Publish {
         auction: members::name(object, Field::Auction)?,
     })
 }
 
-fn settle(object: &Value) -> Result<Message, Field>
-    ensures { result_map (λ m. (kind_of m, parts_of m)) result ≡ body_in (view object.now) kinds.Settle }
+fn settle<O: Object>(object: &O) -> Result<Message, Field>
+    ensures { result_map (λ m. (kind_of m, parts_of m)) result ≡ body_in (O.said object.now) kinds.Settle }
 {
     Ok(Message::Settle {
         auction: members::name(object, Field::Auction)?,
     })
 }
 
-fn transfer(object: &Value) -> Result<Message, Field>
-    ensures { result_map (λ m. (kind_of m, parts_of m)) result ≡ body_in (view object.now) kinds.Transfer }
+fn transfer<O: Object>(object: &O) -> Result<Message, Field>
+    ensures { result_map (λ m. (kind_of m, parts_of m)) result ≡ body_in (O.said object.now) kinds.Transfer }
 {
     Ok(Message::Transfer {
         cusip: members::cusip(object, Field::Cusip)?,
@@ -178,8 +176,8 @@ fn transfer(object: &Value) -> Result<Message, Field>
     })
 }
 
-fn pledge(object: &Value) -> Result<Message, Field>
-    ensures { result_map (λ m. (kind_of m, parts_of m)) result ≡ body_in (view object.now) kinds.Pledge }
+fn pledge<O: Object>(object: &O) -> Result<Message, Field>
+    ensures { result_map (λ m. (kind_of m, parts_of m)) result ≡ body_in (O.said object.now) kinds.Pledge }
 {
     Ok(Message::Pledge {
         cusip: members::cusip(object, Field::Cusip)?,
@@ -188,8 +186,8 @@ fn pledge(object: &Value) -> Result<Message, Field>
     })
 }
 
-fn release(object: &Value) -> Result<Message, Field>
-    ensures { result_map (λ m. (kind_of m, parts_of m)) result ≡ body_in (view object.now) kinds.Release }
+fn release<O: Object>(object: &O) -> Result<Message, Field>
+    ensures { result_map (λ m. (kind_of m, parts_of m)) result ≡ body_in (O.said object.now) kinds.Release }
 {
     Ok(Message::Release {
         holder: members::name(object, Field::Holder)?,
@@ -198,16 +196,16 @@ fn release(object: &Value) -> Result<Message, Field>
     })
 }
 
-fn redeem(object: &Value) -> Result<Message, Field>
-    ensures { result_map (λ m. (kind_of m, parts_of m)) result ≡ body_in (view object.now) kinds.Redeem }
+fn redeem<O: Object>(object: &O) -> Result<Message, Field>
+    ensures { result_map (λ m. (kind_of m, parts_of m)) result ≡ body_in (O.said object.now) kinds.Redeem }
 {
     Ok(Message::Redeem {
         cusip: members::cusip(object, Field::Cusip)?,
     })
 }
 
-fn add_on(object: &Value) -> Result<Message, Field>
-    ensures { result_map (λ m. (kind_of m, parts_of m)) result ≡ body_in (view object.now) kinds.AddOn }
+fn add_on<O: Object>(object: &O) -> Result<Message, Field>
+    ensures { result_map (λ m. (kind_of m, parts_of m)) result ≡ body_in (O.said object.now) kinds.AddOn }
 {
     Ok(Message::AddOn {
         auction: members::name(object, Field::Auction)?,
@@ -216,8 +214,8 @@ fn add_on(object: &Value) -> Result<Message, Field>
     })
 }
 
-fn deposit(object: &Value) -> Result<Message, Field>
-    ensures { result_map (λ m. (kind_of m, parts_of m)) result ≡ body_in (view object.now) kinds.Deposit }
+fn deposit<O: Object>(object: &O) -> Result<Message, Field>
+    ensures { result_map (λ m. (kind_of m, parts_of m)) result ≡ body_in (O.said object.now) kinds.Deposit }
 {
     Ok(Message::Deposit {
         participant: members::name(object, Field::Participant)?,
@@ -225,8 +223,8 @@ fn deposit(object: &Value) -> Result<Message, Field>
     })
 }
 
-fn withdraw(object: &Value) -> Result<Message, Field>
-    ensures { result_map (λ m. (kind_of m, parts_of m)) result ≡ body_in (view object.now) kinds.Withdraw }
+fn withdraw<O: Object>(object: &O) -> Result<Message, Field>
+    ensures { result_map (λ m. (kind_of m, parts_of m)) result ≡ body_in (O.said object.now) kinds.Withdraw }
 {
     Ok(Message::Withdraw {
         participant: members::name(object, Field::Participant)?,
@@ -234,8 +232,8 @@ fn withdraw(object: &Value) -> Result<Message, Field>
     })
 }
 
-fn sell(object: &Value) -> Result<Message, Field>
-    ensures { result_map (λ m. (kind_of m, parts_of m)) result ≡ body_in (view object.now) kinds.Sell }
+fn sell<O: Object>(object: &O) -> Result<Message, Field>
+    ensures { result_map (λ m. (kind_of m, parts_of m)) result ≡ body_in (O.said object.now) kinds.Sell }
 {
     Ok(Message::Sell {
         cusip: members::cusip(object, Field::Cusip)?,
@@ -245,8 +243,8 @@ fn sell(object: &Value) -> Result<Message, Field>
     })
 }
 
-fn buy(object: &Value) -> Result<Message, Field>
-    ensures { result_map (λ m. (kind_of m, parts_of m)) result ≡ body_in (view object.now) kinds.Buy }
+fn buy<O: Object>(object: &O) -> Result<Message, Field>
+    ensures { result_map (λ m. (kind_of m, parts_of m)) result ≡ body_in (O.said object.now) kinds.Buy }
 {
     Ok(Message::Buy {
         seller: members::name(object, Field::Seller)?,
@@ -254,16 +252,16 @@ fn buy(object: &Value) -> Result<Message, Field>
     })
 }
 
-fn retract(object: &Value) -> Result<Message, Field>
-    ensures { result_map (λ m. (kind_of m, parts_of m)) result ≡ body_in (view object.now) kinds.Retract }
+fn retract<O: Object>(object: &O) -> Result<Message, Field>
+    ensures { result_map (λ m. (kind_of m, parts_of m)) result ≡ body_in (O.said object.now) kinds.Retract }
 {
     Ok(Message::Retract {
         offer: members::number(object, Field::Offer)?,
     })
 }
 
-fn message_of(kind: Kind, object: &Value) -> Result<Message, Field>
-    ensures { result_map (λ m. (kind_of m, parts_of m)) result ≡ body_in (view object.now) kind }
+fn message_of<O: Object>(kind: Kind, object: &O) -> Result<Message, Field>
+    ensures { result_map (λ m. (kind_of m, parts_of m)) result ≡ body_in (O.said object.now) kind }
 {
     match kind {
         Kind::Register => register(object),
@@ -289,9 +287,9 @@ fn message_of(kind: Kind, object: &Value) -> Result<Message, Field>
     }
 }
 
-fn query_of(kind: QueryKind, object: &Value) -> Result<Query, Field>
+fn query_of<O: Object>(kind: QueryKind, object: &O) -> Result<Query, Field>
     ensures { result_map (λ q. query (query_kind_of q) (query_parts_of q)) result
-        ≡ object_in (view object.now) (Some kind) }
+        ≡ object_in (O.said object.now) (Some kind) }
 {
     match kind {
         QueryKind::Terms => Ok(Query::Terms(members::name(object, Field::Auction)?)),
@@ -304,20 +302,20 @@ fn query_of(kind: QueryKind, object: &Value) -> Result<Query, Field>
     }
 }
 
-fn message_kind_in(object: &Value) -> Option<Kind>
-    ensures { result ≡ asked.message_kind_in (view object.now) }
+fn message_kind_in<O: Object>(object: &O) -> Option<Kind>
+    ensures { result ≡ asked.message_kind_in (O.said object.now) }
 {
-    members::text_of(object, Field::Kind).and_then(kind_of_name)
+    object.text(Field::Kind).and_then(kind_of_name)
 }
 
-fn query_kind_in(object: &Value) -> Option<QueryKind>
-    ensures { result ≡ asked.query_kind_in (view object.now) }
+fn query_kind_in<O: Object>(object: &O) -> Option<QueryKind>
+    ensures { result ≡ asked.query_kind_in (O.said object.now) }
 {
-    members::text_of(object, Field::Kind).and_then(query_kind_of_name)
+    object.text(Field::Kind).and_then(query_kind_of_name)
 }
 
-fn message(object: &Value) -> Result<(u64, Message), Field>
-    ensures asked { result_map (λ x. (whole x.0, kind_of x.1, parts_of x.1)) result ≡ message_in (view object.now) }
+fn message<O: Object>(object: &O) -> Result<(u64, Message), Field>
+    ensures asked { result_map (λ x. (whole x.0, kind_of x.1, parts_of x.1)) result ≡ message_in (O.said object.now) }
     ensures in_range { IfOk result (λ x. IsNumbered x.0 x.1) }
 {
     let number = members::number(object, Field::Number)?;
@@ -328,8 +326,9 @@ fn message(object: &Value) -> Result<(u64, Message), Field>
     Ok((number, message))
 }
 
-fn request(object: &Value) -> Result<Request, Field>
-    ensures asked { result_map asked_by result ≡ request_in (view object.now) }
+/// The request that an object is, or the first member that fails.
+pub(crate) fn request<O: Object>(object: &O) -> Result<Request, Field>
+    ensures asked { result_map asked_by result ≡ request_in (O.said object.now) }
     ensures in_range { IfOk result IsRequestInRange }
 {
     if !object.is_object() {
@@ -341,30 +340,5 @@ fn request(object: &Value) -> Result<Request, Field>
             let (number, message) = message(object)?;
             Ok(Request::Message { number, message })
         }
-    }
-}
-
-fn parse(alloc: Global, bytes: &[u8]) -> Result<Value, ReadFault>
-    ensures ok { IfOk result (λ v. Says bytes.now (view v)) }
-    ensures bad { IfErr result (λ e. FaultOf bytes.now e) }
-{
-    match Value::from_slice(alloc, bytes) {
-        Ok(value) => Ok(value),
-        Err(error) => match error.classify() {
-            Category::Memory => Err(ReadFault::OutOfMemory),
-            _ => Err(ReadFault::BadJson),
-        },
-    }
-}
-
-/// Reads a request. `BadShape` carries the first member that fails, in the order of the kind.
-pub fn read_request(alloc: Global, bytes: &[u8]) -> Result<Request, ReadFault>
-    ensures answer { AnswerOf bytes.now result }
-    ensures in_range { IfOk result IsRequestInRange }
-{
-    let value = parse(alloc, bytes)?;
-    match request(&value) {
-        Ok(request) => Ok(request),
-        Err(field) => Err(ReadFault::BadShape(field)),
     }
 }

@@ -2,7 +2,10 @@
 use std::alloc::Global;
 use std::process::Abort;
 use std::test::Fail;
-use tb_message::{Entry, Key, Kind, Message, Query, Request, Verdict, read_request, verdict_line};
+use tb_message::{
+    Entry, Key, Kind, Message, Query, ReadFault, Request, RequestReader, Verdict, read_request,
+    verdict_line,
+};
 use tb_terms::{Field, Refusal};
 use tb_units::{Cents, Day, Dollars, Ident, Moment};
 
@@ -63,6 +66,49 @@ BadShape(Auction) {"number":0,"kind":"results"}
 BadShape(Kind) {"kind":"holdings","number":1,"kind":"none"}
 Query(Holdings) {"number":0,"kind":"none","kind":"holdings"}
 Query(Funds) {"number":0,"kind":"funds","cents":0}"#;
+
+/// Members behind the first, each with what is told of the object. One that nests, or has a number that isn't whole, is
+/// read into a tree.
+const MEMBERS: &str = r#"Query(Funds) "kind":"funds"}
+Query(Funds)  "kind" :  "funds" } 
+Query(Funds) "k\u0069nd":"fun\u0064s"}
+Query(Holdings) "kind":"funds","k\u0069nd":"holdings"}
+Query(Funds) "kind":"funds","no":null,"one":true,"other":false,"less":-1,"most":18446744073709551615}
+Query(Funds) "a":1,"b":2,"c":3,"d":4,"e":5,"f":6,"g":7,"h":8,"i":9,"j":10,"k":11,"l":12,"m":13,"n":14,"kind":"funds","o":15}
+Query(Funds) "kind":"funds","more":{"kind":"holdings"}}
+Query(Holdings) "kind":{"kind":"funds"},"kind":"holdings"}
+Query(Funds) "kind":"funds","large":1e308}
+BadJson "kind":"funds","large":1e309}
+Query(Funds) "kind":"funds","twenty":18446744073709551616,"zero":-0,"half":0.5}
+Query(Funds) "kind":"funds","mark":"\ud83d\ude00"}
+BadJson "kind":"funds","lone":"\ud83d"}
+BadJson "kind":"funds","bad":01}
+BadJson "kind":"funds","bad":1.}
+BadJson "kind":"funds","bad":-}
+BadJson "kind":"funds","bad":nul}
+BadJson "kind":"funds",}
+BadJson "kind":"funds"
+BadJson "kind":"funds"]
+BadJson "kind":"funds"}{}
+BadJson "kind":"funds" "more":1}
+BadJson "kind":}
+BadJson kind:"funds"}
+BadShape(Kind) "number":1}
+BadShape(Kind) "number":1,"kind":7}
+BadShape(Number) "kind":"retract","number":1e2,"offer":1}
+BadShape(Number) "kind":"retract","number":1.0,"offer":1}
+BadShape(Number) "kind":"retract","number":-0,"offer":1}
+BadShape(Number) "kind":"retract","number":-1,"offer":1}
+BadShape(Number) "kind":"retract","number":1000000000000001,"offer":1}
+BadShape(Number) "kind":"retract","number":18446744073709551617,"offer":1}
+BadShape(Number) "kind":"retract","number":"1","offer":1}
+BadShape(Number) "kind":"retract","number":1,"number":null,"offer":1}
+BadShape(Offer) "kind":"retract","number":1000000000000000,"offer":-1}
+BadShape(Position) "number":1,"kind":"position","auction":"a","bidder":"b","position":9223372036854775808}
+BadShape(Position) "number":1,"kind":"position","auction":"a","bidder":"b","position":-9223372036854775808}
+BadShape(Position) "number":1,"kind":"position","auction":"a","bidder":"b","position":-1000000000001}
+BadShape(Position) "number":1,"kind":"position","auction":"a","bidder":"b","position":-9223372036854775809}
+BadShape(Position) "number":1,"kind":"position","auction":"a","bidder":"b","position":1e2}"#;
 
 fn name(rt: &impl Abort, text: &str) -> Ident {
     Ident::read(text).expect(rt, "no name")
@@ -157,19 +203,96 @@ fn members_of_other_kinds_are_ignored(rt: HostRuntime) {
     assert!(rt; read_request(rt.alloc(), other) != read_request(rt.alloc(), plain));
 }
 
+// What each call tells of a text.
+fn told_alike(
+    rt: &impl Abort,
+    alloc: Global,
+    requests: &mut RequestReader,
+    text: &str,
+    told: &str,
+) -> Result<(), Fail> {
+    assert_eq!(rt; reading(alloc, text)?.as_str(), told, "{text}");
+    assert_eq!(rt;
+        requests.read(text.as_bytes()),
+        read_request(alloc, text.as_bytes()),
+        "{text}"
+    );
+    Ok(())
+}
+
+#[test]
+fn a_tree_tells_what_is_told_without_one(rt: HostRuntime) -> Result<(), Fail> {
+    let alloc = rt.alloc();
+    let mut requests = RequestReader::new(alloc);
+    for line in MEMBERS.lines() {
+        let (told, members) = line.split_once(' ').ok_or("no space")?;
+        let plain = format!(in alloc; "{{\"first\":0,{members}")?;
+        let nested = format!(in alloc; "{{\"first\":[],{members}")?;
+        told_alike(&rt, alloc, &mut requests, plain.as_str(), told)?;
+        told_alike(&rt, alloc, &mut requests, nested.as_str(), told)?;
+    }
+    Ok(())
+}
+
+#[test]
+fn one_reader_reads_text_after_text(rt: HostRuntime) -> Result<(), Fail> {
+    let alloc = rt.alloc();
+    let mut requests = RequestReader::new(alloc);
+    for line in RECORDS.lines().chain(READINGS.lines()) {
+        let (_, text) = line.split_once(' ').ok_or("no space")?;
+        assert_eq!(rt;
+            requests.read(text.as_bytes()),
+            read_request(alloc, text.as_bytes()),
+            "{text}"
+        );
+    }
+    let funds = br#"{"kind":"funds"}"#;
+    assert_eq!(rt;
+        requests.read(b"{\"kind\":\"funds\",\"no\":\"\xff\"}"),
+        Err(ReadFault::BadJson)
+    );
+    assert_eq!(rt; requests.read(b""), Err(ReadFault::BadJson));
+    assert_eq!(rt;
+        requests.read(b"{\"kind\":\"fun\tds\"}"),
+        Err(ReadFault::BadJson)
+    );
+    assert_eq!(rt;
+        requests.read(b"\r\n{\t\"kind\"\n:\"funds\"\r}\n"),
+        Ok(Request::Query(Query::Funds))
+    );
+    assert_eq!(rt; requests.read(funds), Ok(Request::Query(Query::Funds)));
+    Ok(())
+}
+
+// So many brackets within one another.
+fn brackets(alloc: Global, depth: usize) -> Result<String, Fail> {
+    let mut text = String::new(alloc);
+    for _ in 0..depth {
+        text.push('[')?;
+    }
+    for _ in 0..depth {
+        text.push(']')?;
+    }
+    Ok(text)
+}
+
 #[test]
 fn brackets_nest_127_deep(rt: HostRuntime) -> Result<(), Fail> {
     let alloc = rt.alloc();
-    let mut text = String::new(alloc);
-    for _ in 0..127 {
-        text.push('[')?;
-    }
-    for _ in 0..127 {
-        text.push(']')?;
-    }
-    assert_eq!(rt; reading(alloc, text.as_str())?.as_str(), "BadShape(Body)");
-    let deeper = format!(in alloc; "[{text}]")?;
-    assert_eq!(rt; reading(alloc, deeper.as_str())?.as_str(), "BadJson");
+    assert_eq!(rt;
+        reading(alloc, brackets(alloc, 127)?.as_str())?.as_str(),
+        "BadShape(Body)"
+    );
+    assert_eq!(rt;
+        reading(alloc, brackets(alloc, 128)?.as_str())?.as_str(),
+        "BadJson"
+    );
+    let deep = brackets(alloc, 126)?;
+    let member = format!(in alloc; "{{\"kind\":\"funds\",\"deep\":{deep}}}")?;
+    assert_eq!(rt; reading(alloc, member.as_str())?.as_str(), "Query(Funds)");
+    let deeper = brackets(alloc, 127)?;
+    let deeper_member = format!(in alloc; "{{\"kind\":\"funds\",\"deep\":{deeper}}}")?;
+    assert_eq!(rt; reading(alloc, deeper_member.as_str())?.as_str(), "BadJson");
     Ok(())
 }
 

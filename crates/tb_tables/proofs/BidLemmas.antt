@@ -10,7 +10,7 @@ use Rattle.tb_history.specs.declared.bids.Bid.{Bid}
 use Rattle.tb_history.specs.Entries.{is_same, bid_by}
 use Rattle.tb_history.specs.Roster.{kept}
 use Rattle.tb_history.specs.LiveBids.{bids, bid_of}
-use Rattle.tb_history.specs.Legal.{Follows, IsLegal}
+use Rattle.tb_history.specs.Legal.{IsLegal}
 use Rattle.tb_history.proofs.SameLemmas.{is_same-equal}
 use Rattle.tb_history.proofs.GrowthLemmas.{bids-snoc}
 use Rattle.tb_history.proofs.AcceptedLemmas.{accepted-passes}

@@ -12,7 +12,9 @@ pub struct ByName;
 pub struct ByKey;
 
 /// By the number of a message and its submitter; a cancel by the number of its bid, its submitter and the auction. The
-/// number comes first, since few submitters have the same, and a comparison ends there.
+/// number comes first, since few submitters have the same, and a comparison ends there. Rows are found by its order, and
+/// not by its hash: senders choose the numbers, and the seed of the hash is fixed, so that they could choose such as
+/// collide.
 pub struct ByNumber;
 
 /// By the submitter.

@@ -14,7 +14,7 @@ pub returns-in_ok-turned-in-Ok-Message-clause-answered : goal.returns-in_ok-turn
 returns-in_ok-turned-in-Ok-Message-clause-answered g c = (
   Ok (request.Message c.in-Ok-Message.number c.in-Ok-Message.message),
   subst (AnswerOf c.args.json.now) (c.in-Ok-Message.is ∙ ap Ok c.in-Ok-Message.field-0-is)
-      c.read_request.ensures.answer,
+      c.read.ensures.answer,
   (c.in_ok-turned-in-Ok-Message.turned, c.in_ok-turned-in-Ok-Message.ensures.turn, c.of_turn.ensures),
 )
 
@@ -22,7 +22,7 @@ pub returns-in-Ok-Query-clause-answered : goal.returns-in-Ok-Query-clause-answer
 returns-in-Ok-Query-clause-answered g c =
     answered-query (standing (g.D.Disk.disk c.args.desk.now.disk) c.args.desk.now) c.args.caller.now c.args.moment
     c.args.json.now c.in-Ok-Query.query c.tell.result
-    (subst (AnswerOf c.args.json.now) (c.in-Ok-Query.is ∙ ap Ok c.in-Ok-Query.field-0-is) c.read_request.ensures.answer)
+    (subst (AnswerOf c.args.json.now) (c.in-Ok-Query.is ∙ ap Ok c.in-Ok-Query.field-0-is) c.read.ensures.answer)
     c.tell.ensures
 
 pub returns-in-Err-BadJson-clause-answered : goal.returns-in-Err-BadJson-clause-answered
@@ -30,12 +30,12 @@ returns-in-Err-BadJson-clause-answered g c =
     answered-fault (standing (g.D.Disk.disk c.args.desk.now.disk) c.args.desk.now) c.args.caller.now c.args.moment
     c.args.json.now _ fault.BadJson refusal.BadJson
     (subst (AnswerOf c.args.json.now) (c.in-Err-BadJson.is ∙ ap Err c.in-Err-BadJson.field-0-is)
-    c.read_request.ensures.answer) refl c.refused.ensures
+    c.read.ensures.answer) refl c.refused.ensures
 
 pub returns-in-Err-BadShape-clause-answered : goal.returns-in-Err-BadShape-clause-answered
 returns-in-Err-BadShape-clause-answered g c =
     answered-fault (standing (g.D.Disk.disk c.args.desk.now.disk) c.args.desk.now) c.args.caller.now c.args.moment
     c.args.json.now _ (fault.BadShape c.in-Err-BadShape.member) (refusal.BadShape c.in-Err-BadShape.member)
     (subst (AnswerOf c.args.json.now) (c.in-Err-BadShape.is ∙ ap Err c.in-Err-BadShape.field-0-is)
-    c.read_request.ensures.answer) refl
+    c.read.ensures.answer) refl
     (c.refused-in-Err-BadShape.ensures ∙ ap (λ (m : Field). refused (refusal.BadShape m)) c.in-Err-BadShape.member-is)
