@@ -39,9 +39,9 @@ use crate::tables::Tables;
 use std::alloc::Global;
 use std::marker::Model;
 use tb_book::Book;
+use tb_entries::Entries;
 use tb_funds::{Offer, State};
 use tb_history::{Awards, Bids, Holdings, Reading, Redemption, Results};
-use tb_index::Counted;
 use tb_ledger::{find_pledge, free_par, holder_number, open_pledges};
 use tb_message::{Entry, Message, Query, Verdict};
 use tb_refusals::{
@@ -52,9 +52,8 @@ use tb_refusals::{
     withdraw_refusal,
 };
 use tb_tables::{
-    Entries, bill_terms, count_sent, find_add_on, find_bid, find_kept, find_submitter, has_bill,
-    has_cancel, has_name, has_submitter, is_enrolled, is_operator, is_same, terms_at, terms_of,
-    unsettled_terms,
+    bill_terms, find_add_on, find_bid, find_submitter, has_bill, has_cancel, has_name,
+    has_submitter, is_enrolled, is_operator, is_same, terms_at, terms_of, unsettled_terms,
 };
 use tb_terms::{Announcement, Cusip, EasternDays, Refusal, Terms};
 use tb_units::{Cents, Dollars, Ident, Moment, OutOfMemory, Rate};
@@ -134,7 +133,7 @@ fn enter(
         entry.moment,
         &entry.message,
     );
-    entries.push(entry);
+    entries.push(&entry);
     *room -= 1;
 }
 
@@ -162,7 +161,7 @@ impl Host {
         let days = EasternDays::new(alloc)?;
         Ok(Host {
             days,
-            entries: Counted::new(alloc),
+            entries: Entries::new(alloc),
             tables: Tables::new(alloc),
             room: 0,
         })
@@ -227,7 +226,7 @@ impl Host {
     pub fn kept(&self, submitter: &Ident, number: u64) -> Option<Moment>
         ensures { result ≡ option_map (λ entry. entry.moment) (roster.kept self.now.history submitter.now number) }
     {
-        match find_kept(&self.entries, submitter, number) {
+        match self.entries.find(submitter, number) {
             Some(entry) => Some(entry.moment),
             None => None,
         }
@@ -240,11 +239,11 @@ impl Host {
         self.tables.last
     }
 
-    /// The entries of the history, in their order.
-    pub fn history(&self) -> &[Entry]
-        ensures { result.now ≡ self.now.history }
+    /// The entry at the place in the history. `None` where it has not so many.
+    pub fn entry(&self, place: u64) -> Option<Entry>
+        ensures { result ≡ slice_get self.now.history place }
     {
-        self.entries.rows()
+        self.entries.get(place as usize)
     }
 
     /// The auction whose results were published when so many had been before: none where there are not more.
@@ -260,7 +259,7 @@ impl Host {
         ensures limit { length self.now.history ≤ 4097 * 1048576 }
         ensures legal { IsLegal self.now.history }
     {
-        self.entries.rows().len() as u64
+        self.entries.len() as u64
     }
 
     /// The verdict on a message, which changes nothing.
@@ -487,10 +486,10 @@ impl Host {
         if !is_permitted(submitter, message) {
             return Verdict::Refused(Refusal::NotPermitted);
         }
-        if let Some(entry) = find_kept(&self.entries, submitter, number) {
+        if let Some(entry) = self.entries.find(submitter, number) {
             return repeated(&entry, message);
         }
-        if count_sent(&self.entries, submitter) >= Host::MOST_MESSAGES {
+        if self.entries.count(submitter) >= Host::MOST_MESSAGES {
             return Verdict::Refused(Refusal::MessageQuota);
         }
         match self.refusal(submitter, moment, message) {

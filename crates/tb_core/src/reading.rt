@@ -9,10 +9,11 @@ ghost use Rattle.tb_core.specs.Bidden.{IsAuctionOf};
 use crate::tables::Tables;
 use std::alloc::Global;
 use tb_book::Book;
+use tb_entries::Bids;
 use tb_history::{Awards, Bid, BidLine, Listing, Results};
 use tb_ledger::positions_in;
 use tb_results::{awards, results};
-use tb_tables::{Bids, Cancels, bids_from, find_add_on, is_live};
+use tb_tables::{Cancels, find_add_on, is_live};
 use tb_terms::Terms;
 use tb_units::{Ident, OutOfMemory};
 
@@ -49,7 +50,7 @@ pub fn bid_lines(
 ) -> Result<tb_history::Bids, OutOfMemory>
     ensures { IfOk result (λ lines. lines ≡ bid_lines bids.now.list cancels.now.list submitter.now auction.now) }
 {
-    let own = bids_from(alloc, bids, submitter, auction)?;
+    let own = bids.from(alloc, submitter, auction)?;
     lines_of(alloc, &own, cancels)
 }
 

@@ -24,9 +24,10 @@ use std::alloc::Global;
 use tb_cashbook::{
     enter_deposit, enter_offer, enter_purchase, enter_retraction, enter_withdrawal, no_funds,
 };
+use tb_entries::{Bids, Entries};
 use tb_funds::{Funds, Offer};
 use tb_holdings::Accounts;
-use tb_index::{Chained, Keyed, Latest, Named, TwiceKeyed};
+use tb_index::{Keyed, Latest, Named, TwiceKeyed};
 use tb_ledger::{
     Scratch, account, bill_number, credit_awards, cut_auction, enter_transfer, holder_number,
     reserve_accounts,
@@ -36,8 +37,8 @@ use tb_movements::empty_book;
 use tb_shelf::Shelf;
 use tb_shelving::{count_announced, enter_line, has_settlement, have_places, reserve_places};
 use tb_tables::{
-    AddOns, Auctions, Bidders, Bids, Bills, Calendar, Cancels, Entries, Holidays, Names, Reports,
-    Submitters, enter_add_on, enter_auction, enter_bid, enter_bidder, enter_calendar, enter_cancel,
+    AddOns, Auctions, Bidders, Bills, Calendar, Cancels, Holidays, Names, Reports, Submitters,
+    enter_add_on, enter_auction, enter_bid, enter_bidder, enter_calendar, enter_cancel,
     enter_holiday, enter_published, enter_redeemed, enter_report, enter_settled, enter_submitter,
     find_add_on, number_of, terms_of,
 };
@@ -86,7 +87,7 @@ impl Tables {
             holidays: Keyed::new(alloc),
             calendar: Calendar::new(alloc),
             auctions: TwiceKeyed::new(alloc),
-            bids: Chained::new(alloc),
+            bids: Bids::new(alloc),
             cancels: Keyed::new(alloc),
             reports: Latest::new(alloc),
             published: Named::new(alloc),
@@ -145,7 +146,7 @@ impl Tables {
             .prepare(count_announced(ahead, messages), more as u64)?;
         reserve_places(&mut self.shelf, ahead, messages, more as u64)?;
         if has_settlement(ahead, messages) {
-            let bids = self.bids.rows().len();
+            let bids = self.bids.len();
             let bidders = self.bidders.rows().len();
             self.scratch.reserve(bids, bidders, more)?;
         }

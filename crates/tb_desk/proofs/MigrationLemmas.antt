@@ -1,7 +1,8 @@
 -- A history is written a frame for each entry, and each crash meanwhile leaves what was there, nothing, or the history.
-use Rattle.std.proofs.Common.{zero, suc, ◌≡◌, ◌<◌, inl, inr, ℕ, ◌+◌, ◌^◌, List, [], ◌∷◌, length, map, Option, IfSome, refl, sym, ◌∙◌, ap, subst, arith, Ok}
-use Rattle.std.specs.List.{All}
+use Rattle.std.proofs.Common.{zero, suc, ◌≡◌, ◌<◌, inl, inr, ℕ, ◌+◌, ◌^◌, List, [], ◌∷◌, length, get_or, map, Option, Some, IfSome, refl, sym, ◌∙◌, ap, subst, arith, Ok}
+use Rattle.std.specs.List.{All, slice_get}
 use Rattle.std.proofs.lemmas.List.{append-nil}
+use Rattle.std.proofs.lemmas.Option.{slice_get-get_or}
 use Rattle.tb_disk.specs.Steps.{Synced}
 use Rattle.tb_disk.specs.Past.{Past, Then, contents_of, Leaves}
 use Rattle.tb_disk.specs.Disks.{DiskState}
@@ -63,6 +64,14 @@ ends-ones history legal = omega (
   gate-bound (ones history) history (joined-ones history) (sizes-ones history) legal,
   ap (λ (payloads : List (List ℕ)). length (front payloads)) (payloads-ones history),
 )
+
+-- an entry that is there is the one at its place
+pub entry_at : (entries : List Entry) (place : ℕ) (entry : Entry) → place < length entries
+    → slice_get entries place ≡ Some entry → entry ≡ get_or entries place entry
+entry_at entries place entry within there =
+    let same : Some entry ≡ Some (get_or entries place entry) =
+    sym there ∙ slice_get-get_or entries place entry within in
+    cc
 
 -- the record of an entry is a payload
 pub payload-one : (entry : Entry) → IsInRange entry → IsPayload (spelling entry)

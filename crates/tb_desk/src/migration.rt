@@ -20,7 +20,6 @@ use std::alloc::Global;
 use tb_core::Host;
 use tb_disk::Disk;
 use tb_journal::{DiskFault, FirstJournal, Writer};
-use tb_message::Entry;
 
 // The history of a journal of the first version.
 fn open_first<D: Disk>(alloc: Global, from: &mut D) -> Result<Host, OpenFault>
@@ -42,43 +41,44 @@ fn open_first<D: Disk>(alloc: Global, from: &mut D) -> Result<Host, OpenFault>
     }
 }
 
-// Writes a frame for each of these entries.
-fn add_entries<D: Disk>(writer: &mut Writer<'_, D>, entries: &[Entry]) -> Result<(), DiskFault>
+// Writes a frame for each entry of the host's.
+fn add_entries<D: Disk>(writer: &mut Writer<'_, D>, host: &Host) -> Result<(), DiskFault>
     requires writing { IfSome (D.disk writer.old.disk.now).past (IsWriting writer.old.place writer.old.ordinal) }
-    requires sizes { All IsInRange entries.now }
-    requires end { writer.old.place + length (frames writer.old.ordinal (map spelling entries.now)) + 1 < 2 ^ 42 }
+    requires sizes { All IsInRange host.now.history }
+    requires end { writer.old.place + length (frames writer.old.ordinal (map spelling host.now.history)) + 1 < 2 ^ 42 }
     requires count { writer.old.ordinal ≤ writer.old.place }
     ensures same_reference { writer.new.disk.ghost_name ≡ writer.old.disk.ghost_name }
     ensures adds { OnOk result (Told (D.disk writer.old.disk.now) (D.disk writer.new.disk.now)
-        (AddsAll (map spelling entries.now) writer.old.ordinal writer.old.place)) }
+        (AddsAll (map spelling host.now.history) writer.old.ordinal writer.old.place)) }
     ensures next { OnOk result ((writer.new.place
-        ≡ writer.old.place + length (frames writer.old.ordinal (map spelling entries.now)))
-        × (writer.new.ordinal ≡ writer.old.ordinal + length entries.now)) }
+        ≡ writer.old.place + length (frames writer.old.ordinal (map spelling host.now.history)))
+        × (writer.new.ordinal ≡ writer.old.ordinal + length host.now.history)) }
     ensures in_part { OnErr result (Told (D.disk writer.old.disk.now) (D.disk writer.new.disk.now)
         (AddsAllInPart writer.old.ordinal writer.old.place)) }
     ensures fault { OnErr result (Rose (D.disk writer.old.disk.now).faults (D.disk writer.new.disk.now).faults) }
     ensures no_fault { OnOk result ((D.disk writer.new.disk.now).faults ≡ (D.disk writer.old.disk.now).faults) }
     ensures count { NeverFalls (D.disk writer.old.disk.now).faults (D.disk writer.new.disk.now).faults }
 {
-    for entry in entries {
+    for place in 0..host.entries() {
+        let entry = host.entry(place).unwrap();
         writer.add(entry.put().bytes())?;
     }
     Ok(())
 }
 
-// Writes a journal of these entries over whatever the spare held, a frame for each.
-fn write_anew<D: Disk>(to: &mut D, entries: &[Entry]) -> Result<(), DiskFault>
-    requires sizes { All IsInRange entries.now }
-    requires end { length (front (map spelling entries.now)) + 1 < 2 ^ 42 }
-    ensures written { OnOk result (Told (D.disk to.old) (D.disk to.new) (Rewrites (map spelling entries.now))) }
-    ensures in_part { OnErr result (Told (D.disk to.old) (D.disk to.new) (RewritesInPart (map spelling entries.now))) }
+// Writes a journal of the host's entries over whatever the spare held, a frame for each.
+fn write_anew<D: Disk>(to: &mut D, host: &Host) -> Result<(), DiskFault>
+    requires sizes { All IsInRange host.now.history }
+    requires end { length (front (map spelling host.now.history)) + 1 < 2 ^ 42 }
+    ensures written { OnOk result (Told (D.disk to.old) (D.disk to.new) (Rewrites (map spelling host.now.history))) }
+    ensures in_part { OnErr result (Told (D.disk to.old) (D.disk to.new) (RewritesInPart (map spelling host.now.history))) }
     ensures fault { OnErr result (Rose (D.disk to.old).faults (D.disk to.new).faults) }
     ensures no_fault { OnOk result ((D.disk to.new).faults ≡ (D.disk to.old).faults) }
     ensures count { NeverFalls (D.disk to.old).faults (D.disk to.new).faults }
 {
     match Writer::begin(to) {
         Ok(mut writer) => {
-            add_entries(&mut writer, entries)?;
+            add_entries(&mut writer, host)?;
             writer.seal()
         }
         Err((_, fault)) => Err(fault),
@@ -115,7 +115,7 @@ pub fn migrate<D: Disk>(alloc: Global, from: &mut D, to: &mut D) -> Result<u64, 
     };
     // The history is legal, which the host tells with the number of its entries.
     let count = host.entries();
-    match write_anew(to, host.history()) {
+    match write_anew(to, &host) {
         Ok(()) => Ok(count),
         Err(DiskFault) => Err(MigrateFault::SpareFault),
     }

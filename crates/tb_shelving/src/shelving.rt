@@ -5,9 +5,10 @@ ghost use Rattle.tb_history.specs.LiveBids.{bid_of, bids};
 ghost use Rattle.tb_shelving.specs.Shelving.{HasShelved, IsOut, TakesMessage};
 
 use tb_book::BookLine;
+use tb_entries::Entries;
 use tb_message::Message;
 use tb_shelf::Shelf;
-use tb_tables::{Bidders, Entries, find_bid, number_of};
+use tb_tables::{Bidders, find_bid, number_of};
 use tb_units::Ident;
 
 /// Opens the book of an auction that is announced, adds the line of a bid of the sender under its number, or takes that

@@ -1,4 +1,3 @@
-pub mod KeyLemmas
 pub mod AddedLemmas
 pub mod FindLemmas
 pub mod CalendarLemmas

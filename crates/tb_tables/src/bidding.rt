@@ -1,23 +1,17 @@
 //! Bids, cancels and reports.
-ghost use Rattle.std.specs.Prelude.{◌≡◌, ◌&&◌, length, min, IfOk};
-ghost use Rattle.std.specs.List.{filter};
-ghost use Rattle.tb_history.specs.declared.bids.Bid.{Bid};
-ghost use Rattle.tb_history.specs.Entries.{bid_by, is_same};
+ghost use Rattle.std.specs.Prelude.{◌≡◌, length, min};
+ghost use Rattle.tb_history.specs.Entries.{bid_by};
 ghost use Rattle.tb_history.specs.Legal.{IsLegal};
 ghost use Rattle.tb_history.specs.LiveBids.{bid_of, bids_of};
 ghost use Rattle.tb_history.specs.LiveBids as standing;
 
-use crate::kept::{Entries, find_kept};
-use crate::keys::{ByBidder, ByNumber, BySender};
+use crate::keys::{ByBidder, ByNumber};
 use crate::names::is_same;
-use std::alloc::Global;
+use tb_entries::{Bids, Entries};
 use tb_history::{Bid, Cancel, Report};
-use tb_index::{Chained, Keyed, Latest};
+use tb_index::{Keyed, Latest};
 use tb_message::Message;
-use tb_units::{Ident, OutOfMemory};
-
-/// Accepted bids, in the order of acceptance.
-pub type Bids = Chained<Bid, ByBidder, BySender>;
+use tb_units::Ident;
 
 /// Accepted cancels of bids.
 pub type Cancels = Keyed<Cancel, ByNumber>;
@@ -34,7 +28,7 @@ pub fn find_bid(entries: &Entries, submitter: &Ident, auction: &Ident, number: u
     requires { IsLegal entries.now.list }
     ensures { result ≡ bid_of (standing.bids entries.now.list) submitter.now auction.now number }
 {
-    let entry = find_kept(entries, submitter, number)?;
+    let entry = entries.find(submitter, number)?;
     bid_in(auction, submitter, number, &entry.message)
 }
 
@@ -60,20 +54,6 @@ fn bid_in(auction: &Ident, submitter: &Ident, number: u64, message: &Message) ->
     }
 }
 
-/// The submitter's accepted bids in the auction, in the order of acceptance.
-pub fn bids_from(
-    alloc: Global,
-    bids: &Bids,
-    submitter: &Ident,
-    auction: &Ident,
-) -> Result<Vec<Bid>, OutOfMemory>
-    ensures { IfOk result
-        (λ own. own.items ≡ filter
-        (λ (bid : Bid). is_same bid.submitter submitter.now && is_same bid.auction auction.now) bids.now.list) }
-{
-    bids.rows_in(alloc, &(*submitter, *auction))
-}
-
 /// Whether a cancel of the submitter's bid stands.
 pub fn has_cancel(cancels: &Cancels, submitter: &Ident, auction: &Ident, number: u64) -> bool
     ensures { result ≡ standing.is_cancelled cancels.now.list submitter.now auction.now number }
@@ -92,7 +72,7 @@ pub fn is_live(cancels: &Cancels, bid: &Bid) -> bool
 pub fn few_bids(bids: &Bids, auction: &Ident, bidder: &Ident) -> u32
     ensures { result ≡ min 1000 (length (bids_of bids.now.list auction.now bidder.now)) }
 {
-    let count = bids.count(&(*bidder, *auction));
+    let count = bids.count(auction, bidder);
     if count < MOST_BIDS {
         return count as u32;
     }

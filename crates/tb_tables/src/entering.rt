@@ -5,10 +5,11 @@ ghost use Rattle.tb_tables.specs.Auctions.{IsInOrder, announced_in};
 ghost use Rattle.tb_tables.specs.Calendar.{AddsDays};
 
 use crate::auctions::{AddOns, Auctions};
-use crate::bidding::{Bids, Cancels, Reports};
+use crate::bidding::{Cancels, Reports};
 use crate::calendar::Calendar;
 use crate::names::Names;
 use crate::roster::{Bidders, Bills, Holidays, Submitters};
+use tb_entries::Bids;
 use tb_history::{AddOn, Bid, Cancel, Enrolment, Registration, Report};
 use tb_message::Message;
 use tb_terms::{EasternDays, Terms};
@@ -97,7 +98,7 @@ pub fn enter_bid(bids: &mut Bids, sender: &Ident, number: u64, message: &Message
         amount,
     } = message
     {
-        bids.push(Bid {
+        bids.push(&Bid {
             submitter: *sender,
             number,
             auction: *auction,

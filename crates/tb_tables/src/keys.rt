@@ -1,7 +1,6 @@
 //! By what the rows of the host are found and counted.
-use tb_history::{AddOn, Bid, Cancel, Enrolment, Registration, Report};
+use tb_history::{AddOn, Cancel, Enrolment, Registration, Report};
 use tb_index::KeyOf;
-use tb_message::Entry;
 use tb_terms::{Cusip, Terms};
 use tb_units::{Day, Ident};
 
@@ -11,20 +10,13 @@ pub struct ByName;
 /// By a submitter's key.
 pub struct ByKey;
 
-/// By the number of a message and its submitter; a cancel by the number of its bid, its submitter and the auction. The
-/// number comes first, since few submitters have the same, and a comparison ends there. Rows are found by its order, and
-/// not by its hash: senders choose the numbers, and the seed of the hash is fixed, so that they could choose such as
-/// collide.
+/// By the number of a bid, its submitter and the auction. The number comes first, since few submitters have the same, and
+/// a comparison ends there. Rows are found by its order, and not by its hash: senders choose the numbers, and the seed of
+/// the hash is fixed, so that they could choose such as collide.
 pub struct ByNumber;
-
-/// By the submitter.
-pub struct BySubmitter;
 
 /// By a bidder and the auction that it bids in.
 pub struct ByBidder;
-
-/// By the submitter and the auction of a bid.
-pub struct BySender;
 
 /// By the CUSIP.
 pub struct ByBill;
@@ -119,46 +111,6 @@ impl KeyOf<Day> for ByDay {
 
     fn key_of(day: &Day) -> u32 {
         day.number
-    }
-}
-
-impl KeyOf<Entry> for ByNumber {
-    type Key = (u64, Ident);
-
-    ghost key_of = { λ entry. (entry.number, entry.submitter) };
-
-    fn key_of(entry: &Entry) -> (u64, Ident) {
-        (entry.number, entry.submitter)
-    }
-}
-
-impl KeyOf<Entry> for BySubmitter {
-    type Key = Ident;
-
-    ghost key_of = { λ entry. entry.submitter };
-
-    fn key_of(entry: &Entry) -> Ident {
-        entry.submitter
-    }
-}
-
-impl KeyOf<Bid> for ByBidder {
-    type Key = (Ident, Ident);
-
-    ghost key_of = { λ bid. (bid.bidder, bid.auction) };
-
-    fn key_of(bid: &Bid) -> (Ident, Ident) {
-        (bid.bidder, bid.auction)
-    }
-}
-
-impl KeyOf<Bid> for BySender {
-    type Key = (Ident, Ident);
-
-    ghost key_of = { λ bid. (bid.submitter, bid.auction) };
-
-    fn key_of(bid: &Bid) -> (Ident, Ident) {
-        (bid.submitter, bid.auction)
     }
 }
 

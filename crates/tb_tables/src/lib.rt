@@ -5,7 +5,6 @@ mod auctions;
 mod bidding;
 mod calendar;
 mod entering;
-mod kept;
 mod keys;
 mod names;
 mod roster;
@@ -15,16 +14,14 @@ pub use auctions::{
     unsettled_terms,
 };
 pub use bidding::{
-    Bids, Cancels, Reports, bids_from, few_bids, find_bid, has_cancel, has_report, is_live,
-    position_of,
+    Cancels, Reports, few_bids, find_bid, has_cancel, has_report, is_live, position_of,
 };
 pub use calendar::Calendar;
 pub use entering::{
     enter_add_on, enter_auction, enter_bid, enter_bidder, enter_calendar, enter_cancel,
     enter_holiday, enter_published, enter_redeemed, enter_report, enter_settled, enter_submitter,
 };
-pub use kept::{Entries, count_sent, find_kept};
-pub use keys::{ByBidder, ByBill, ByDay, ByKey, ByName, ByNumber, BySender, BySubmitter};
+pub use keys::{ByBidder, ByBill, ByDay, ByKey, ByName, ByNumber};
 pub use names::{Names, has_name, is_operator, is_same};
 pub use roster::{
     Bidders, Bills, Holidays, Submitters, find_enrolment, find_submitter, has_bill, has_holiday,

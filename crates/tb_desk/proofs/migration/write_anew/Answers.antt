@@ -11,7 +11,7 @@ use Rattle.tb_desk.proofs.migration.write_anew.Goals as goal
 
 pub add_entries-requires-clause-end : goal.add_entries-requires-clause-end
 add_entries-requires-clause-end g c =
-    let payloads = map spelling c.args.entries.now in
+    let payloads = map spelling c.args.host.now.history in
     omega (
       arith,
       c.requires.end,
@@ -23,7 +23,7 @@ add_entries-requires-clause-end g c =
 pub returns-in_err-add_entries-in-Ok-clause-in_part : goal.returns-in_err-add_entries-in-Ok-clause-in_part
 returns-in_err-add_entries-in-Ok-clause-in_part g c =
     let d = g.D.Disk.disk in
-    let payloads = map spelling c.args.entries.now in
+    let payloads = map spelling c.args.host.now.history in
     let begun = c.in-Ok in
     let end = c.in_err-add_entries-in-Ok.to-1-own.given.1 (sym begun.ensures.same_reference
     ∙ sym c.add_entries.ensures.same_reference) in
@@ -38,15 +38,15 @@ seal-requires-clause-writing g c =
     let begun = c.in-Ok in
     let added = c.in_ok-add_entries-in-Ok.ensures in
     let writer = c.add_entries.new.writer in
-    run_writing (map spelling c.args.entries.now) begun.writer.place begun.writer.ordinal
+    run_writing (map spelling c.args.host.now.history) begun.writer.place begun.writer.ordinal
     begun.ensures.start (d c.args.to.now) (d begun.writer.disk.now) (d writer.disk.now) begun.ensures.begins
     writer.place added.next.0 added.adds writer.ordinal
-    (omega (arith, added.next.1, length-map c.args.entries.now spelling))
+    (omega (arith, added.next.1, length-map c.args.host.now.history spelling))
 
 pub seal-requires-clause-end : goal.seal-requires-clause-end
 seal-requires-clause-end g c =
     let d = g.D.Disk.disk in
-    let payloads = map spelling c.args.entries.now in
+    let payloads = map spelling c.args.host.now.history in
     let begun = c.in-Ok in
     let added = c.in_ok-add_entries-in-Ok.ensures in
     let writer = c.add_entries.new.writer in
@@ -61,7 +61,7 @@ seal-requires-clause-end g c =
 pub returns-in_ok-add_entries-in-Ok-clause-written : goal.returns-in_ok-add_entries-in-Ok-clause-written
 returns-in_ok-add_entries-in-Ok-clause-written g c =
     let d = g.D.Disk.disk in
-    let payloads = map spelling c.args.entries.now in
+    let payloads = map spelling c.args.host.now.history in
     let begun = c.in-Ok in
     let added = c.in_ok-add_entries-in-Ok.ensures in
     let writer = c.add_entries.new.writer in
@@ -74,7 +74,7 @@ returns-in_ok-add_entries-in-Ok-clause-written g c =
 pub returns-in_ok-add_entries-in-Ok-clause-in_part : goal.returns-in_ok-add_entries-in-Ok-clause-in_part
 returns-in_ok-add_entries-in-Ok-clause-in_part g c =
     let d = g.D.Disk.disk in
-    let payloads = map spelling c.args.entries.now in
+    let payloads = map spelling c.args.host.now.history in
     let begun = c.in-Ok in
     let added = c.in_ok-add_entries-in-Ok.ensures in
     let writer = c.add_entries.new.writer in
@@ -87,7 +87,7 @@ returns-in_ok-add_entries-in-Ok-clause-in_part g c =
 pub returns-in-Err-clause-in_part : goal.returns-in-Err-clause-in_part
 returns-in-Err-clause-in_part g c =
     let d = g.D.Disk.disk in
-    let payloads = map spelling c.args.entries.now in
+    let payloads = map spelling c.args.host.now.history in
     let is = c.in-Err.is ∙ c.to-in-Err-2.given.1 in
     let refused = c.to-in-Err-2.given.0.0 in
     let back = at_err _ c.begin.result refused is c.begin.ensures.handed_back in

@@ -7,7 +7,7 @@ pub returns-in_err-entry : goal.returns-in_err-entry
 returns-in_err-entry c =
     c.from_residual.ensures
     ∙ sym (bid_of-none c.args.entries.now.list c.args.submitter.now c.args.auction.now c.args.number c.requires
-    (sym c.find_kept.ensures ∙ c.in_err-entry.was))
+    (sym c.find.ensures ∙ c.in_err-entry.was))
 
 pub returns : goal.returns
 returns c =

@@ -3,7 +3,7 @@ use Rattle.std.proofs.Common.{rules, ◌≡◌, ◌∙◌, sym, w64, to_z, of_z}
 use Rattle.std.specs.List.{filter}
 use Rattle.tb_history.specs.declared.bids.Report.{Report}
 use Rattle.tb_history.specs.Entries.{is_same}
-use Rattle.tb_tables.proofs.KeyLemmas.{and-swap}
+use Rattle.tb_entries.proofs.CallerLemmas.{and-swap}
 use Rattle.tb_tables.proofs.ReportLemmas.{position_of-last}
 use Rattle.tb_tables.proofs.bidding.position_of.Goals as goal
 

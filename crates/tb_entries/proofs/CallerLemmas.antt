@@ -1,4 +1,4 @@
--- What is told of a bidder's rows, whichever of the bidder and the auction is asked first.
+-- What crates above need too.
 use Rattle.std.proofs.Common.{◌≡◌, ◌&&◌, Bool, true, false, refl}
 
 -- both hold, whichever is asked first

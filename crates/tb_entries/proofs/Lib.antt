@@ -1,0 +1,4 @@
+pub mod CallerLemmas
+pub mod NumberLemmas
+pub mod RowLemmas
+pub mod BidLemmas
