@@ -592,7 +592,8 @@ closing-told : (h : List Entry) (e : Entry) (old new : Money) (closer : List ℕ
     → offered_by e.submitter e.number e.message ≡ []
     → offer_of (offers h) closer number ≡ Some o
     → state_of (h ++ e ∷ []) o ≡ s
-    → ((x : Offer) → (is_same closer x.seller && (number == x.number)) ≡ false → state_of (h ++ e ∷ []) x ≡ state_of h x)
+    → ((x : Offer) → (is_same closer x.seller && (number == x.number)) ≡ false
+    → state_of (h ++ e ∷ []) x ≡ state_of h x)
     → Puts (kept_as (offered (kept_in h o)) s) old.offers new.offers
     → (seller : List ℕ) (n : ℕ)
     → offer_in (holder_in h seller) n new
@@ -621,7 +622,8 @@ closing-told h e old new closer number o s next nothing found closes others puts
     next.told.offers seller n
     ∙ sym (found-stays h e seller n (offer_of (offers h) seller n) next.legal refl
     (λ x is.
-    let theirs = and_parts (is_same x.seller seller) (x.number == n) (find_passes (is_offer seller n) (offers h) x is) in
+    let theirs =
+    and_parts (is_same x.seller seller) (x.number == n) (find_passes (is_offer seller n) (offers h) x is) in
     others x
     (sym (ap (λ (name : List ℕ). is_same name x.seller && (number == x.number)) its_seller)
     ∙ (sym (ap (λ (m : ℕ). is_same o.seller x.seller && (m == x.number)) its_number)
@@ -717,7 +719,8 @@ tells-purchase h e old new name number o next is found unclosed moves puts close
   where
     -- the offer is bought
     now_bought : is_bought (purchases (h ++ e ∷ [])) o.seller o.number
-        ≡ (is_bought (purchases h) o.seller o.number || is_bought (purchased_by e.submitter e.message) o.seller o.number)
+        ≡ (is_bought (purchases h) o.seller o.number || is_bought (purchased_by e.submitter e.message) o.seller
+        o.number)
         → (is_same name o.seller && (number == o.number)) ≡ true
         → state_of (h ++ e ∷ []) o ≡ state.Bought
     now_bought push mine =

@@ -72,8 +72,8 @@ pub fn results_reading(
     results(alloc, terms, book, &positions, add_on)
 }
 
-/// The awards of the caller's bidders in the auction of these terms, by the book of its live bids, and of the add-on that
-/// the caller holds.
+/// The awards of the caller's bidders in the auction of these terms, by the book of its live bids, and of the add-on
+/// that the caller holds.
 pub fn awards_reading(
     alloc: Global,
     tables: &Tables,

@@ -41,12 +41,14 @@ FindsIn version gate before now = (payloads : List (List ℕ)) × StandsIn (form
 
 module _ (version : Version) where
   -- the payloads of a file are payloads
-  stands_sizes : (payloads : List (List ℕ)) (file : List ℕ) → StandsIn (form_of version) payloads file → ArePayloads payloads
+  stands_sizes : (payloads : List (List ℕ)) (file : List ℕ) → StandsIn (form_of version) payloads file
+      → ArePayloads payloads
   stands_sizes payloads file (inl short) = subst ArePayloads (sym short.1) tt
   stands_sizes payloads file (inr long) = long.1.sizes
 
   -- a payload isn't empty, and so is no group that has it
-  group_of : (group : List Entry) (payload : List ℕ) → IsPayload payload → payload ≡ spellings_in version group → IsGroup group
+  group_of : (group : List Entry) (payload : List ℕ) → IsPayload payload → payload ≡ spellings_in version group
+      → IsGroup group
   group_of [] payload is same = absurd (omega (arith, is.some, ap length same))
   group_of (entry ∷ entries) payload is same = omega arith
 
@@ -62,7 +64,8 @@ module _ (version : Version) where
       ∙ sym (append_assoc (joined (take index groups)) group (joined behind)))
 
   -- a payload that no group can have isn't among those of a legal history
-  clash : (payloads : List (List ℕ)) (place : ℕ) (bad : IsBadPayloadIn version payloads place) (groups : List (List Entry))
+  clash : (payloads : List (List ℕ)) (place : ℕ) (bad : IsBadPayloadIn version payloads place)
+      (groups : List (List Entry))
       (count : ℕ)
       → ArePayloads payloads
       → IsLegal (joined groups)
@@ -88,7 +91,8 @@ module _ (version : Version) where
       (IsLegal-front group (joined (take index groups)) follows) same_payloads in
       let payload : get_or payloads index [] ≡ spellings_in version group =
       sym (get_or-take count payloads index [] before)
-      ∙ (ap (λ (ps : List (List ℕ)). get_or ps index []) (sym read) ∙ get_or-map (spellings_in version) groups index [] [] long) in
+      ∙ (ap (λ (ps : List (List ℕ)). get_or ps index []) (sym read)
+      ∙ get_or-map (spellings_in version) groups index [] [] long) in
       let some : IsGroup group = group_of group (get_or payloads index []) (payload_at payloads index sizes bad.within)
       payload in
       bad.bad group some payload
@@ -101,8 +105,8 @@ module _ (version : Version) where
     | inl same ↦ bad.at
         ∙ (ap (λ (ps : List (List ℕ)). length (front_in (form_of version) ps))
         (bad.before ∙ (ap (λ (n : ℕ). take n payloads) same ∙ sym also.before)) ∙ sym also.at)
-    | inr (inl less) ↦ absurd (clash payloads place bad also.groups (length also.groups) sizes also.legal also.before less
-        (omega (arith, also.within)))
+    | inr (inl less) ↦ absurd (clash payloads place bad also.groups (length also.groups) sizes also.legal also.before
+        less (omega (arith, also.within)))
     | inr (inr more) ↦ absurd (clash payloads other also bad.groups (length bad.groups) sizes bad.legal bad.before more
         (omega (arith, bad.within)))
   ]
@@ -145,7 +149,8 @@ module _ (version : Version) where
       absurd (unsealed_foreign (form_of version) file byte found also is)
   one_answer file (Err (fault.NotAJournal found)) (Err (fault.Damaged place)) is (inl frame) speaks here =
       absurd (IsDamagedIn-journal (form_of version) file found place frame is)
-  one_answer file (Err (fault.NotAJournal found)) (Err (fault.Damaged place)) is (inr (payloads, stands, bad)) speaks here =
+  one_answer file (Err (fault.NotAJournal found)) (Err (fault.Damaged place)) is (inr (payloads, stands, bad)) speaks
+      here =
       absurd (StandsIn-journal (form_of version) payloads file found stands is)
   one_answer file (Err (fault.Unsealed byte)) (Ok others) is also speaks here =
       absurd (unsealed_stands (form_of version) file byte (payloads_in version also.0.groups) is also.0.stands)
@@ -165,23 +170,26 @@ module _ (version : Version) where
       absurd (unsealed_damaged (form_of version) file byte place also frame)
   one_answer file (Err (fault.Damaged place)) (Err (fault.Damaged other)) (inl frame) (inl also) speaks here =
       ap (λ (at : ℕ). Err (fault.Damaged at)) (IsDamagedIn-one (form_of version) file place other frame also)
-  one_answer file (Err (fault.Damaged place)) (Err (fault.Damaged other)) (inl frame) (inr (payloads, stands, bad)) speaks
-      here =
+  one_answer file (Err (fault.Damaged place)) (Err (fault.Damaged other)) (inl frame) (inr (payloads, stands, bad))
+      speaks here =
       absurd (StandsIn-whole (form_of version) payloads file place stands frame)
   one_answer file (Err (fault.Damaged place)) (Ok others) (inr (payloads, stands, bad)) also speaks here =
       absurd (found_bad file others payloads place also.0 also.1 stands bad)
-  one_answer file (Err (fault.Damaged place)) (Err (fault.NotAJournal found)) (inr (payloads, stands, bad)) also speaks here =
-      absurd (StandsIn-journal (form_of version) payloads file found stands also)
-  one_answer file (Err (fault.Damaged place)) (Err (fault.Unsealed byte)) (inr (payloads, stands, bad)) also speaks here =
-      absurd (unsealed_stands (form_of version) file byte payloads also stands)
-  one_answer file (Err (fault.Damaged place)) (Err (fault.Damaged other)) (inr (payloads, stands, bad)) (inl frame) speaks
+  one_answer file (Err (fault.Damaged place)) (Err (fault.NotAJournal found)) (inr (payloads, stands, bad)) also speaks
       here =
+      absurd (StandsIn-journal (form_of version) payloads file found stands also)
+  one_answer file (Err (fault.Damaged place)) (Err (fault.Unsealed byte)) (inr (payloads, stands, bad)) also speaks
+      here =
+      absurd (unsealed_stands (form_of version) file byte payloads also stands)
+  one_answer file (Err (fault.Damaged place)) (Err (fault.Damaged other)) (inr (payloads, stands, bad)) (inl frame)
+      speaks here =
       absurd (StandsIn-whole (form_of version) payloads file other stands frame)
   one_answer file (Err (fault.Damaged place)) (Err (fault.Damaged other)) (inr (payloads, stands, bad))
       (inr (others, standing, also)) speaks here =
       ap (λ (at : ℕ). Err (fault.Damaged at))
       (bad_one payloads place other (stands_sizes payloads file stands) bad
-      (subst (λ (ps : List (List ℕ)). IsBadPayloadIn version ps other) (StandsIn-one (form_of version) others payloads file standing stands)
+      (subst (λ (ps : List (List ℕ)). IsBadPayloadIn version ps other)
+      (StandsIn-one (form_of version) others payloads file standing stands)
       also))
 
   -- a true answer is the only one
@@ -192,7 +200,8 @@ module _ (version : Version) where
   }
 
   -- what is true of the journal is true of the desk
-  lifted_true : (file : List ℕ) (why : JournalFault) → IsTrueInJournal (form_of version) file (Err why) → IsTrueIn version file (Err (lifted why))
+  lifted_true : (file : List ℕ) (why : JournalFault) → IsTrueInJournal (form_of version) file (Err why)
+      → IsTrueIn version file (Err (lifted why))
   lifted_true file journal.DiskFault is = tt
   lifted_true file (journal.NotAJournal found) is = is
   lifted_true file (journal.Unsealed byte) is = is
@@ -204,17 +213,20 @@ module _ (version : Version) where
       → IfSome past (λ p. IsExactInJournal (form_of version) (contents_of p) (Err why))
       → IfSome past (λ p. IsExactIn version (contents_of p) (Err (lifted why)))
   lifted_exact_in past why exact =
-      known_of (λ p. IsExactInJournal (form_of version) (contents_of p) (Err why)) (λ p. IsExactIn version (contents_of p) (Err (lifted why))) past
+      known_of (λ p. IsExactInJournal (form_of version) (contents_of p) (Err why))
+      (λ p. IsExactIn version (contents_of p) (Err (lifted why))) past
       (λ p is. IsExact-true (contents_of p) (Err (lifted why)) (lifted_true (contents_of p) why is.is_true)) exact
 
   -- the history that was found is what the file stood for
   pub found_stands_in : (gate : ℕ) (history : List Entry) (old disk : DiskState) → Told old disk (FindsIn version gate)
-      → IsReplayedIn version disk gate history → IfSome old.past (λ past. StandsForHistoryIn version history (contents_of past))
+      → IsReplayedIn version disk gate history
+      → IfSome old.past (λ past. StandsForHistoryIn version history (contents_of past))
   found_stands_in gate history old disk finds replayed =
       told_before (λ before now. StandsForHistoryIn version history (contents_of before))
       (λ past. StandsForHistoryIn version history (contents_of past))
       old disk (λ before now stands. stands)
-      (told_known (FindsIn version gate) (λ past. (payloads : List (List ℕ)) → ReadsTo (form_of version) payloads gate (contents_of past)
+      (told_known (FindsIn version gate) (λ past. (payloads : List (List ℕ))
+      → ReadsTo (form_of version) payloads gate (contents_of past)
       → payloads_in version replayed.groups ≡ payloads)
       (λ before now. StandsForHistoryIn version history (contents_of before)) old disk
       (λ before now found known. record {
@@ -226,9 +238,11 @@ module _ (version : Version) where
 
   -- it is exact
   pub found_exact_in : (gate : ℕ) (history : List Entry) (old disk : DiskState) → Told old disk (FindsIn version gate)
-      → IsReplayedIn version disk gate history → IfSome old.past (λ past. IsExactIn version (contents_of past) (Ok history))
+      → IsReplayedIn version disk gate history
+      → IfSome old.past (λ past. IsExactIn version (contents_of past) (Ok history))
   found_exact_in gate history old disk finds replayed =
-      known_of (λ past. StandsForHistoryIn version history (contents_of past)) (λ past. IsExactIn version (contents_of past) (Ok history))
+      known_of (λ past. StandsForHistoryIn version history (contents_of past))
+      (λ past. IsExactIn version (contents_of past) (Ok history))
       old.past
       (λ past stands. IsExact-true (contents_of past) (Ok history) (stands, replayed.legal))
       (found_stands_in gate history old disk finds replayed)
@@ -238,24 +252,26 @@ module _ (version : Version) where
       → IsReplayFaultIn version disk gate why
       → Told old disk (λ before now. IsTrueIn version (contents_of before) (Err why))
   replay_true gate (fault.Damaged place) old disk finds bad =
-      told_known (FindsIn version gate) (λ past. (payloads : List (List ℕ)) → ReadsTo (form_of version) payloads gate (contents_of past)
+      told_known (FindsIn version gate) (λ past. (payloads : List (List ℕ))
+      → ReadsTo (form_of version) payloads gate (contents_of past)
       → IsBadPayloadIn version payloads place)
       (λ before now. IsTrueIn version (contents_of before) (Err (fault.Damaged place))) old disk
       (λ before now found known. inr (found.0, found.1, known found.0 found.2)) finds bad
   replay_true gate (fault.NotAJournal found) old disk finds bad = absurd bad
   replay_true gate (fault.Unsealed byte) old disk finds bad = absurd bad
   replay_true gate fault.DiskFault old disk finds bad =
-      Told-weaker (FindsIn version gate) (λ before now. IsTrueIn version (contents_of before) (Err fault.DiskFault)) old disk
-      (λ before now found. tt) finds
+      Told-weaker (FindsIn version gate) (λ before now. IsTrueIn version (contents_of before) (Err fault.DiskFault))
+      old disk (λ before now found. tt) finds
   replay_true gate fault.OutOfMemory old disk finds bad =
-      Told-weaker (FindsIn version gate) (λ before now. IsTrueIn version (contents_of before) (Err fault.OutOfMemory)) old disk
-      (λ before now found. tt) finds
+      Told-weaker (FindsIn version gate) (λ before now. IsTrueIn version (contents_of before) (Err fault.OutOfMemory))
+      old disk (λ before now found. tt) finds
 
   -- it is exact
   pub replay_exact_in : (gate : ℕ) (why : OpenFault) (old disk : DiskState) → Told old disk (FindsIn version gate)
       → IsReplayFaultIn version disk gate why → IfSome old.past (λ past. IsExactIn version (contents_of past) (Err why))
   replay_exact_in gate why old disk finds bad =
-      told_before (λ before now. IsTrueIn version (contents_of before) (Err why)) (λ past. IsExactIn version (contents_of past) (Err why))
+      told_before (λ before now. IsTrueIn version (contents_of before) (Err why))
+      (λ past. IsExactIn version (contents_of past) (Err why))
       old disk
       (λ before now is. IsExact-true (contents_of before) (Err why) is) (replay_true gate why old disk finds bad)
 
@@ -278,7 +294,8 @@ pub lifted_exact : (past : Option Past) (why : JournalFault)
 lifted_exact past why exact = lifted_exact_in versions.Second past why exact
 
 -- what an opening of the second version finds
-finds_second : (gate : ℕ) (old disk : DiskState) → Told old disk (Finds gate) → Told old disk (FindsIn versions.Second gate)
+finds_second : (gate : ℕ) (old disk : DiskState) → Told old disk (Finds gate)
+    → Told old disk (FindsIn versions.Second gate)
 finds_second gate old disk = Told-weaker (Finds gate) (FindsIn versions.Second gate) old disk
     (λ before now found. (found.0, found.1, holds_reads found.0 gate now found.2))
 
@@ -317,7 +334,8 @@ replay_leaves gate (fault.Damaged place) old disk finds opens bad =
     (told_known (Finds gate) (λ past. (payloads : List (List ℕ)) → ReadsTo Second payloads gate (contents_of past)
     → IsBadPayload payloads place)
     (λ before now. 18 < length (contents_of before)) old disk
-    (λ before now found known. long_file found.0 (contents_of before) place found.1 (known found.0 (holds_reads found.0 gate now found.2))) finds bad)
+    (λ before now found known. long_file found.0 (contents_of before) place found.1
+    (known found.0 (holds_reads found.0 gate now found.2))) finds bad)
 replay_leaves gate (fault.NotAJournal found) old disk finds opens bad = absurd bad
 replay_leaves gate (fault.Unsealed byte) old disk finds opens bad = absurd bad
 replay_leaves gate fault.DiskFault old disk finds opens bad = breaks_opened old disk opens

@@ -91,7 +91,8 @@ pub keeps_rewritten : (history : List Entry) (old new : DiskState) → Told old 
 keeps_rewritten history old new = told_after (Rewrites (map spelling history)) (Keeps history) old new
     (λ before now rewrites. keeps_sealed history now rewrites.0)
 
-module _ (first : Option Past) (history : List Entry) (stood : IfSome first (λ past. StoodFor history (contents_of past)))
+module _ (first : Option Past) (history : List Entry)
+    (stood : IfSome first (λ past. StoodFor history (contents_of past)))
   where
     -- what is old, blank or the payloads is old, blank or the history
     migrated_file : (old file : List ℕ) → IsOldBlankOr old (map spelling history) file
@@ -102,7 +103,8 @@ module _ (first : Option Past) (history : List Entry) (stood : IfSome first (λ 
 
     migrated_leaves : (old : List ℕ) (from now : Past) → Leaves (IsOldBlankOr old (map spelling history)) from now
         → Leaves (IsOldBlankOrMigrated first old) from now
-    migrated_leaves old from now = Leaves-weaker (IsOldBlankOr old (map spelling history)) (IsOldBlankOrMigrated first old)
+    migrated_leaves old from now =
+        Leaves-weaker (IsOldBlankOr old (map spelling history)) (IsOldBlankOrMigrated first old)
         from now (migrated_file old)
 
     -- a whole journal was written

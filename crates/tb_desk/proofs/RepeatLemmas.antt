@@ -63,7 +63,8 @@ record IsRepeatOf (found : Option Entry) (message : Message) (m : Moment) : Type
   pub same : same_message entry.message message ≡ true
   pub moment : m ≡ entry.moment
 
-repeat_of : (found : Option Entry) (message : Message) (rest : List (Verdict × Bool)) (last : Verdict) (n : ℕ) (m : Moment)
+repeat_of : (found : Option Entry) (message : Message) (rest : List (Verdict × Bool)) (last : Verdict) (n : ℕ)
+    (m : Moment)
     → (first_of rest last ≡ verdict.Repeat n m → ⊥)
     → first_of (number_rows found message ++ rest) last ≡ verdict.Repeat n m
     → IsRepeatOf found message m

@@ -41,7 +41,8 @@ pub record IsReplayedTo (version : Version) (disk : DiskState) (gate place : ℕ
   pub sizes : All IsGroup groups
   pub at : place ≡ length (front_in (form_of version) (payloads_in version groups))
   pub legal : IsLegal history
-  pub told : IfSome disk.past (λ past. (payloads : List (List ℕ)) → ReadsTo (form_of version) payloads gate (contents_of past)
+  pub told : IfSome disk.past (λ past. (payloads : List (List ℕ))
+      → ReadsTo (form_of version) payloads gate (contents_of past)
       → (payloads_in version groups ≡ take (length groups) payloads) × (length groups ≤ length payloads))
 
 -- a journal that holds payloads reads to its gate
@@ -67,7 +68,8 @@ module _ (version : Version) where
         (spelling_in-sizes version entry (All-head IsInRange entry entries in_range)).0,
       ))
   spellings-split (entry ∷ entries) (other ∷ others) rest in_range also same =
-      let begins = spelling_in-begins version entry other (spellings_in version entries ++ rest) (spellings_in version others)
+      let begins =
+      spelling_in-begins version entry other (spellings_in version entries ++ rest) (spellings_in version others)
       (All-head IsInRange entry entries in_range) (All-head IsInRange other others also)
       (sym (append_assoc (spelling_in version entry) (spellings_in version entries) rest) ∙ same) in
       let more = spellings-split entries others rest (All-tail IsInRange entry entries in_range)
@@ -92,10 +94,12 @@ module _ (version : Version) where
   -- the entries of the group are in range
   in_range-group : (old now : List Entry) (group : List Entry) → now ≡ old ++ group → IsLegal now → All IsInRange group
   in_range-group old now group is legal =
-      All-append_right old group (subst (λ (entries : List Entry). All IsInRange entries) is (IsLegal-in_range now legal))
+      All-append_right old group (subst (λ (entries : List Entry). All IsInRange entries) is
+      (IsLegal-in_range now legal))
 
   -- what a group of the payload has behind the entries that were entered
-  goes_on : (old now : List Entry) (payload rest : List ℕ) (entered : IsEntered version old now payload rest) (other : List Entry)
+  goes_on : (old now : List Entry) (payload rest : List ℕ) (entered : IsEntered version old now payload rest)
+      (other : List Entry)
       → payload ≡ spellings_in version other → IsLegal (old ++ other)
       → (more : List Entry) × (other ≡ entered.group ++ more) × (rest ≡ spellings_in version more)
   goes_on old now payload rest entered other is legal =
@@ -125,13 +129,15 @@ module _ (version : Version) where
           (spellings_in version more) left
 
   -- the next record's entry can't follow: the payload is no group
-  pub bad_next : (old now : List Entry) (payload rest : List ℕ) (entered : IsEntered version old now payload rest) (entry : Entry)
+  pub bad_next : (old now : List Entry) (payload rest : List ℕ) (entered : IsEntered version old now payload rest)
+      (entry : Entry)
       (size : ℕ) → IsTakenIn version rest entry size → ¬ (Follows now entry) → IsNoGroupIn version old payload
   bad_next old now payload rest entered entry size taken not_next = λ other some is legal.
       (let more = goes_on old now payload rest entered other is legal in
       at_next more.0 more.1 more.2 legal)
     where
-      at_next : (more : List Entry) {other : List Entry} → other ≡ entered.group ++ more → rest ≡ spellings_in version more
+      at_next : (more : List Entry) {other : List Entry} → other ≡ entered.group ++ more
+          → rest ≡ spellings_in version more
           → IsLegal (old ++ other) → ⊥
       at_next [] whole left legal =
           omega (
@@ -146,13 +152,15 @@ module _ (version : Version) where
           let behind : IsLegal ((old ++ entered.group) ++ next ∷ more) =
           subst IsLegal (sym (append_assoc old entered.group (next ∷ more))) grown in
           let follows : Follows (old ++ entered.group) next = IsLegal-follows more (old ++ entered.group) next behind in
-          let same = (spelling_in-begins version entry next (drop size rest) (spellings_in version more) taken.in_range follows.in_range
-          (sym taken.begins ∙ left)).0 in
+          let same =
+          (spelling_in-begins version entry next (drop size rest) (spellings_in version more) taken.in_range
+          follows.in_range (sym taken.begins ∙ left)).0 in
           not_next (subst (λ (history : List Entry). Follows history entry) (sym entered.history)
           (subst (λ (e : Entry). Follows (old ++ entered.group) e) (sym same) follows))
 
   -- one entry more
-  pub entered_more : (old now after : List Entry) (payload rest : List ℕ) (entered : IsEntered version old now payload rest)
+  pub entered_more : (old now after : List Entry) (payload rest : List ℕ)
+      (entered : IsEntered version old now payload rest)
       (entry : Entry)
       (size : ℕ) → IsTakenIn version rest entry size → Follows now entry → after ≡ now ++ entry ∷ []
       → (payload ≡ spellings_in version (entered.group ++ entry ∷ []) ++ drop size rest)
@@ -160,18 +168,21 @@ module _ (version : Version) where
       × IsLegal after
   entered_more old now after payload rest entered entry size taken follows is =
       let group : List Entry = entered.group in
-      let spelled : spellings_in version (group ++ entry ∷ []) ≡ spellings_in version group ++ spelling_in version entry =
+      let spelled : spellings_in version (group ++ entry ∷ [])
+      ≡ spellings_in version group ++ spelling_in version entry =
       sym (flat_map_more (spelling_in version) [] group entry) in (
         entered.is
             ∙ (ap (λ (bytes : List ℕ). spellings_in version group ++ bytes) taken.begins
             ∙ (sym (append_assoc (spellings_in version group) (spelling_in version entry) (drop size rest))
             ∙ ap (λ (bytes : List ℕ). bytes ++ drop size rest) (sym spelled))),
-        is ∙ (ap (λ (history : List Entry). history ++ entry ∷ []) entered.history ∙ append_assoc old group (entry ∷ [])),
+        is ∙ (ap (λ (history : List Entry). history ++ entry ∷ []) entered.history
+            ∙ append_assoc old group (entry ∷ [])),
         subst IsLegal (sym is) (Longer now entry entered.legal follows),
       )
 
   -- and bytes are left
-  pub entered_on : (old now after : List Entry) (payload rest : List ℕ) (entered : IsEntered version old now payload rest)
+  pub entered_on : (old now after : List Entry) (payload rest : List ℕ)
+      (entered : IsEntered version old now payload rest)
       (entry : Entry)
       (size : ℕ) → IsTakenIn version rest entry size → Follows now entry → after ≡ now ++ entry ∷ []
       → 1 ≤ length (drop size rest) → IsEntered version old after payload (drop size rest)
@@ -186,7 +197,8 @@ module _ (version : Version) where
       }
 
   -- or the payload is whole
-  pub entered_all : (old now after : List Entry) (payload rest : List ℕ) (entered : IsEntered version old now payload rest)
+  pub entered_all : (old now after : List Entry) (payload rest : List ℕ)
+      (entered : IsEntered version old now payload rest)
       (entry : Entry)
       (size : ℕ) → IsTakenIn version rest entry size → Follows now entry → after ≡ now ++ entry ∷ []
       → drop size rest ≡ []
@@ -196,7 +208,8 @@ module _ (version : Version) where
       let group : List Entry = entered.group ++ entry ∷ [] in (
         group,
         omega (arith, length_push entered.group entry),
-        more.0 ∙ (ap (λ (bytes : List ℕ). spellings_in version group ++ bytes) none ∙ append-nil (spellings_in version group)),
+        more.0 ∙ (ap (λ (bytes : List ℕ). spellings_in version group ++ bytes) none
+            ∙ append-nil (spellings_in version group)),
         more.1,
       )
 
@@ -212,7 +225,8 @@ module _ (version : Version) where
     told = always disk.past;
   }
     where
-      always : (past : Option Past) → IfSome past (λ past. (payloads : List (List ℕ)) → ReadsTo (form_of version) payloads gate (contents_of past)
+      always : (past : Option Past)
+          → IfSome past (λ past. (payloads : List (List ℕ)) → ReadsTo (form_of version) payloads gate (contents_of past)
           → ([] ≡ take 0 payloads) × (0 ≤ length payloads))
       always None = tt
       always (Some past) = λ payloads holds. (refl, omega arith)
@@ -222,7 +236,8 @@ module _ (version : Version) where
       (gives : IfSome disk.past (GivesFrameIn (form_of version) gate place payload next)) where
     -- what the frame says of the payloads
     given : (past : Past) (payloads : List (List ℕ)) → ReadsTo (form_of version) payloads gate (contents_of past)
-        → (payloads_in version so_far.groups ≡ take (length so_far.groups) payloads) × (length so_far.groups ≤ length payloads)
+        → (payloads_in version so_far.groups ≡ take (length so_far.groups) payloads)
+        × (length so_far.groups ≤ length payloads)
         → GivesFrameIn (form_of version) gate place payload next past
         → (length so_far.groups < length payloads)
         × (payload ≡ get_or payloads (length so_far.groups) [])
@@ -259,8 +274,8 @@ module _ (version : Version) where
               × (length so_far.groups ≤ length payloads))
               (GivesFrameIn (form_of version) gate place payload next)
               (λ past. (payloads : List (List ℕ)) → ReadsTo (form_of version) payloads gate (contents_of past)
-              → (payloads_in version groups ≡ take (length groups) payloads) × (length groups ≤ length payloads)) disk.past
-              (λ past known frame payloads holds.
+              → (payloads_in version groups ≡ take (length groups) payloads) × (length groups ≤ length payloads))
+              disk.past (λ past known frame payloads holds.
               (let found = given past payloads holds (known payloads holds) frame in
               let count : ℕ = length so_far.groups in
               let one_more : length groups ≡ count + 1 = length_push so_far.groups group in (
@@ -275,13 +290,16 @@ module _ (version : Version) where
 
     -- the payload here is no group that can follow
     pub replayed_bad : IsNoGroupIn version history payload
-        → IfSome disk.past (λ past. (payloads : List (List ℕ)) → ReadsTo (form_of version) payloads gate (contents_of past) → IsBadPayloadIn version payloads place)
+        → IfSome disk.past (λ past. (payloads : List (List ℕ))
+        → ReadsTo (form_of version) payloads gate (contents_of past) → IsBadPayloadIn version payloads place)
     replayed_bad bad =
         known_both
         (λ past. (payloads : List (List ℕ)) → ReadsTo (form_of version) payloads gate (contents_of past)
-        → (payloads_in version so_far.groups ≡ take (length so_far.groups) payloads) × (length so_far.groups ≤ length payloads))
+        → (payloads_in version so_far.groups ≡ take (length so_far.groups) payloads)
+        × (length so_far.groups ≤ length payloads))
         (GivesFrameIn (form_of version) gate place payload next)
-        (λ past. (payloads : List (List ℕ)) → ReadsTo (form_of version) payloads gate (contents_of past) → IsBadPayloadIn version payloads place) disk.past
+        (λ past. (payloads : List (List ℕ)) → ReadsTo (form_of version) payloads gate (contents_of past)
+        → IsBadPayloadIn version payloads place) disk.past
         (λ past known frame payloads holds.
         (let found = given past payloads holds (known payloads holds) frame in
         record {
@@ -289,14 +307,16 @@ module _ (version : Version) where
           legal = subst IsLegal (sym so_far.whole) so_far.legal;
           within = found.0;
           before = (known payloads holds).0;
-          bad = subst (λ (entries : List Entry). IsNoGroupIn version entries (get_or payloads (length so_far.groups) []))
+          bad =
+              subst (λ (entries : List Entry). IsNoGroupIn version entries (get_or payloads (length so_far.groups) []))
               (sym so_far.whole)
               (subst (λ (one : List ℕ). IsNoGroupIn version history one) found.1 bad);
           at = so_far.at;
         })) so_far.told gives
 
   -- the gate is reached: the groups are all payloads
-  pub replayed_all : (disk : DiskState) (gate place : ℕ) (history : List Entry) → IsReplayedTo version disk gate place history
+  pub replayed_all : (disk : DiskState) (gate place : ℕ) (history : List Entry)
+      → IsReplayedTo version disk gate place history
       → place ≡ gate → IsReplayedIn version disk gate history
   replayed_all disk gate place history so_far end_ = record {
     groups = so_far.groups;
@@ -306,8 +326,10 @@ module _ (version : Version) where
     legal = so_far.legal;
     told = known_of
         (λ past. (payloads : List (List ℕ)) → ReadsTo (form_of version) payloads gate (contents_of past)
-        → (payloads_in version so_far.groups ≡ take (length so_far.groups) payloads) × (length so_far.groups ≤ length payloads))
-        (λ past. (payloads : List (List ℕ)) → ReadsTo (form_of version) payloads gate (contents_of past) → payloads_in version so_far.groups ≡ payloads) disk.past
+        → (payloads_in version so_far.groups ≡ take (length so_far.groups) payloads)
+        × (length so_far.groups ≤ length payloads))
+        (λ past. (payloads : List (List ℕ)) → ReadsTo (form_of version) payloads gate (contents_of past)
+        → payloads_in version so_far.groups ≡ payloads) disk.past
         (λ past known payloads holds.
         (let count : ℕ = length so_far.groups in
         let same = (known payloads holds).0 in

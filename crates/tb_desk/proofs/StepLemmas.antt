@@ -126,7 +126,8 @@ module _ (old new : DiskState) (gate : ℕ) (next : Option ℕ) (history doubt :
         next_place = refl;
         legal = stands.accepted;
         accepted = subst IsLegal (sym (append-nil (history ++ doubt))) stands.accepted;
-        told = told_now (Settles gate (gate + 13 + length (spellings doubt)) (gate + 13 + length (spellings doubt)) true)
+        told =
+            told_now (Settles gate (gate + 13 + length (spellings doubt)) (gate + 13 + length (spellings doubt)) true)
             (InDoubt (payloads_of stands.groups) (spellings doubt) gate (gate + 13 + length (spellings doubt)))
             (Holds (payloads_of groups) (gate + 13 + length (spellings doubt))) old new
             (λ before now follows known.

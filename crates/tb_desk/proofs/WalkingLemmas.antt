@@ -93,7 +93,8 @@ pub GivesGroup-frame : (history : List Entry) (gate place next before : ℕ) (pa
 GivesGroup-frame history gate place next before payload past legal gives behind =
     let groups : List (List Entry) = behind.groups in
     let count : ℕ = behind.count in
-    let found = gives (payloads_of groups) count behind.reads (omega (arith, behind.within, length-map groups spellings))
+    let found =
+    gives (payloads_of groups) count behind.reads (omega (arith, behind.within, length-map groups spellings))
     (ap (λ (list : List (List ℕ)). length (front list)) (take-map spellings count groups) ∙ behind.is) in
     let within : count < length groups = omega (arith, found.0, length-map groups spellings) in
     let group : List Entry = get_or groups count [] in

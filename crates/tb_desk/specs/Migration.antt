@@ -32,8 +32,8 @@ LeavesMigrated first before now =
 abbrev pub Keeps : List Entry → Past → Type 0
 Keeps history past = (image : List ℕ) → MayLeave past image → StandsForHistory history image
 
--- The first disk stood for a legal history of so many entries, and no other answer is true of it. Each crash of the spare
--- leaves the history.
+-- The first disk stood for a legal history of so many entries, and no other answer is true of it. Each crash of the
+-- spare leaves the history.
 pub record Migrated (first spare : Option Past) (count : ℕ) : Type 0 where
   pub history : List Entry
   pub size : length history ≡ count

@@ -79,8 +79,8 @@ IsTrueOf file answer = IsTrueIn Second file answer
 abbrev pub IsExact : List ℕ → Answer → Type 0
 IsExact file answer = IsExactIn Second file answer
 
--- A file that is no journal, unsealed or damaged, was put on the disk and nothing else. Where the disk failed or memory ran out
--- no more was done to it than an opening does.
+-- A file that is no journal, unsealed or damaged, was put on the disk and nothing else. Where the disk failed or memory
+-- ran out no more was done to it than an opening does.
 abbrev pub LeavesRefused : OpenFault → Past → Past → Type 0
 LeavesRefused (fault.NotAJournal found) before now = now ≡ Then Synced before
 LeavesRefused (fault.Unsealed byte) before now = now ≡ Then Synced before

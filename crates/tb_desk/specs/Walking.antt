@@ -21,10 +21,11 @@ pub record IsBehind (history : List Entry) (gate place before : ℕ) (past : Pas
   pub entries : length (joined (take count groups)) ≡ before
 
 -- The payload is the group that follows on so many entries of the history, and the next place is behind it.
-pub record GivesGroup (history : List Entry) (gate before : ℕ) (payload : List ℕ) (next : ℕ) (past : Past) : Type 0 where
-  pub group : List Entry
-  pub some : IsGroup group
-  pub in_range : All IsInRange group
-  pub is : payload ≡ spellings group
-  pub goes_on : take (before + length group) history ≡ take before history ++ group
-  pub behind : IsBehind history gate next (before + length group) past
+pub record GivesGroup (history : List Entry) (gate before : ℕ) (payload : List ℕ) (next : ℕ) (past : Past) : Type 0
+  where
+    pub group : List Entry
+    pub some : IsGroup group
+    pub in_range : All IsInRange group
+    pub is : payload ≡ spellings group
+    pub goes_on : take (before + length group) history ≡ take before history ++ group
+    pub behind : IsBehind history gate next (before + length group) past

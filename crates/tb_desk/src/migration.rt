@@ -71,7 +71,8 @@ fn write_anew<D: Disk>(to: &mut D, host: &Host) -> Result<(), DiskFault>
     requires sizes { All IsInRange host.now.history }
     requires end { length (front (map spelling host.now.history)) + 1 < 2 ^ 42 }
     ensures written { OnOk result (Told (D.disk to.old) (D.disk to.new) (Rewrites (map spelling host.now.history))) }
-    ensures in_part { OnErr result (Told (D.disk to.old) (D.disk to.new) (RewritesInPart (map spelling host.now.history))) }
+    ensures in_part { OnErr result (Told (D.disk to.old) (D.disk to.new)
+        (RewritesInPart (map spelling host.now.history))) }
     ensures fault { OnErr result (Rose (D.disk to.old).faults (D.disk to.new).faults) }
     ensures no_fault { OnOk result ((D.disk to.new).faults ≡ (D.disk to.old).faults) }
     ensures count { NeverFalls (D.disk to.old).faults (D.disk to.new).faults }
@@ -85,9 +86,9 @@ fn write_anew<D: Disk>(to: &mut D, host: &Host) -> Result<(), DiskFault>
     }
 }
 
-/// Writes the history of a journal of the first version anew on a spare, in the second, a frame for each entry, and tells
-/// how many there are. The first disk is opened and replayed whole before the spare is touched. Nothing is written on the
-/// first disk.
+/// Writes the history of a journal of the first version anew on a spare, in the second, a frame for each entry, and
+/// tells how many there are. The first disk is opened and replayed whole before the spare is touched. Nothing is
+/// written on the first disk.
 pub fn migrate<D: Disk>(alloc: Global, from: &mut D, to: &mut D) -> Result<u64, MigrateFault>
     // The first disk is synced, or nothing happens to it.
     ensures first_kept { Told (D.disk from.old) (D.disk from.new) SyncsOrNot }

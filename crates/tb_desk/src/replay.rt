@@ -139,7 +139,8 @@ pub fn replay<J: Frames>(alloc: Global, journal: &mut J) -> Result<Host, OpenFau
     requires sure { J.doubt journal.old ≡ None }
     requires first { StandsAtIn (form_of J.version) (J.disk journal.old) (J.gate journal.old)
         (first_place (form_of J.version)) }
-    ensures found { IfOk result (λ host. IsReplayedIn J.version (J.disk journal.old) (J.gate journal.old) host.history) }
+    ensures found { IfOk result
+        (λ host. IsReplayedIn J.version (J.disk journal.old) (J.gate journal.old) host.history) }
     ensures refused { IfErr result (IsReplayFaultIn J.version (J.disk journal.old) (J.gate journal.old)) }
     ensures kept { (J.disk journal.new).past ≡ (J.disk journal.old).past }
     ensures same { (J.gate journal.new ≡ J.gate journal.old) × (J.doubt journal.new ≡ J.doubt journal.old)

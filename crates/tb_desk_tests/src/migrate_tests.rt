@@ -138,8 +138,8 @@ fn is_blank(rt: &impl Abort, alloc: Global, file: &[u8]) -> Result<bool, Fail> {
     })
 }
 
-// This call on a spare fails, which holds a sealed journal. The first disk stays, and the spare is what it was, or blank, or
-// the whole journal.
+// This call on a spare fails, which holds a sealed journal. The first disk stays, and the spare is what it was, or
+// blank, or the whole journal.
 fn spare_fails(rt: &impl Abort, alloc: Global, call: u64) -> Result<bool, Fail> {
     let mut from = disk_of(rt, alloc, FIRST, Vec::new(alloc), 0)?;
     let mut to = disk_of(rt, alloc, SECOND_ONE, vec![in alloc; call]?, 1)?;

@@ -93,7 +93,8 @@ module _ (names more : List (List ℕ)) where
   rows-stay : (rows : List BidRow) → All (IsBidRow names) rows → All (IsBidRow (names ++ more)) rows
   rows-stay rows are place row within = IsBidRow-stays _ (are place row within)
 
-  bids-stay : (rows : List BidRow) → All (IsBidRow names) rows → map (bid_in (names ++ more)) rows ≡ map (bid_in names) rows
+  bids-stay : (rows : List BidRow) → All (IsBidRow names) rows
+      → map (bid_in (names ++ more)) rows ≡ map (bid_in names) rows
   bids-stay [] are = refl
   bids-stay (row ∷ rows) are = λ i.
       bid-stays row (All-head (IsBidRow names) row rows are) i

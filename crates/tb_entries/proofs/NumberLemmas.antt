@@ -37,7 +37,8 @@ pub stays : {X : Type 0} (p : X → Bool) (xs more : List X) (place : ℕ)
     → position p (xs ++ more) ≡ Some place
 stays p xs [] place placed = ap (position p) (append-nil xs) ∙ placed
 stays p xs (x ∷ more) place placed =
-    ap (position p) (sym (append_assoc xs (x ∷ []) more)) ∙ stays p (xs ++ x ∷ []) more place (position-stays p xs x place placed)
+    ap (position p) (sym (append_assoc xs (x ∷ []) more))
+    ∙ stays p (xs ++ x ∷ []) more place (position-stays p xs x place placed)
 
 -- a name keeps its number
 pub name-stays : (names more : List (List ℕ)) (number : ℕ)

@@ -93,7 +93,8 @@ found_is P p (y ∷ xs) x found all =
     ]
 
 -- after an entry was added the rows are rows, and their entries are those before and this one
-pub record Pushed (names now : List (List ℕ)) (others also : List Message) (rows longer : List Row) (entry : Entry) : Type 0
+pub record Pushed (names now : List (List ℕ)) (others also : List Message) (rows longer : List Row)
+    (entry : Entry) : Type 0
   where
     pub rows_are : All (IsRow now also) longer
     pub entries_are : map (entry_of now also) longer ≡ map (entry_of names others) rows ++ entry ∷ []

@@ -15,8 +15,8 @@ use tb_history::Bid;
 use tb_index::{Chained, Named};
 use tb_units::{Ident, OutOfMemory};
 
-/// The accepted bids in their order, counted by auction and bidder, and gone through by submitter and auction. Contracts
-/// see the list of them, and how many adds are sure.
+/// The accepted bids in their order, counted by auction and bidder, and gone through by submitter and auction.
+/// Contracts see the list of them, and how many adds are sure.
 #[derive(Drop)]
 pub struct Bids {
     names: Names,

@@ -7,8 +7,8 @@ use tb_units::Ident;
 pub(crate) struct ByName;
 
 /// By the number of a message and its submitter. The number comes first, since few submitters have the same, and a
-/// comparison ends there. Rows are found by its order, and not by its hash: senders choose the numbers, and the seed of the
-/// hash is fixed, so that they could choose such as collide.
+/// comparison ends there. Rows are found by its order, and not by its hash: senders choose the numbers, and the seed of
+/// the hash is fixed, so that they could choose such as collide.
 pub(crate) struct ByNumber;
 
 /// By the submitter.

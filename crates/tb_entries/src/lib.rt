@@ -1,4 +1,5 @@
-//! The accepted entries of a history and its bids, in few bytes, found by what they are asked by, with adds that can't fail.
+//! The accepted entries of a history and its bids, in few bytes, found by what they are asked by, with adds that can't
+//! fail.
 #![tactic(auto)]
 
 mod bids;

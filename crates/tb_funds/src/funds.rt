@@ -50,7 +50,8 @@ impl Model for Funds {
       spare_offers = min funds.offers.spare funds.opens.spare;
     } };
 
-    ghost invariant = { λ funds. AreKept funds.balances.elements funds.total funds.offers.elements funds.opens.elements };
+    ghost invariant = { λ funds. AreKept funds.balances.elements funds.total funds.offers.elements
+        funds.opens.elements };
 }
 
 impl Funds {

@@ -136,7 +136,8 @@ numbered-name name bytes history other =
     (or_left (is_same name name) _ (is_same-refl name))
 
 -- so has the bill in front
-pub numbered-bill : (name bytes : List ℕ) (history : List Entry) → IsBillNumbered (numbering_with name bytes history) bytes
+pub numbered-bill : (name bytes : List ℕ) (history : List Entry)
+    → IsBillNumbered (numbering_with name bytes history) bytes
 numbered-bill name bytes history other =
     place_by-own (λ (b : List ℕ). b) (bytes ∷ bills_of (announcements history)) bytes other
     (or_left (is_same bytes bytes) _ (is_same-refl bytes))

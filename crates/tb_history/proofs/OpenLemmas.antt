@@ -441,7 +441,8 @@ pub open_offers-still : (history : List Entry) (entry : Entry) (seller : List �
     → open_offers (history ++ entry ∷ []) seller ≡ open_offers history seller
 open_offers-still history entry seller nothing none =
     let same : offers (history ++ entry ∷ []) ≡ offers history =
-    offers-snoc history entry ∙ (ap (λ (xs : List Offer). offers history ++ xs) nothing ∙ append-nil (offers history)) in
+    offers-snoc history entry ∙ (ap (λ (xs : List Offer). offers history ++ xs) nothing
+    ∙ append-nil (offers history)) in
     open_offers-counted (history ++ entry ∷ []) seller
     ∙ (ap (counted (closed_in (history ++ entry ∷ [])) seller) same
     ∙ (counted-still history entry seller none ∙ sym (open_offers-counted history seller)))
@@ -508,7 +509,8 @@ pub open_offers-closed : (history : List Entry) (entry : Entry) (closer : List �
 open_offers-closed history entry closer number o seller legal nothing closes found unclosed =
     let now = closed_in (history ++ entry ∷ []) in
     let same : offers (history ++ entry ∷ []) ≡ offers history =
-    offers-snoc history entry ∙ (ap (λ (xs : List Offer). offers history ++ xs) nothing ∙ append-nil (offers history)) in
+    offers-snoc history entry ∙ (ap (λ (xs : List Offer). offers history ++ xs) nothing
+    ∙ append-nil (offers history)) in
     let tells : (x : Offer) → now x ≡ (closed_in history x || is_offer closer number x) =
     λ x. is_closed-push history entry x.seller x.number
     ∙ ap (λ (b : Bool). closed_in history x || b) (closes x.seller x.number ∙ either_way closer number x) in

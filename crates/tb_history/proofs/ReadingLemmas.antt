@@ -204,7 +204,8 @@ AreResults-one bidding add_on one other are are' =
     }
 
 -- one award has one payment
-IsPaid-one : (bidding : Bidding) (award one other : ℕ) → IsPaid bidding award one → IsPaid bidding award other → one ≡ other
+IsPaid-one : (bidding : Bidding) (award one other : ℕ) → IsPaid bidding award one → IsPaid bidding award other
+    → one ≡ other
 IsPaid-one bidding award one other paid paid' =
     let price : paid'.millionths ≡ paid.millionths =
     IsPrice-one (stop_of bidding) (days_of bidding.announcement)
@@ -347,8 +348,8 @@ IsReading-one history caller (query.Terms auction) (reading.Terms one) (reading.
     ap reading.Terms (announced-one (announcement_of (announcements history) auction) one other is is')
 IsReading-one history caller (query.Results auction) (reading.Results one) (reading.Results other) is is' =
     let same = announced-one (announcement_of (announcements history) auction) is'.0 is.0 is'.1 is.1 in
-    ap reading.Results (AreResults-one (bidding_in history is.0) (add_on_of (add_ons history) is.0.auction) one other is.2
-    (subst (λ (announcement : Announcement). AreResults (bidding_in history announcement)
+    ap reading.Results (AreResults-one (bidding_in history is.0) (add_on_of (add_ons history) is.0.auction) one other
+    is.2 (subst (λ (announcement : Announcement). AreResults (bidding_in history announcement)
     (add_on_of (add_ons history) announcement.auction) other) same is'.2))
 IsReading-one history caller (query.Awards auction) (reading.Awards one) (reading.Awards other) is is' =
     let same = announced-one (announcement_of (announcements history) auction) is'.0 is.0 is'.1 is.1 in

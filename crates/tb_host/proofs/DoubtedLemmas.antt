@@ -69,7 +69,8 @@ AllAre-turn : (Holds : PlacedGroup → Type 0) (asked : Asked) (old new : Standi
     → AllAre Holds new
 AllAre-turn Holds asked old new (Some given) turn are adds = record {
   were = subst (All Holds) (sym (turn.doubted ∙ append-nil old.doubted)) are.were;
-  is = λ some. absurd (omega (arith, some, ap length (sure-now asked (held_at old) (held_at new) turn.at given turn.way)));
+  is = λ some. absurd
+      (omega (arith, some, ap length (sure-now asked (held_at old) (held_at new) turn.at given turn.way)));
 }
 AllAre-turn Holds asked old new None turn are adds = record {
   were = subst (All Holds) (sym turn.doubted)

@@ -241,7 +241,8 @@ module _ (input input' : SourceState) (first last : Standing) where
   pub TakeEnds-since : (own : TakeEnding) (old new : Devices) (mid left : DiskState)
       → mid.faults ≡ old.disk.faults
       → new.disk ≡ left
-      → TakeEnds own input input' (record { out = old.out; disk = mid }) (record { out = new.out; disk = left }) first last
+      → TakeEnds own input input' (record { out = old.out; disk = mid }) (record { out = new.out; disk = left }) first
+      last
       → TakeEnds own input input' old new first last
   TakeEnds-since take_ending.Done old new mid left same is ends = ends
   TakeEnds-since take_ending.WriteFault old new mid left same is ends = ends
@@ -280,20 +281,20 @@ module _ (history : List Entry) (number : ℕ) (input : SourceState) (now : Foll
       rose few in_range taken finds = absurd taken
   InputTaken-broken take_ending.DiskFault new parcel behind read input' faults faults' first last begins is sure rose
       few in_range taken finds = (
-        BreaksOff-here history number input now coming so_far fault.DiskFault new parcel behind read first last begins is few
-            in_range taken finds,
+        BreaksOff-here history number input now coming so_far fault.DiskFault new parcel behind read first last begins
+            is few in_range taken finds,
         rose refl,
       )
   InputTaken-broken (take_ending.Forked place) new parcel behind read input' faults faults' first last begins is sure
       rose few in_range taken finds = (
-        BreaksOff-here history number input now coming so_far (fault.Forked place) new parcel behind read first last begins
-            is few in_range taken finds,
+        BreaksOff-here history number input now coming so_far (fault.Forked place) new parcel behind read first last
+            begins is few in_range taken finds,
         sure (λ same. (cc)),
       )
   InputTaken-broken take_ending.OutOfMemory new parcel behind read input' faults faults' first last begins is sure rose
       few in_range taken finds = (
-        inl (BreaksOff-here history number input now coming so_far fault.OutOfMemory new parcel behind read first last begins
-            is few in_range taken finds),
+        inl (BreaksOff-here history number input now coming so_far fault.OutOfMemory new parcel behind read first last
+            begins is few in_range taken finds),
         sure (λ same. (cc)),
       )
 

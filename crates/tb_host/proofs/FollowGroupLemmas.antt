@@ -221,13 +221,14 @@ module _ {D : Type 0} (seen : D → DiskState) (first now : DeskView D) (from at
       → IfSome (seen first.disk).past
       (λ past. mid.taken ≡ after_taken out.taken (sent_bytes from first.host.history))
   groups-all all =
-      known_both _ (λ past. (n : ℕ) → IsBehind first.host.history first.gate at n past → n ≡ length first.host.history) _
-      (seen first.disk).past
+      known_both _ (λ past. (n : ℕ) → IsBehind first.host.history first.gate at n past → n ≡ length first.host.history)
+      _ (seen first.disk).past
       (λ past told none. wrote_all from first.host.history first.gate at before out mid past told none) wrote
       (back (λ history gate past. (n : ℕ) → IsBehind history gate at n past → n ≡ length history) all)
 
   -- the next one wasn't read
-  pub groups-beginning : IfSome (seen first.disk).past (λ past. TakesPrefix out mid (sent_bytes from first.host.history))
+  pub groups-beginning : IfSome (seen first.disk).past
+      (λ past. TakesPrefix out mid (sent_bytes from first.host.history))
   groups-beginning =
       known_of _ _ (seen first.disk).past
       (λ past told. wrote_beginning from first.host.history first.gate at before out mid past told) wrote

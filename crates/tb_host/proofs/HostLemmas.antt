@@ -53,7 +53,8 @@ use Rattle.tb_host.proofs.ServeHostLemmas.{serve-completes}
 use Rattle.tb_host.proofs.TrialLemmas.{trial-completes}
 
 -- what is told of an ending
-pub reports-as : (one other : Ending) (err err' : SinkState) → one ≡ other → Reports one err err' → Reports other err err'
+pub reports-as : (one other : Ending) (err err' : SinkState) → one ≡ other → Reports one err err'
+    → Reports other err err'
 reports-as one other err err' same reports = subst (λ (e : Ending). Reports e err err') same reports
 
 -- where there was no memory no desk was opened

@@ -47,7 +47,8 @@ module _ (P : Entry → Type 0) where
   sent-own sender whole None clock clock' old new run lines is begins own doubt sent =
       same-own P old new sent.1 doubt
   sent-own sender whole (Some caller) clock clock' old new run lines is begins own doubt sent =
-      turn-own P asked old new sent.2 (λ at. group-own at caller (running at sent.0) run (of-row (running at sent.0))) doubt sent.3
+      turn-own P asked old new sent.2 (λ at. group-own at caller (running at sent.0) run (of-row (running at sent.0)))
+      doubt sent.3
     where
       asked : Asked
       asked = record { submitter = caller; moment = sent.0; messages = run }

@@ -44,9 +44,11 @@ none_longer bytes more none long parcel size begins =
           ap (λ (head : List ℕ). from_be_bytes w32 head) (take-append-le 4 bytes more four) in
           elim (cases_lt (length bytes) (12 + length_in bytes)) [
             | inl short ↦
-                long (inr (omega (arith, says, found.says, found.sizes.0), omega (arith, says, found.says, found.sizes.1), short))
+                long (inr
+                (omega (arith, says, found.says, found.sizes.0), omega (arith, says, found.says, found.sizes.1), short))
             | inr enough ↦
-                none parcel size (ends bytes more parcel size begins (omega (arith, says, found.says, enough, begins.whole, size_is parcel)))
+                none parcel size (ends bytes more parcel size begins
+                (omega (arith, says, found.says, enough, begins.whole, size_is parcel)))
           ]
     ]
   where

@@ -43,7 +43,8 @@ pub parcels_alike : (one other : Parcel) (x y : List ℕ)
     → x ≡ y
 parcels_alike one other x y one_sound other_sound same =
     let first = starts (parcel_bytes one ++ x) one (length (parcel_bytes one)) (begins_here one x one_sound) in
-    let second = starts (parcel_bytes other ++ y) other (length (parcel_bytes other)) (begins_here other y other_sound) in
+    let second =
+    starts (parcel_bytes other ++ y) other (length (parcel_bytes other)) (begins_here other y other_sound) in
     let sizes : length (parcel_bytes other) ≡ length (parcel_bytes one) =
     omega (
       arith,

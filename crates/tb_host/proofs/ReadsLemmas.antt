@@ -181,7 +181,8 @@ module _ (before between after : ℕ) (ended : Bool) (middle : Option (List ℕ)
         reads = reads-both two.taken two.rest two.text_is two.reads;
         front = read ++ two.front;
         lines_are = are
-            ∙ (ap (λ (ls : List (List ℕ)). read ++ ls) two.lines_are ∙ sym (append_assoc read two.front (lines two.rest)));
+            ∙ (ap (λ (ls : List (List ℕ)). read ++ ls) two.lines_are
+            ∙ sym (append_assoc read two.front (lines two.rest)));
         few = omega (arith, length-append read two.front, two.few);
       }
 

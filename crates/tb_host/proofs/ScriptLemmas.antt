@@ -204,7 +204,8 @@ module _ (operator : List ℕ) (count : ℕ) (source : SourceState) (out : SinkS
       no_fault = so_far.faults;
       told = λ text told. let reached = so_far.reached text told in
           stopped number now.source now.stands now.out text reached
-          (ReadsLines-whole source.reads now.source.reads now.reader.ended (ahead now.reader now.source) text so_far.acted
+          (ReadsLines-whole source.reads now.source.reads now.reader.ended (ahead now.reader now.source) text
+          so_far.acted
           (length so_far.acted + 1) reached.reads reached.lines_are (omega arith)) (refl, refl) number_is (omega arith)
           (too_many (length so_far.acted) (lines reached.reads.rest) (omega (arith, so_far.size)));
     },
@@ -352,7 +353,8 @@ module _ (operator : List ℕ) (count : ℕ) (source : SourceState) (out : SinkS
           run = so_far.run;
           part = prefix.0;
           lost = prefix.1;
-          acted_last = subst (λ (r : List ℕ). IsActedOn operator now.stands takes.line r new.stands) prefix.2 vain.acted;
+          acted_last =
+              subst (λ (r : List ℕ). IsActedOn operator now.stands takes.line r new.stands) prefix.2 vain.acted;
           taken = prefix.3
               ∙ (ap (λ (t : Option (List ℕ)). after_taken t prefix.0) so_far.taken
               ∙ after_taken-more out.taken so_far.replies prefix.0);

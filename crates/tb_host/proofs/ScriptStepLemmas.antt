@@ -117,16 +117,18 @@ pub NextEnds-line : (operator : List ℕ) (number : ℕ) (result : Option TextEn
     → NextEnds operator number result old new
 NextEnds-line operator number None line old new found reads no_fault ends = record {
   line = line;
-  next = λ text told. IsNext-found old.source.reads new.source.reads new.reader.ended line (ahead new.reader new.source) text
-      (found text told) (reads text told);
+  next =
+      λ text told. IsNext-found old.source.reads new.source.reads new.reader.ended line (ahead new.reader new.source)
+      text (found text told) (reads text told);
   no_fault = no_fault;
   holds = ends;
 }
 NextEnds-line operator number (Some ending.Done) line old new found reads no_fault ends = (
   record {
     line = line;
-    next = λ text told. IsNext-found old.source.reads new.source.reads new.reader.ended line (ahead new.reader new.source) text
-        (found text told) (reads text told);
+    next =
+        λ text told. IsNext-found old.source.reads new.source.reads new.reader.ended line (ahead new.reader new.source)
+        text (found text told) (reads text told);
     no_fault = no_fault;
     holds = ends.0;
   },
@@ -141,8 +143,9 @@ NextEnds-line operator number (Some (ending.BadInput at)) line old new found rea
 NextEnds-line operator number (Some ending.ReadFault) line old new found reads no_fault ends = absurd ends
 NextEnds-line operator number (Some ending.WriteFault) line old new found reads no_fault ends = record {
   line = line;
-  next = λ text told. IsNext-found old.source.reads new.source.reads new.reader.ended line (ahead new.reader new.source) text
-      (found text told) (reads text told);
+  next =
+      λ text told. IsNext-found old.source.reads new.source.reads new.reader.ended line (ahead new.reader new.source)
+      text (found text told) (reads text told);
   no_fault = no_fault;
   holds = ends;
 }

@@ -21,7 +21,8 @@ abbrev pub SendsGroup : ℕ → ℕ → List Entry → Result ℕ GroupFault →
 SendsGroup from before entries (Ok behind) out out' =
     (behind ≡ before + length entries)
     × (out'.taken ≡ after_taken out.taken (sent_of from (parcels_at before entries)))
-SendsGroup from before entries (Err group.Write) out out' = TakesPrefix out out' (sent_of from (parcels_at before entries))
+SendsGroup from before entries (Err group.Write) out out' =
+    TakesPrefix out out' (sent_of from (parcels_at before entries))
 SendsGroup from before entries (Err group.Unreadable) out out' = ⊥
 
 -- a parcel was taken by the copy, or was answered with a fault that ends the command

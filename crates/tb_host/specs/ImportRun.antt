@@ -161,5 +161,6 @@ pub record ImportEnds (sender : Sender) (clock clock' : ClockState) (ended : Dis
     (input input' : SourceState)
     (old new : Devices) : Type 0
   where
-    pub ends : EndsOnDisk (λ own. TableEnds sender clock clock' own input input' old.out new.out) ended input input' old new
+    pub ends : EndsOnDisk (λ own. TableEnds sender clock clock' own input input' old.out new.out) ended input input' old
+        new
     pub reads : WhereTold input.left (ReadsToEnd input.reads input'.reads)

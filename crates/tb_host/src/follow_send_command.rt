@@ -91,7 +91,8 @@ fn send_groups<D: Disk, O: Sink>(desk: &mut Desk<D>, from: u64, out: &mut O) -> 
     }
 }
 
-// Writes the parcels of a group, before which so many entries stand, from a place on. It tells how many stand behind it.
+// Writes the parcels of a group, before which so many entries stand, from a place on. It tells how many stand behind
+// it.
 fn send_group<O: Sink>(
     payload: &[u8],
     before: u64,

@@ -35,7 +35,8 @@ pub fn follow_take<D: Disk, I: Source, O: Sink>(
         (record { out = O.sink out.old; disk = D.disk disk })
         (record { out = O.sink out.new; disk = D.disk result.1 }) }
     // The copy was opened before anything was read or written.
-    ensures unbegun { (why : OpenFault) → result.0 ≡ DiskEnding.Unopened why → (input.new ≡ input.old) × (out.new ≡ out.old) }
+    ensures unbegun { (why : OpenFault) → result.0 ≡ DiskEnding.Unopened why
+        → (input.new ≡ input.old) × (out.new ≡ out.old) }
 {
     match Follower::open(alloc, disk) {
         Ok(mut follower) => {

@@ -127,8 +127,8 @@ pub fn host_main<
         × Stays (uses_of said).spare spare.old spare.new
         × Stays (uses_of said).gates gates.old gates.new
         × Stays (uses_of said).keeper keeper.old keeper.new }
-    // Where the disk wasn't opened neither input nor output was touched. A fault of the disk may end `follow` later too:
-    // its records say what was read and written then.
+    // Where the disk wasn't opened neither input nor output was touched. A fault of the disk may end `follow` later
+    // too: its records say what was read and written then.
     ensures unread { (said : declared.Command) → AreWordsOf said (map string_bytes words.now)
         → ends_at_fault said ≡ false
         → (ended : Ending) → IsUnopened ended → result.status ≡ status_of ended

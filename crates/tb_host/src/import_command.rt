@@ -54,7 +54,8 @@ pub fn import<D: Disk, C: Clock, I: Source, O: Sink>(
         (I.source input.old) (I.source input.new)
         (record { out = O.sink out.old; disk = D.disk disk })
         (record { out = O.sink out.new; disk = D.disk result.1 }) }
-    ensures unbegun { (why : OpenFault) → result.0 ≡ DiskEnding.Unopened why → (input.new ≡ input.old) × (out.new ≡ out.old) }
+    ensures unbegun { (why : OpenFault) → result.0 ≡ DiskEnding.Unopened why
+        → (input.new ≡ input.old) × (out.new ≡ out.old) }
 {
     match Desk::open(alloc, disk) {
         Ok(mut desk) => {

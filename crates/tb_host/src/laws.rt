@@ -72,8 +72,8 @@ pub fn one_run()
 /// The headline of `run`: where the disk keeps the last history, it holds of the reply to each line; and past the first
 /// history there are only entries of the lines.
 pub fn run_headline()
-    ensures each { (operator : List ℕ) (disk : DiskState) (first last : Standing) (before : List (List ℕ)) (line : List ℕ)
-        (behind : List (List ℕ)) (replies : List ℕ)
+    ensures each { (operator : List ℕ) (disk : DiskState) (first last : Standing) (before : List (List ℕ))
+        (line : List ℕ) (behind : List (List ℕ)) (replies : List ℕ)
         → IsRun operator first (before ++ line ∷ behind) replies last
         → Stays last disk
         → HasHeadline operator disk first last before line behind replies }
@@ -85,8 +85,8 @@ pub fn run_headline()
         → All (λ e. Any (IsOfLine operator last.history e) lines) (more ++ last.doubt) }
 {}
 
-/// The headline of `import`: where the disk keeps the last history, it holds of the answers to each run of rows; and past
-/// the first history there are only entries of the rows.
+/// The headline of `import`: where the disk keeps the last history, it holds of the answers to each run of rows; and
+/// past the first history there are only entries of the rows.
 pub fn import_headline()
     ensures each { (sender : Sender) (disk : DiskState) (clock clock' : ClockState) (first last : Standing)
         (before : List (List SentRow)) (run : List SentRow) (behind : List (List SentRow)) (text : List ℕ)
@@ -101,8 +101,8 @@ pub fn import_headline()
         → All (λ e. Any (Any (IsOfRow sender last.history e)) runs) (more ++ last.doubt) }
 {}
 
-/// Each group that was in doubt is somebody's: that of a line's message, or of a run of rows, as the history stood then.
-/// So is each that a crash during `run` or `import` may have left behind a beginning of the history.
+/// Each group that was in doubt is somebody's: that of a line's message, or of a run of rows, as the history stood
+/// then. So is each that a crash during `run` or `import` may have left behind a beginning of the history.
 pub fn groups_are_sent()
     ensures by_lines { (operator : List ℕ) (first last : Standing) (lines : List (List ℕ)) (replies : List ℕ)
         → IsRun operator first lines replies last

@@ -1,8 +1,8 @@
-//! The script of the auction, whole, on a disk that fails. An empty disk is opened with four calls, and each of the five
-//! entries is added with four: its frame is written behind the closed gate and synced, then its gate is, and synced.
-//! So the calls 0 to 3 open it, and the entries have the calls from 4, 8, 12, 16 and 20 on. An entry stands where the
-//! byte of its gate does: not where one of the first two calls fails, always where the fourth does, and where the
-//! third does if the failed write leaves a 1.
+//! The script of the auction, whole, on a disk that fails. An empty disk is opened with four calls, and each of the
+//! five entries is added with four: its frame is written behind the closed gate and synced, then its gate is, and
+//! synced. So the calls 0 to 3 open it, and the entries have the calls from 4, 8, 12, 16 and 20 on. An entry stands
+//! where the byte of its gate does: not where one of the first two calls fails, always where the fourth does, and where
+//! the third does if the failed write leaves a 1.
 use crate::auction::{
     AGAIN, ALL, ANNOUNCE, ANNOUNCED, AWARDS, BETWEEN, BID, BIDDEN, EMPTY, ENROL, ENROLLED,
     ORDINARY, PUBLISH, PUBLISHED, REGISTER, REGISTERED, RESULTS, RUN, SCRIPT, journal, keeps,

@@ -72,8 +72,9 @@ ArePlaces-new compare keys places key i total are lacks within order =
     let new : Place _ = record { key = key; place = length keys } in
     record {
       order = order;
-      each = All-insert (λ (place : Place _). first_of (tied compare) place.key (keys ++ key ∷ []) ≡ Some place.place) places i
-          new
+      each =
+          All-insert (λ (place : Place _). first_of (tied compare) place.key (keys ++ key ∷ []) ≡ Some place.place)
+          places i new
           (each-stays compare keys key places are.each)
           (position-new (λ other. is_eq (compare other key)) keys key (are.others key lacks)
           (ap is_eq (tied_itself total key)));
@@ -174,7 +175,8 @@ ArePlaces-removed {K} compare keys places key i total are last has order =
     let d : Place K = record { key = key; place = 0 } in
     sym (total.congr (key_in (get_or places i d)) key other (has.same d))
     ∙ (ap (λ n. compare (key_in (get_or places n d)) other) (sym at) ∙ there.1.same d) in
-    let none-before : first_of (tied compare) key keys ≡ None = position-last (λ k. is_eq (compare k key)) keys key last in
+    let none-before : first_of (tied compare) key keys ≡ None =
+    position-last (λ k. is_eq (compare k key)) keys key last in
     record {
       order = order;
       each = λ k d short.

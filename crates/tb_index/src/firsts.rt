@@ -6,8 +6,8 @@ ghost use Rattle.tb_index.specs.Indexes.{first_of, AreFirsts};
 use std::collections::HashMap;
 use std::hash::Hash;
 
-// The seed of the hash is fixed, so that one who chooses keys could choose such as collide, and each look-up would go over
-// all of them. Names are entered by the operator alone; keys that senders choose stand in an order.
+// The seed of the hash is fixed, so that one who chooses keys could choose such as collide, and each look-up would go
+// over all of them. Names are entered by the operator alone; keys that senders choose stand in an order.
 /// The names of a list with their first places.
 pub type Firsts<K> = HashMap<K, usize>;
 

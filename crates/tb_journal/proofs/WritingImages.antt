@@ -229,7 +229,8 @@ from_synced P past synced holds image left = subst P (sym (synced image left)) h
 -- each torn write over a synced disk
 pub torn_synced : (P : List ℕ → Type 0) (place count most : ℕ) (past : Past) → IsSynced past
     → ((longest : ℕ) (image : List ℕ) → longest ≤ most → Torn place count longest (contents_of past) image → P image)
-    → (longest : ℕ) (image : List ℕ) → longest ≤ most → Follows (Torn place count longest) (MayLeave past) image → P image
+    → (longest : ℕ) (image : List ℕ) → longest ≤ most → Follows (Torn place count longest) (MayLeave past) image
+    → P image
 torn_synced P place count most past synced each longest image within from = each longest image within
     (subst (λ (file : List ℕ). Torn place count longest file image) (synced from.0 from.1) from.2)
 
@@ -283,7 +284,8 @@ module _ (before : Past) (unsealed : IsBroken before) where
 
   cut_image : (image : List ℕ) → MayLeave (Then (CutTo 17) before) image → IsBlank image
   cut_image image from = guarded_blank image (guarded_same (contents_of before) image
-      (subst (λ (file : List ℕ). take 17 image ≡ take 17 file) (unsealed.synced from.0 from.1) from.2.front) unsealed.guarded)
+      (subst (λ (file : List ℕ). take 17 image ≡ take 17 file) (unsealed.synced from.0 from.1) from.2.front)
+      unsealed.guarded)
 
   pub cuts_in_part : (now : Past) → (now ≡ before) ⊎ (now ≡ Then (CutTo 17) before) → Leaves IsBlank before now
   cuts_in_part now part = elim part [
@@ -331,7 +333,8 @@ module _ (before : Past) (synced : IsSynced before) (short : length (contents_of
       → longest ≤ max (length (contents_of before)) size
       → Follows (Torn 0 count longest) (MayLeave before) image → IsBlank image
   title_torn count size within = torn_synced IsBlank 0 count (max (length (contents_of before)) size) before synced
-      (λ longest image most torn. torn_short count longest (contents_of before) image short (omega (arith, most, within)) torn)
+      (λ longest image most torn. torn_short count longest (contents_of before) image short
+      (omega (arith, most, within)) torn)
 
   pub titles_in_part : (bytes : List ℕ) (now : Past) → length bytes ≤ 17 → WritesInPart 0 bytes before now
       → Leaves IsBlank before now
@@ -375,15 +378,18 @@ module _ (payloads : List (List ℕ)) (place : ℕ) (before : Past) (written : I
   written_start image left = guarded_blank image (written.images image left)
 
   -- a torn write behind what was written
-  behind_image : (at count longest : ℕ) (image : List ℕ) → place ≤ at → Follows (Torn at count longest) (MayLeave before) image
+  behind_image : (at count longest : ℕ) (image : List ℕ) → place ≤ at
+      → Follows (Torn at count longest) (MayLeave before) image
       → IsGuarded image
-  behind_image at count longest image within from = torn_guarded at count longest from.0 image (omega (arith, within, behind_place))
+  behind_image at count longest image within from =
+      torn_guarded at count longest from.0 image (omega (arith, within, behind_place))
       from.2 (written.images from.0 from.1)
 
   -- a write at the end that was made in part
   pub end_in_part : (bytes : List ℕ) (now : Past) → WritesInPart place bytes before now → Leaves IsBlank before now
   end_in_part bytes now = part_leaves IsBlank place bytes before now written_start
-      (λ longest image within from. guarded_blank image (behind_image place (length bytes) longest image (omega arith) from))
+      (λ longest image within from. guarded_blank image
+      (behind_image place (length bytes) longest image (omega arith) from))
 
   -- what a write at the end makes
   end_contents : (bytes : List ℕ) → contents_of (Then (Wrote place bytes) before)
@@ -508,9 +514,11 @@ module _ (payloads : List (List ℕ)) (before : Past) (closed : IsClosed payload
       (take_at title (closed.byte ∷ tail) 16 (length-title Second))
       ∙ (ap (λ (list : List ℕ). title ++ 1 ∷ list) (behind_seal closed.byte tail) ∙ sealed_is payloads))
 
-  seal_cases : (longest : ℕ) (image : List ℕ) → Torn 16 1 longest (title ++ closed.byte ∷ tail) image → IsBlankOr payloads image
+  seal_cases : (longest : ℕ) (image : List ℕ) → Torn 16 1 longest (title ++ closed.byte ∷ tail) image
+      → IsBlankOr payloads image
   seal_cases longest image torn =
-      let long : 16 < length image = omega (arith, torn.no_shorter, length-append title (closed.byte ∷ tail), (length-title Second)) in
+      let long : 16 < length image =
+      omega (arith, torn.no_shorter, length-append title (closed.byte ∷ tail), (length-title Second)) in
       let is : image ≡ title ++ get_or image 16 0 ∷ tail = opened_at image long
       ∙ (ap (λ (list : List ℕ). list ++ get_or image 16 0 ∷ drop 17 image)
       (torn.before ∙ take_at title (closed.byte ∷ tail) 16 (length-title Second))
@@ -519,13 +527,15 @@ module _ (payloads : List (List ℕ)) (before : Past) (closed : IsClosed payload
         | inl one ↦ inr (subst (StandsFor payloads) (sym (is ∙ (ap (λ (byte : ℕ). title ++ byte ∷ tail) one
             ∙ sealed_is payloads)))
             (sealed_stands payloads closed.sizes))
-        | inr differs ↦ inl (guarded_blank image (subst IsGuarded (sym is) (title_guarded (get_or image 16 0) tail differs)))
+        | inr differs ↦ inl
+            (guarded_blank image (subst IsGuarded (sym is) (title_guarded (get_or image 16 0) tail differs)))
       ]
 
   seal_images : (longest : ℕ) (image : List ℕ) → longest ≤ max (length (contents_of before)) 17
       → Follows (Torn 16 1 longest) (MayLeave before) image → IsBlankOr payloads image
   seal_images = torn_synced (IsBlankOr payloads) 16 1 (max (length (contents_of before)) 17) before closed.synced
-      (λ longest image within torn. seal_cases longest image (subst (λ (file : List ℕ). Torn 16 1 longest file image) closed.is torn))
+      (λ longest image within torn. seal_cases longest image
+      (subst (λ (file : List ℕ). Torn 16 1 longest file image) closed.is torn))
 
   pub seals_in_part : (now : Past) → WritesInPart 16 (1 ∷ []) before now → Leaves (IsBlankOr payloads) before now
   seals_in_part now = part_leaves (IsBlankOr payloads) 16 (1 ∷ []) before now closed_start seal_images

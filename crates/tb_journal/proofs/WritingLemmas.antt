@@ -188,7 +188,8 @@ begin_from P Q size old mid new follows = Told-both (Measures size) P Q old mid 
     (λ before between now measures p. follows before now (subst (λ (past : Past). P past now) measures.0 p))
 
 -- less is left
-pub blank_is_enough : (old : List ℕ) (before now : Past) → Leaves IsBlank before now → Leaves (IsOldOrBlank old) before now
+pub blank_is_enough : (old : List ℕ) (before now : Past) → Leaves IsBlank before now
+    → Leaves (IsOldOrBlank old) before now
 blank_is_enough old before now = Leaves-weaker IsBlank (IsOldOrBlank old) before now (λ image blank. inr blank)
 
 -- the file is long, or short
@@ -226,13 +227,16 @@ pub frame_written : (place ordinal : ℕ) (payload head : List ℕ) (old mid new
     → Takes (Wrote place head) old mid → Takes (Wrote (place + 13) payload) mid new
     → Told old new (Adds payload ordinal place)
 frame_written place ordinal payload head old mid new size is one two = record {
-  silent = λ none. still_silent (Wrote (place + 13) payload) mid new two (still_silent (Wrote place head) old mid one none);
+  silent =
+      λ none. still_silent (Wrote (place + 13) payload) mid new two (still_silent (Wrote place head) old mid one none);
   told = λ before told. (
     Then (Wrote (place + 13) payload) (Then (Wrote place head) before),
     told_step (Wrote (place + 13) payload) mid new two (Then (Wrote place head) before)
         (told_step (Wrote place head) old mid one before told),
     λ payloads written count. adds payloads place before written payload head size
-        (head_and (length payloads) payload head (is ∙ ap (λ (n : ℕ). 1 ∷ head_in Second n (length payload)) (sym count))) (head_size (length payload) ordinal head is),
+        (head_and (length payloads) payload head (is
+        ∙ ap (λ (n : ℕ). 1 ∷ head_in Second n (length payload)) (sym count)))
+        (head_size (length payload) ordinal head is),
   );
 }
 
@@ -248,7 +252,8 @@ frame_in_part place ordinal payload head old mid new size is one fails = Told-bo
     (subst (λ (past : Past). WritesInPart (place + 13) payload past now) wrote part))
     record {
       silent = λ none. still_silent (Wrote place head) old mid one none;
-      told = λ before told. (Then (Wrote place head) before, told_step (Wrote place head) old mid one before told, refl);
+      told =
+          λ before told. (Then (Wrote place head) before, told_step (Wrote place head) old mid one before told, refl);
     }
     (write_fails (place + 13) payload mid new fails)
   where

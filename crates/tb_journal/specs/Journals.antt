@@ -32,8 +32,9 @@ pub record StandsForBeginning (recovered payloads : List (List ℕ)) (file : Lis
   pub stands : StandsFor (take kept payloads) file
       ⊎ ((payload : List ℕ) × StandsFor (take kept payloads ++ payload ∷ []) file)
 
--- What a journal knows of its disk since the opening. The payloads, so many, begin with those that the opening found, the
--- disk holds them, and each crash since left a beginning of them that has all that were found, or that and one more.
+-- What a journal knows of its disk since the opening. The payloads, so many, begin with those that the opening found,
+-- the disk holds them, and each crash since left a beginning of them that has all that were found, or that and one
+-- more.
 pub record SinceOpening (gate ordinal : ℕ) (doubt : Option ℕ) (opened now : Past) : Type 0 where
   pub recovered : List (List ℕ)
   pub payloads : List (List ℕ)

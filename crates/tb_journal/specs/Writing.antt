@@ -71,8 +71,8 @@ start = first_place Second
 abbrev pub Begins : Past → Past → Type 0
 Begins = Writes [] start
 
--- The disk failed before the journal was sealed. Nothing happened, or each crash since the first sync left what the file
--- had then, or what is blank.
+-- The disk failed before the journal was sealed. Nothing happened, or each crash since the first sync left what the
+-- file had then, or what is blank.
 abbrev pub StopsUnsealed : Past → Past → Type 0
 StopsUnsealed before now = (now ≡ before) ⊎ Leaves (IsOldOrBlank (contents_of before)) (Then Synced before) now
 
@@ -124,8 +124,8 @@ abbrev pub Rewrites : List (List ℕ) → Past → Past → Type 0
 Rewrites payloads before now =
     IsSealed payloads now × Leaves (IsOldBlankOr (contents_of before) payloads) (Then Synced before) now
 
--- The disk failed before it was whole. Nothing happened, or each crash since the first sync left what the file had then,
--- or what is blank, or what stands for the payloads.
+-- The disk failed before it was whole. Nothing happened, or each crash since the first sync left what the file had
+-- then, or what is blank, or what stands for the payloads.
 abbrev pub RewritesInPart : List (List ℕ) → Past → Past → Type 0
 RewritesInPart payloads before now =
     (now ≡ before) ⊎ Leaves (IsOldBlankOr (contents_of before) payloads) (Then Synced before) now

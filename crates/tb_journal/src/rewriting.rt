@@ -9,7 +9,8 @@ use crate::fault::DiskFault;
 use crate::writer::Writer;
 use tb_disk::Disk;
 
-/// Writes payloads behind those before them, each of 1 to 32,768 bytes. The end, with a closed gate behind, is below 2^42.
+/// Writes payloads behind those before them, each of 1 to 32,768 bytes. The end, with a closed gate behind, is below
+/// 2^42.
 pub fn add_all<D: Disk>(writer: &mut Writer<'_, D>, payloads: &[&[u8]]) -> Result<(), DiskFault>
     requires writing { IfSome (D.disk writer.old.disk.now).past (IsWriting writer.old.place writer.old.ordinal) }
     requires sizes { ArePayloads (map (λ p. p.now) payloads.now) }
@@ -33,8 +34,8 @@ pub fn add_all<D: Disk>(writer: &mut Writer<'_, D>, payloads: &[&[u8]]) -> Resul
     Ok(())
 }
 
-/// Writes a journal of these payloads over whatever the disk held, each of 1 to 32,768 bytes. The end, with a closed gate
-/// behind, is below 2^42.
+/// Writes a journal of these payloads over whatever the disk held, each of 1 to 32,768 bytes. The end, with a closed
+/// gate behind, is below 2^42.
 pub fn rewrite<D: Disk>(disk: &mut D, payloads: &[&[u8]]) -> Result<(), DiskFault>
     requires sizes { ArePayloads (map (λ p. p.now) payloads.now) }
     requires end { length (front (map (λ p. p.now) payloads.now)) + 1 < 2 ^ 42 }

@@ -10,8 +10,8 @@ use crate::writer_steps::{FIRST_GATE, FRAME_HEAD, add, begin, finish};
 use tb_disk::Disk;
 use tb_link::Failed;
 
-/// A journal that is written over whatever a disk held. Until it is sealed no payload is found on the disk. After a fault
-/// the writer is given up.
+/// A journal that is written over whatever a disk held. Until it is sealed no payload is found on the disk. After a
+/// fault the writer is given up.
 #[derive(Drop)]
 pub struct Writer<'d, D: Disk> {
     /// The disk that is written.

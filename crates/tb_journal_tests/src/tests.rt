@@ -322,8 +322,9 @@ fn a_journal_has_the_bytes_of_its_format(rt: HostRuntime) -> Result<(), Fail> {
     Ok(())
 }
 
-// An append of "abc" fails on a disk of which these calls fail and that leaves this byte of a failed write, then `resolve`
-// fails once or not, and tells whether the payload counts. Whether it does, and what the file stands for once "d" is added.
+// An append of "abc" fails on a disk of which these calls fail and that leaves this byte of a failed write, then
+// `resolve` fails once or not, and tells whether the payload counts. Whether it does, and what the file stands for once
+// "d" is added.
 fn settled(
     rt: &impl Abort,
     alloc: Global,
@@ -440,7 +441,8 @@ fn any_call_may_fail(rt: HostRuntime) -> Result<(), Fail> {
 // The block behind the gate: a length, an ordinal, two bytes of payload and a closed gate.
 const BLOCK: &[u8] = b"\0\0\0\x02\0\0\0\0\0\0\0\0ab\0";
 
-// A file with a closed gate and so many bytes behind it stands for no payload, whichever of 0, 1 and 2 these are: so many images.
+// A file with a closed gate and so many bytes behind it stands for no payload, whichever of 0, 1 and 2 these are: so
+// many images.
 fn none_stands(rt: &impl Abort, alloc: Global, size: usize, images: u32) -> Result<bool, Fail> {
     for image in 0..images {
         let mut file = HEADER.to_vec(alloc)?;

@@ -130,8 +130,8 @@ fn is_handed_back(rt: &impl Abort, alloc: Global, call: u64) -> Result<bool, Fai
     })
 }
 
-// Beginning over a sealed spare takes the calls 0 to 8: a sync, the length, the seal's byte, the byte 0 and a sync, a cut
-// and a sync, the title and a sync.
+// Beginning over a sealed spare takes the calls 0 to 8: a sync, the length, the seal's byte, the byte 0 and a sync, a
+// cut and a sync, the title and a sync.
 #[test]
 fn a_spare_is_handed_back(rt: HostRuntime) -> Result<(), Fail> {
     let alloc = rt.alloc();

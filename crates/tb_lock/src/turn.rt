@@ -15,13 +15,13 @@ impl<T: Annals> TurnLock<T> {
 
     // Waits until the ticket's turn has come.
     //
-    // Whoever waits sleeps at once, also the next in line. One that looks again and again, or yields, would be sooner by
-    // what it takes to rouse a sleeper. But where other programs keep the machine busy, each yield gives one of them a
-    // whole slice, and all that wait here wait for that too.
+    // Whoever waits sleeps at once, also the next in line. One that looks again and again, or yields, would be sooner
+    // by what it takes to rouse a sleeper. But where other programs keep the machine busy, each yield gives one of them
+    // a whole slice, and all that wait here wait for that too.
     //
     // Who sleeps is woken. The bell's count is read before the look at serving, and the bell rings behind the step on
-    // serving: where the look came before that step, the ring is past the count that was read. So it ends the sleep, or the
-    // sleep doesn't begin.
+    // serving: where the look came before that step, the ring is past the count that was read. So it ends the sleep, or
+    // the sleep doesn't begin.
     pub(crate) fn await_turn<R: Wait>(&self, rt: &R, seat: &mut Seat<Option<T>, View>, ticket: u64)
         requires own { IsSeatOf self.now seat.old }
         requires waits { (n : ℕ) × (ticket ≡ n % 2 ^ 64) × (seat.old.me.0.stage ≡ Waiting n) }

@@ -175,7 +175,9 @@ longer all history rest ahead entry begins window are kept =
       begins = begins ∙ rest_next history rest entry (next_stands all history rest ahead entry begins are kept);
       length_is = one;
       window = length-shifted ahead (omega arith) ∙ window;
-      are = subst (λ (n : ℕ). AreKeptOf all n (shifted ahead)) (sym one) (AreKeptOf-shifted all (length history) ahead are);
+      are =
+          subst (λ (n : ℕ). AreKeptOf all n (shifted ahead)) (sym one)
+          (AreKeptOf-shifted all (length history) ahead are);
     }
 
 -- A run over what is kept of a legal history, from where its copy ends, takes all up to the first gap.
@@ -198,9 +200,11 @@ Runs-ran all new outcome answer _ _ _ (LetGo history ahead added entry kept amon
     (next_stands all history rest ahead entry begins are kept) (omega arith) among)
 Runs-ran all new outcome answer _ _ _ (Forks history ahead added entry kept among not_follows told left) ok legal rest
     begins window are = cc
-Runs-ran all new outcome answer _ _ _ (Breaks history ahead added entry kept not_among broken same) ok legal rest begins window are =
+Runs-ran all new outcome answer _ _ _ (Breaks history ahead added entry kept not_among broken same) ok legal rest begins
+    window are =
     elim broken [ inl is ↦ cc | inr is ↦ cc ]
-Runs-ran all new outcome answer _ _ _ (Goes history ahead added entry kept follows more) ok legal rest begins window are =
+Runs-ran all new outcome answer _ _ _ (Goes history ahead added entry kept follows more) ok legal rest begins window
+    are =
     let next = longer all history rest ahead entry begins window are kept in
     let ran =
     Runs-ran all new outcome answer (history ++ entry ∷ []) (shifted ahead) (added + 1) more ok legal next.rest
@@ -222,11 +226,12 @@ pub Runs-no_fork : (all : List Entry) (new : Following) (outcome : Outcome) (at 
 Runs-no_fork all new outcome at _ _ _ (Gap history ahead added none told left) forks legal rest begins window are = cc
 Runs-no_fork all new outcome at _ _ _ (LetGo history ahead added entry kept among told left) forks legal rest begins
     window are = cc
-Runs-no_fork all new outcome at _ _ _ (Forks history ahead added entry kept among not_follows told left) forks legal rest
-    begins window are =
+Runs-no_fork all new outcome at _ _ _ (Forks history ahead added entry kept among not_follows told left) forks legal
+    rest begins window are =
     not_follows (follows_next history rest entry (subst IsLegal begins legal)
     (next_stands all history rest ahead entry begins are kept))
-Runs-no_fork all new outcome at _ _ _ (Breaks history ahead added entry kept not_among broken same) forks legal rest begins window are =
+Runs-no_fork all new outcome at _ _ _ (Breaks history ahead added entry kept not_among broken same) forks legal rest
+    begins window are =
     elim broken [ inl is ↦ cc | inr is ↦ cc ]
 Runs-no_fork all new outcome at _ _ _ (Goes history ahead added entry kept follows more) forks legal rest begins window
     are =
@@ -536,7 +541,8 @@ Begins-arrived all follower begins =
           ∙ and-false (nat_le (length follower.history + 1) place);
     }
 
-IsSameArrival-trans : (one two three : Arrived) → IsSameArrival one two → IsSameArrival two three → IsSameArrival one three
+IsSameArrival-trans : (one two three : Arrived) → IsSameArrival one two → IsSameArrival two three
+    → IsSameArrival one three
 IsSameArrival-trans one two three first_same then_same =
     record {
       next = then_same.next ∙ first_same.next;

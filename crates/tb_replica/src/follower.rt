@@ -111,8 +111,8 @@ fn run<D: Disk>(desk: &mut Desk<D>, ahead: &mut Window<Entry>) -> Result<Taken, 
 }
 
 impl<D: Disk> Follower<D> {
-    /// Opens a copy on a disk, with the history that it stands for, and takes the memory for the 1,023 parcels that may be
-    /// kept ahead. A refusal hands the disk back.
+    /// Opens a copy on a disk, with the history that it stands for, and takes the memory for the 1,023 parcels that may
+    /// be kept ahead. A refusal hands the disk back.
     pub fn open(alloc: Global, disk: D) -> Result<Follower<D>, (D, OpenFault)>
         ensures found { IfOk result (λ follower. IfSome (D.disk disk).past
             (λ past. StandsForHistory follower.desk.host.history (contents_of past))) }

@@ -26,7 +26,8 @@ pub fn parcels_arrive()
         → AreTaken parcels old between
         → IsOf history parcel
         → ¬ (Takes parcel between new (Err (fault.Forked at))) }
-    // Whatever parcels come, the copy goes on and stays legal; and so it does with a parcel behind them that meets a fault.
+    // Whatever parcels come, the copy goes on and stays legal; and so it does with a parcel behind them that meets a
+    // fault.
     ensures legal { (parcels : List Parcel) (old new : Following)
         → IsLegal old.history
         → AreTaken parcels old new

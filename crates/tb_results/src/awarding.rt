@@ -21,8 +21,8 @@ use tb_price::payment;
 use tb_terms::Terms;
 use tb_units::{Cents, Dollars, Ident, Lines, OutOfMemory};
 
-/// The awards of the caller's bidders with a live bid, in the order of enrolment, and the add-on where the caller is its
-/// holder. `bidders` are all that are enrolled; `add_on` is the auction's, which has at most 10^22 of par.
+/// The awards of the caller's bidders with a live bid, in the order of enrolment, and the add-on where the caller is
+/// its holder. `bidders` are all that are enrolled; `add_on` is the auction's, which has at most 10^22 of par.
 pub fn awards(
     alloc: Global,
     terms: &Terms,

@@ -64,7 +64,8 @@ module _ (a m : LinkState) (waiting now : List ℕ) (e : End) (receives : Receiv
   hears-unwritten code b is fails =
       let x = received (end.BadRequest code) is in
       idle-ended a m b waiting now x.read fails.tail (bad_front code) end.WriteFault x.moved x.grown
-      fails.wrote.moved (m, x.none_ahead, fails.wrote) fails.begins (inr fails.rose) (λ turns. inr (code, refl, x.finds, refl)) (λ q. absurd (let bad : ⊥ = cc in bad))
+      fails.wrote.moved (m, x.none_ahead, fails.wrote) fails.begins (inr fails.rose)
+      (λ turns. inr (code, refl, x.finds, refl)) (λ q. absurd (let bad : ⊥ = cc in bad))
       (λ q. fails.rose) (λ q. absurd (never-end end.WriteFault (λ p. cc) (λ p. cc) q))
 
   -- the fault has a phrase
@@ -76,13 +77,15 @@ module _ (a m : LinkState) (waiting now : List ℕ) (e : End) (receives : Receiv
   hears-lacking b is tried =
       let x = received end.OutOfMemory is in
       idle-ended a m b waiting now x.read tried.tail no_memory end.OutOfMemory x.moved x.grown tried.wrote.moved
-      (m, x.none_ahead, tried.wrote) tried.begins tried.whole (λ turns. (refl, inl (refl, x.finds))) (λ q. absurd (let bad : ⊥ = cc in bad))
+      (m, x.none_ahead, tried.wrote) tried.begins tried.whole (λ turns. (refl, inl (refl, x.finds)))
+      (λ q. absurd (let bad : ⊥ = cc in bad))
       (λ q. absurd (let bad : ⊥ = cc in bad)) (λ q. absurd (never-end end.OutOfMemory (λ p. cc) (λ p. cc) q))
 
 -- a link on which there was no memory to begin
 pub lacks-at_once : (a b : LinkState) → Tries a b no_memory → EndsIdle a b [] end.OutOfMemory
 lacks-at_once a b tried =
     idle-ended a a b [] [] [] tried.tail no_memory end.OutOfMemory (moved-nothing a) refl tried.wrote.moved
-    (a, ahead-nothing a [], tried.wrote) tried.begins tried.whole (λ turns. (refl, inl (refl, none-empty))) (λ q. absurd (let bad : ⊥ = cc in bad))
+    (a, ahead-nothing a [], tried.wrote) tried.begins tried.whole (λ turns. (refl, inl (refl, none-empty)))
+    (λ q. absurd (let bad : ⊥ = cc in bad))
     (λ q. absurd (let bad : ⊥ = cc in bad))
     (λ q. absurd (never-end end.OutOfMemory (λ p. cc) (λ p. cc) q))

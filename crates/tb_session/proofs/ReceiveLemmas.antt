@@ -27,7 +27,8 @@ unchanged before after piece grown none = grown ∙ ap (λ (l : List ℕ). befor
 
 -- there was no memory for a head with more than 32 headers
 pub receives-crowded : (a m : LinkState) (first read before : List ℕ) → Moved a m read [] → before ≡ first ++ read
-    → ReadsNoneAhead a m first read → RequestOverflows 32 (seen before) → Receives a m first before (Err end.OutOfMemory)
+    → ReadsNoneAhead a m first read → RequestOverflows 32 (seen before)
+    → Receives a m first before (Err end.OutOfMemory)
 receives-crowded a m first read before moved grown none over = record {
   read = read;
   moved = moved;

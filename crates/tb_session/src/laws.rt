@@ -43,9 +43,9 @@ pub fn one_code()
 {}
 
 /// The requests that a link served are cut from the bytes read, one after the other; and where it ended without a last
-/// request, no whole one is left. Unless memory ran out, or a read or a write of the link failed, all requests that came
-/// were answered: what was due is written whole, and the link ended where no whole request is left, or at one whose
-/// reply closes. It does nothing.
+/// request, no whole one is left. Unless memory ran out, or a read or a write of the link failed, all requests that
+/// came were answered: what was due is written whole, and the link ended where no whole request is left, or at one
+/// whose reply closes. It does nothing.
 pub fn all_served()
     ensures cut { (fixed : List ℕ) (turns : ℕ) (waiting : List ℕ) (old new : LinkState) (session : Session)
         → IsSession fixed turns waiting old new session

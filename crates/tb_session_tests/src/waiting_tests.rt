@@ -1,5 +1,5 @@
-//! A client that sends nothing more before it has its reply: it is answered only by a session that doesn't read on while
-//! a whole request waits.
+//! A client that sends nothing more before it has its reply: it is answered only by a session that doesn't read on
+//! while a whole request waits.
 
 use crate::tests::{
     FIRST, FIRST_REPLY, Memory, SHAPELESS, SHAPELESS_REPLY, joined, opened, serve_one,

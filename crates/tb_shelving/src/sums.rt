@@ -7,8 +7,8 @@ ghost use Rattle.tb_shelving.specs.Standings.{competitive_there, noncompetitive_
 use tb_shelf::Shelf;
 use tb_units::{Dollars, Ident};
 
-/// The par of the competitive bids of the bidder of a number in the auction's book, and of the noncompetitive ones. Both
-/// are zero where there is no book.
+/// The par of the competitive bids of the bidder of a number in the auction's book, and of the noncompetitive ones.
+/// Both are zero where there is no book.
 pub fn sums_of(shelf: &Shelf, auction: &Ident, number: u32) -> (Dollars, Dollars)
     ensures competitive { result.0.value ≡ competitive_there number (book_in shelf.now.books auction.now) }
     ensures noncompetitive { result.1.value ≡ noncompetitive_there number (book_in shelf.now.books auction.now) }

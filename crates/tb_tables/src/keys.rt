@@ -10,9 +10,9 @@ pub struct ByName;
 /// By a submitter's key.
 pub struct ByKey;
 
-/// By the number of a bid, its submitter and the auction. The number comes first, since few submitters have the same, and
-/// a comparison ends there. Rows are found by its order, and not by its hash: senders choose the numbers, and the seed of
-/// the hash is fixed, so that they could choose such as collide.
+/// By the number of a bid, its submitter and the auction. The number comes first, since few submitters have the same,
+/// and a comparison ends there. Rows are found by its order, and not by its hash: senders choose the numbers, and the
+/// seed of the hash is fixed, so that they could choose such as collide.
 pub struct ByNumber;
 
 /// By a bidder and the auction that it bids in.

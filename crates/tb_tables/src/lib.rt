@@ -1,4 +1,5 @@
-//! The tables of a history: what it says of each kind, in its order, found and counted by keys, with adds that can't fail.
+//! The tables of a history: what it says of each kind, in its order, found and counted by keys, with adds that can't
+//! fail.
 #![tactic(auto)]
 
 mod auctions;

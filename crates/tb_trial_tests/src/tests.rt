@@ -6,7 +6,8 @@ use std::process::Abort;
 use std::test::Fail;
 use tb_trial::trial;
 
-// The steps of the stop-out rate, the hundredths of the percentage, the millionths of the price and the dollars awarded.
+// The steps of the stop-out rate, the hundredths of the percentage, the millionths of the price and the dollars
+// awarded.
 fn figures(
     rt: &impl Abort,
     alloc: Global,

@@ -1,5 +1,5 @@
-//! Tests of tb_words through its public calls. They are a crate of their own, so that tb_words isn't proved a second time with
-//! them.
+//! Tests of tb_words through its public calls. They are a crate of their own, so that tb_words isn't proved a second
+//! time with them.
 #![tactic(auto)]
 
 #[cfg(test)]

@@ -29,8 +29,8 @@ add-requires-clause-writing g c =
     let start = c.args.writer.now in
     let within : c.loop-place.place < length c.args.host.now.history =
     omega (arith, c.loop-place-test.true, c.entries-place-end.ensures.entries) in
-    writing_more (take loop.place (map spelling entries)) start.ordinal start.place loop.writer.ordinal loop.writer.place
-    (d start.disk.now) (d loop.writer.disk.now)
+    writing_more (take loop.place (map spelling entries)) start.ordinal start.place loop.writer.ordinal
+    loop.writer.place (d start.disk.now) (d loop.writer.disk.now)
     (omega (arith, loop.invariant.ordinal, so_many spelling entries loop.place within)) loop.invariant.place
     loop.invariant.adds c.requires.writing
 
@@ -39,7 +39,9 @@ add-requires-clause-size g c =
     let entry = c.unwrap-entry.result in
     let within : c.loop-place.place < length c.args.host.now.history =
     omega (arith, c.loop-place-test.true, c.entries-place-end.ensures.entries) in
-    let is = entry_at c.args.host.now.history c.loop-place.place entry within (sym c.entry.ensures ∙ c.unwrap-entry.ensures) in
+    let is =
+    entry_at c.args.host.now.history c.loop-place.place entry within
+    (sym c.entry.ensures ∙ c.unwrap-entry.ensures) in
     subst IsPayload (sym (c.bytes.ensures.bytes ∙ c.put.ensures))
     (payload-one entry (subst IsInRange (sym is) (c.requires.sizes c.loop-place.place entry within)))
 

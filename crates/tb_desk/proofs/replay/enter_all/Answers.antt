@@ -55,8 +55,8 @@ frames-smaller g c =
     let next : ℕ = c.in-Ok-Some.next in
     let is = c.in-Ok-Some.field-0-is in
     let between : StandsBetweenIn form (j.gate now) place size next =
-    subst (λ (found : Option (ℕ × ℕ)). IfSome found (λ frame. StandsBetweenIn form (j.gate now) place frame.0 frame.1)) is
-    c.in-Ok-Some.ensures.between in
+    subst (λ (found : Option (ℕ × ℕ)). IfSome found (λ frame. StandsBetweenIn form (j.gate now) place frame.0 frame.1))
+    is c.in-Ok-Some.ensures.between in
     let behind : StandsAtIn form (j.disk new) (j.gate new) next =
     subst (λ (found : Option (ℕ × ℕ)). IfSome found (λ frame. StandsAtIn form (j.disk new) (j.gate new) frame.1)) is
     c.in-Ok-Some.ensures.next in
@@ -86,8 +86,8 @@ frames-preserved g c =
     subst (λ (found : Option (ℕ × ℕ)). IfSome found (λ frame. frame.0 ≡ length payload)) is
     c.in-Ok-Some.ensures.size in
     let between : StandsBetweenIn form (j.gate now) place size next =
-    subst (λ (found : Option (ℕ × ℕ)). IfSome found (λ frame. StandsBetweenIn form (j.gate now) place frame.0 frame.1)) is
-    c.in-Ok-Some.ensures.between in
+    subst (λ (found : Option (ℕ × ℕ)). IfSome found (λ frame. StandsBetweenIn form (j.gate now) place frame.0 frame.1))
+    is c.in-Ok-Some.ensures.between in
     record {
       sure = after.same.1 ∙ before.sure;
       gate = after.same.0 ∙ before.gate;

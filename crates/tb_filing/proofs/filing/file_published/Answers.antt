@@ -83,7 +83,8 @@ auctions-preserved g c =
     let tally = c.counted-tally.result in
     let here = sym c.in-Some.ensures in (
       omega (arith, within auctions place auction here),
-      subst (λ (front : List (List ℕ)). FilesAll history front tally old new) (sym (take-next auctions place auction here))
+      subst (λ (front : List (List ℕ)). FilesAll history front tally old new)
+          (sym (take-next auctions place auction here))
           (FilesAll-put history (take place auctions) c.auctions.tally tally old now new auction row added
           c.auctions.invariant.1 c.in_ok-row.ensures c.in_ok-added.ensures c.counted-tally.ensures),
       put-no_fault row added now new c.in_ok-added.ensures ∙ c.auctions.invariant.2,

@@ -38,7 +38,8 @@ returns-in-Ok-clause-ends g c = λ input.
           since = disk.since;
           counted = disk.counted;
         }),
-        SendsDesk-here c.args.from c.send_groups-ending.result _ _ (seen c.in-Ok.desk.disk) (seen closed.disk) first last
+        SendsDesk-here c.args.from c.send_groups-ending.result _ _ (seen c.in-Ok.desk.disk) (seen closed.disk) first
+            last
             IsHarmless begun.crash begun.no_fault (ap seen disk.disk) history (done.read.doubt ∙ begun.made.0) done.sent
             done.cause,
       );

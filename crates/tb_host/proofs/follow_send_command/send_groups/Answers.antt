@@ -27,8 +27,8 @@ groups-preserved g c =
       behind_next c.groups.desk.gate c.groups.at c.groups.before c.in-Ok.behind c.in-Ok-Some._size c.in-Ok-Some.next
           inv.6 sizes.0 (omega (arith, sizes.1, size, ap length c.payload.ensures)) between,
       groups-more seen c.args.desk.now c.groups.desk c.args.from c.groups.at c.groups.before (sink c.args.out.now)
-          (sink c.groups.out) inv.2 inv.3 inv.7 c.in-Ok-Some.next c.next_group.new.into.payload (sink c.send_group.new.out)
-          (rw c.in-Ok-Some.field-0-is at c.in-Ok-Some.ensures.group) c.in-Ok.behind
+          (sink c.groups.out) inv.2 inv.3 inv.7 c.in-Ok-Some.next c.next_group.new.into.payload
+          (sink c.send_group.new.out) (rw c.in-Ok-Some.field-0-is at c.in-Ok-Some.ensures.group) c.in-Ok.behind
           (λ group some in_range is. c.in-Ok.ensures.sends group some in_range (c.payload.ensures ∙ is)),
     )
 

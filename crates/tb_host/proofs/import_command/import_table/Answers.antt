@@ -32,7 +32,8 @@ returns-in-Ok-clause-ends g c =
 pub returns-in-Ok-clause-no_fault : goal.returns-in-Ok-clause-no_fault
 returns-in-Ok-clause-no_fault g c = λ is.
     let has = rows-read (g.I.Source.source c.args.input.now) (g.I.Source.source c.read_table.new.input)
-    c.read_table.result c.in-Ok.rows c.deref.result.now c.in-Ok.is c.deref.ensures.value c.read_table.ensures.answers in (
+    c.read_table.result c.in-Ok.rows c.deref.result.now c.in-Ok.is c.deref.ensures.value
+    c.read_table.ensures.answers in (
       has.table.no_fault,
       rows-no_fault c.args.sender.now (g.C.Clock.clock c.args.clock.now) (g.C.Clock.clock c.send_rows.new.clock)
           c.deref.result.now c.send_rows.result (g.O.Sink.sink c.args.out.now) (g.O.Sink.sink c.send_rows.new.out)

@@ -14,7 +14,8 @@ use Rattle.tb_host.proofs.ScriptLemmas.{
 use Rattle.tb_host.proofs.run_command.act_on_script.Goals as goal
 
 pub loop-read-init : goal.loop-read-init
-loop-read-init g c = (SoFar-start c.args.operator.now _ c.new-reader.ensures.empty c.new-reader.ensures.going, refl, refl)
+loop-read-init g c =
+    (SoFar-start c.args.operator.now _ c.new-reader.ensures.empty c.new-reader.ensures.going, refl, refl)
 
 pub loop-read-preserved : goal.loop-read-preserved
 loop-read-preserved g c =
@@ -74,7 +75,8 @@ returns-in-Some-clause-grown g c =
     } in
     HasGrown-end c.args.operator.now c.loop-read.read (g.I.Source.source c.args.input.now)
     (g.O.Sink.sink c.args.out.now) (standing (g.D.Disk.disk c.args.desk.now.disk) c.args.desk.now) now
-    c.loop-read.invariant.0 new c.act_on_next.ensures.alone c.act_on_next.ensures.once c.act_on_next.result c.act_on_next.ensures.ends
+    c.loop-read.invariant.0 new c.act_on_next.ensures.alone c.act_on_next.ensures.once c.act_on_next.result
+    c.act_on_next.ensures.ends
 
 pub returns-in-Some-clause-kept : goal.returns-in-Some-clause-kept
 returns-in-Some-clause-kept g c = (

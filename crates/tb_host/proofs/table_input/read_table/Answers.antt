@@ -18,4 +18,5 @@ returns-in-Err-BadRecord-clause-answers g c =
     c.read_bids.ensures in
     IsFirstBad-text c.in-Ok.text.items (g.I.Source.source c.args.input.now) (g.I.Source.source c.read_text.new.input)
     c.in-Err-BadRecord.record c.in-Ok.ensures.text
-    (subst (AnswersTable c.in-Ok.text.items) (c.in-Err-BadRecord.is ∙ ap Err c.in-Err-BadRecord.field-0-is) read) c.in-Ok.ensures.no_fault
+    (subst (AnswersTable c.in-Ok.text.items) (c.in-Err-BadRecord.is ∙ ap Err c.in-Err-BadRecord.field-0-is) read)
+    c.in-Ok.ensures.no_fault

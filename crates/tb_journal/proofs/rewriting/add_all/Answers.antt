@@ -28,7 +28,8 @@ add-requires-clause-size g c =
     let index = c.loop-payload.payload-index in
     let within = c.loop-payload-test.true in
     subst IsPayload (next_of (λ slice. slice.now) slices index none within)
-    (payload_in (map (λ slice. slice.now) slices) index (omega (arith, within, length-map slices (λ slice. slice.now))) c.requires.sizes)
+    (payload_in (map (λ slice. slice.now) slices) index (omega (arith, within, length-map slices (λ slice. slice.now)))
+    c.requires.sizes)
 
 pub add-requires-clause-end : goal.add-requires-clause-end
 add-requires-clause-end g c =
@@ -39,7 +40,8 @@ add-requires-clause-end g c =
       arith,
       c.requires.end,
       c.loop-payload.invariant.place,
-      frames_within c.args.writer.now.ordinal (map (λ slice. slice.now) slices) index (omega (arith, within, length-map slices (λ slice. slice.now))),
+      frames_within c.args.writer.now.ordinal (map (λ slice. slice.now) slices) index
+          (omega (arith, within, length-map slices (λ slice. slice.now))),
       ap length (next_of (λ slice. slice.now) slices index none within),
     )
 
@@ -68,8 +70,8 @@ loop-payload-preserved g c =
           (AddsAll list start.ordinal start.place)) (sym more)
           (told_more added payload start.ordinal start.place loop.writer.ordinal loop.writer.place
           (d start.disk.now) (d loop.writer.disk.now) (d c.add.new.self.disk.now)
-          (omega (arith, loop.invariant.ordinal, so_many (λ slice. slice.now) slices loop.payload-index within)) loop.invariant.place
-          loop.invariant.adds c.in_ok-add.ensures.adds);
+          (omega (arith, loop.invariant.ordinal, so_many (λ slice. slice.now) slices loop.payload-index within))
+          loop.invariant.place loop.invariant.adds c.in_ok-add.ensures.adds);
       place = omega (
         arith,
         c.in_ok-add.ensures.next.0,

@@ -7,7 +7,8 @@ pub returns-clause-ok : goal.returns-clause-ok
 unfolding Rattle.tb_journal.specs.Frames.title_of
 returns-clause-ok g c =
     let d = g.D.Disk.disk in
-    on_ok_map c.put.result (λ put. short_put (d c.args.disk.now) (d c.put.new.disk) put c.requires.short) c.put.ensures.ok
+    on_ok_map c.put.result (λ put. short_put (d c.args.disk.now) (d c.put.new.disk) put c.requires.short)
+    c.put.ensures.ok
 
 pub returns-clause-err : goal.returns-clause-err
 unfolding Rattle.tb_journal.specs.Frames.title_of

@@ -14,7 +14,8 @@ use Rattle.tb_ledger.proofs.crediting.credit_add_on.Goals as goal
 pub returns-in_default-clause-credits : goal.returns-in_default-clause-credits
 returns-in_default-clause-credits c bidding lines recognised given first is credits =
     let none = none-recognised bidding lines recognised
-    (subst (λ (o : Outcome). IsCutIn bidding lines recognised o) (none-cut c.args.outcome.now c.in_default.not-Cut) is) in
+    (subst (λ (o : Outcome). IsCutIn bidding lines recognised o) (none-cut c.args.outcome.now c.in_default.not-Cut)
+    is) in
     subst (λ (more : List Credit). CreditsBook c.args.security (given ++ more) first c.args.accounts.now)
     (sym (add_on_for-nothing c.args.submitters.now.list bidding c.args.add_on.now none))
     (subst (λ (all : List Credit). CreditsBook c.args.security all first c.args.accounts.now) (sym (append-nil given))

@@ -36,7 +36,9 @@ returns-in_default-find c =
 pub bids_in-requires : goal.bids_in-requires
 bids_in-requires c =
     let names = c.self.inside.names.list in
-    let has = λ (row : BidRow). (row.submitter == c.in-Some.submitter_place) && (row.auction == c.in-Some-find.auction_place) in
+    let has =
+    λ (row : BidRow). (row.submitter == c.in-Some.submitter_place)
+    && (row.auction == c.in-Some-find.auction_place) in
     let own : c.deref.result.now ≡ filter has c.self.inside.rows.list = c.deref.ensures.value ∙ c.in_ok-rows.ensures in
     rw c.rows.ensures (subst (λ (rows : List BidRow). All (IsBidRow names) rows) (sym own)
     (All-filter has (IsBidRow names) c.self.inside.rows.list c.self.invariant.0))

@@ -13,7 +13,8 @@ unfolding kept
 returns-in_err-place c =
     let inside = c.self.inside in
     let none : c.from_residual.result ≡ None = search rules in
-    rw (none, ← c.self.view_is) (sym (found_none inside.names.list inside.others.items c.args.submitter.now c.args.number
+    rw (none, ← c.self.view_is)
+    (sym (found_none inside.names.list inside.others.items c.args.submitter.now c.args.number
     inside.rows.list (sym c.find.ensures ∙ c.in_err-place.was) c.self.invariant.0))
 
 pub returns-in_err-row : goal.returns-in_err-row
@@ -35,7 +36,8 @@ entry_in-requires c =
     inside.rows.list ≡ Some c.in_ok-row.row.now =
     rw (← c.keyed.ensures) (sym c.get.ensures ∙ ap option_copied c.in_ok-row.was) in
     rw (c.rows.ensures, c.deref.ensures.value)
-    (found_is (IsRow inside.names.list inside.others.items) _ inside.rows.list c.in_ok-row.row.now row c.self.invariant.0)
+    (found_is (IsRow inside.names.list inside.others.items) _ inside.rows.list c.in_ok-row.row.now row
+    c.self.invariant.0)
 
 pub returns : goal.returns
 unfolding kept

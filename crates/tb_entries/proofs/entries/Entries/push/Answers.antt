@@ -29,4 +29,5 @@ invariant_of-self c = (
 )
 
 pub returns-clause-list : goal.returns-clause-list
-returns-clause-list c = (after c).entries_are ∙ ap (λ entries. entries ++ c.args.entry.now ∷ []) (λ i. (c.self.view_is i).list)
+returns-clause-list c =
+    (after c).entries_are ∙ ap (λ entries. entries ++ c.args.entry.now ∷ []) (λ i. (c.self.view_is i).list)

@@ -17,7 +17,8 @@ raise-requires-clause-fits c =
     )
 
 -- the offer that is found is open
-is_closing : (c : goal.After-lower-2) → IsClosing c.args.seller c.args.number c.self.inside.offers.elements c.in-Some.kept
+is_closing : (c : goal.After-lower-2) → IsClosing c.args.seller c.args.number c.self.inside.offers.elements
+    c.in-Some.kept
 is_closing c =
     let there = rw (← c.self.view_is) at c.requires.there in
     closing c.args.seller c.args.number c.self.inside.offers.elements c.in-Some.kept there.0

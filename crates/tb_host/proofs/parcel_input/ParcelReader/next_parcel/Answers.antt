@@ -11,7 +11,8 @@ pub returns-in-Whole-clause-finds : goal.returns-in-Whole-clause-finds
 returns-in-Whole-clause-finds g c = λ text told.
     finds-whole c.front.self.bytes.items c.front.self.at c.in-Whole.size (g.I.Source.source c.front.input).left text []
     c.in-Whole.parcel (c.front.invariant.0 ∙ told)
-    (subst (λ (bytes : List ℕ). BeginsWith bytes c.in-Whole.parcel c.in-Whole.size) c.ungiven.ensures c.in-Whole.ensures)
+    (subst (λ (bytes : List ℕ). BeginsWith bytes c.in-Whole.parcel c.in-Whole.size) c.ungiven.ensures
+    c.in-Whole.ensures)
 
 pub returns-in-Bad-clause-finds : goal.returns-in-Bad-clause-finds
 returns-in-Bad-clause-finds g c = λ text told.

@@ -23,5 +23,6 @@ invariant_of-self g c =
         ← c.key_of-key.ensures,
       )
           (AreLinks-push g.Or.Key.PartialEq.eq (map key_of rows) c.self.inside.links.items c.key_of-key.result
-          c.add_end-link.result c.self.invariant.2 (c.add_end-link.ensures.before (map key_of rows) c.self.invariant.1)),
+          c.add_end-link.result c.self.invariant.2 (c.add_end-link.ensures.before (map key_of rows)
+          c.self.invariant.1)),
     )
