@@ -1,10 +1,10 @@
 //! Bids as lines in order, for those who keep no book.
-ghost use Rattle.std.specs.Prelude.{◌≡◌, ◌+◌, ◌<◌, length, slice_index_or, IfOk};
+ghost use Rattle.std.specs.Prelude.{◌≡◌, ◌+◌, ◌<◌, length, slice_index_or};
 ghost use Rattle.std.specs.List.Sorted.{IsPermutation};
 
 use std::marker::Model;
 use std::sync::ledger::Ledger;
-use tb_units::{Lines, OutOfMemory, RateLine, Steps};
+use tb_units::{Lines, RateLine, Steps};
 
 /// Lines in rising rate, and at one rate in rising number of the bidder.
 #[derive(Drop)]
@@ -25,13 +25,13 @@ impl Model for SortedLines {
 }
 
 impl SortedLines {
-    /// Puts lines in order. `OutOfMemory` where the memory for that is wanting.
-    pub fn new(lines: Vec<RateLine>) -> Result<SortedLines, OutOfMemory>
-        ensures { IfOk result (IsPermutation lines.items) }
+    /// Puts lines in order, where they stand.
+    pub fn new(lines: Vec<RateLine>) -> SortedLines
+        ensures { IsPermutation lines.items result }
     {
         let mut lines = lines;
-        lines.sort_by_key(|line| (line.rate.steps, line.bidder))?;
-        Ok(SortedLines { lines })
+        lines.sort_unstable_by_key(|line| (line.rate.steps, line.bidder));
+        SortedLines { lines }
     }
 }
 

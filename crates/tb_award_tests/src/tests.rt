@@ -51,7 +51,7 @@ fn sorted_bids_of(
     ensures { IfOk result (λ bids. All (λ line. line.bidder < bidders) bids) }
 {
     let bids = bids_of(rt, alloc, bidders, table)?;
-    SortedLines::new(bids)
+    Ok(SortedLines::new(bids))
 }
 
 // What is recognised of the bids (steps, bidder, amount), whose bidders have these positions.

@@ -80,7 +80,7 @@ fn recognise_lines(
         recognised.lines) }
     ensures within { IfOk result (λ recognised. total_of recognised.lines ≤ total_of lines.items) }
 {
-    let sorted = SortedLines::new(lines)?;
+    let sorted = SortedLines::new(lines);
     recognise_uncounted(alloc, &sorted, positions, offering)
 }
 

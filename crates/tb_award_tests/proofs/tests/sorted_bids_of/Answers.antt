@@ -1,13 +1,9 @@
 -- Sorted bids are the same bids.
 use Rattle.std.proofs.Common.{◌<◌}
 use Rattle.std.proofs.lemmas.List.Sorted.{All-permutation}
-use Rattle.std.proofs.lemmas.Result.{IfOk-weaker}
 use Rattle.tb_units.specs.declared.lines.RateLine.{RateLine}
 use Rattle.tb_award_tests.proofs.tests.sorted_bids_of.Goals as goal
 
 pub returns : goal.returns
-returns g c =
-    IfOk-weaker c.new.result _ _
-    (λ sorted same. All-permutation
-    (λ (line : RateLine). line.bidder < c.args.bidders) c.in_ok-bids.bids.items sorted same c.in_ok-bids.ensures)
-    c.new.ensures
+returns g c = All-permutation (λ (line : RateLine). line.bidder < c.args.bidders) c.in_ok-bids.bids.items
+    c.new.result c.new.ensures c.in_ok-bids.ensures
