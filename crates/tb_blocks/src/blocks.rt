@@ -8,7 +8,7 @@ ghost use Rattle.tb_blocks.specs.Orders.{PartsAt};
 use crate::block::BLOCK;
 use crate::large::Large;
 use crate::room::MOST_ADDS;
-use crate::search::{Keyed, place_in};
+use crate::search::{Keyed, Spot, place_in};
 use std::alloc::{AllocError, Global};
 use std::marker::Model;
 use std::mem;
@@ -105,9 +105,17 @@ impl<T: Drop> Blocks<T> {
         requires { place < length self.now.elements }
         ensures { result.now ≡ slice_index_or self.now.elements place result.now }
     {
+        self.at_spot(Spot::at(place))
+    }
+
+    /// The element at the spot.
+    pub fn at_spot(&self, spot: Spot) -> &T
+        requires { spot.place < length self.now.elements }
+        ensures { result.now ≡ slice_index_or self.now.elements spot.place result.now }
+    {
         match &self.large {
-            None => &self.small[place],
-            Some(large) => large.at(place),
+            None => &self.small[spot.place],
+            Some(large) => large.at(spot.place, spot.block),
         }
     }
 
@@ -122,58 +130,58 @@ impl<T: Drop> Blocks<T> {
         }
     }
 
-    /// Puts the element at the place, which can't fail.
-    pub fn insert(&mut self, place: usize, element: T)
+    /// Puts the element at the spot, which can't fail.
+    pub fn insert_at(&mut self, spot: Spot, element: T)
         requires room { 0 < self.old.spare }
-        requires within { place ≤ length self.old.elements }
-        ensures elements { self.new.elements ≡ insert self.old.elements place element }
+        requires within { spot.place ≤ length self.old.elements }
+        ensures elements { self.new.elements ≡ insert self.old.elements spot.place element }
         ensures spare { self.new.spare + 1 ≡ self.old.spare }
     {
         match &mut self.large {
             None => {
-                self.small.insert(place, element).unwrap();
+                self.small.insert(spot.place, element).unwrap();
                 self.spare -= 1;
             }
-            Some(large) => large.insert(place, element),
+            Some(large) => large.insert(spot.place, spot.block, element),
         }
     }
 
-    /// Takes the element at the place out. As many adds are sure as before.
-    pub fn remove(&mut self, place: usize) -> T
-        requires { place < length self.old.elements }
-        ensures value { result ≡ slice_index_or self.old.elements place result }
-        ensures elements { self.new.elements ≡ remove self.old.elements place }
+    /// Takes the element at the spot out. As many adds are sure as before.
+    pub fn remove_at(&mut self, spot: Spot) -> T
+        requires { spot.place < length self.old.elements }
+        ensures value { result ≡ slice_index_or self.old.elements spot.place result }
+        ensures elements { self.new.elements ≡ remove self.old.elements spot.place }
         ensures spare { self.new.spare ≡ self.old.spare }
     {
         match &mut self.large {
-            None => self.small.remove(place),
-            Some(large) => large.remove(place),
+            None => self.small.remove(spot.place),
+            Some(large) => large.remove(spot.place, spot.block),
         }
     }
 
-    /// Puts another element at the place, and gives the one that stood there.
-    pub fn replace(&mut self, place: usize, element: T) -> T
-        requires { place < length self.old.elements }
-        ensures value { result ≡ slice_index_or self.old.elements place result }
-        ensures elements { self.new.elements ≡ set self.old.elements place element }
+    /// Puts another element at the spot, and gives the one that stood there.
+    pub fn replace_at(&mut self, spot: Spot, element: T) -> T
+        requires { spot.place < length self.old.elements }
+        ensures value { result ≡ slice_index_or self.old.elements spot.place result }
+        ensures elements { self.new.elements ≡ set self.old.elements spot.place element }
         ensures spare { self.new.spare ≡ self.old.spare }
     {
         match &mut self.large {
-            None => mem::replace(&mut self.small[place], element),
-            Some(large) => large.replace(place, element),
+            None => mem::replace(&mut self.small[spot.place], element),
+            Some(large) => large.replace(spot.place, spot.block, element),
         }
     }
 }
 
 impl<T: Keyed + Drop> Blocks<T> {
-    /// How many elements stand before the key, where those come first.
-    pub fn place_of(&self, key: &T::Key) -> usize
-        ensures within { result ≤ length self.now.elements }
-        ensures place { PartsAt T.Key.cmp T.key_of key.now self.now.elements result }
+    /// The spot before which the elements stand before the key, where those come first.
+    pub fn spot_of(&self, key: &T::Key) -> Spot
+        ensures within { result.place ≤ length self.now.elements }
+        ensures place { PartsAt T.Key.cmp T.key_of key.now self.now.elements result.place }
     {
         match &self.large {
-            None => place_in(&self.small, key),
-            Some(large) => large.place_of(key),
+            None => Spot::at(place_in(&self.small, key)),
+            Some(large) => large.spot_of(key),
         }
     }
 }
@@ -209,6 +217,6 @@ fn move_all<T: Drop>(small: &mut Vec<T>, large: &mut Large<T>)
     small.reverse();
     while let Some(element) = small.pop() {
         let end = large.len();
-        large.insert(end, element);
+        large.insert(end, 0, element);
     }
 }

@@ -10,7 +10,7 @@ use crate::block::{BLOCK, Block, HALF};
 use crate::pool::Pool;
 use crate::room::{MOST_ADDS, fill, needed, pace_for, progress_at, progress_of};
 use crate::rows::Rows;
-use crate::search::Keyed;
+use crate::search::{Keyed, Spot};
 use std::alloc::{AllocError, Global};
 use std::marker::Model;
 
@@ -106,12 +106,12 @@ impl<T: Drop> Large<T> {
         self.rows.blocks.len() + free
     }
 
-    /// The element at the place.
-    pub fn at(&self, place: usize) -> &T
+    /// The element at the place, and a guess at its block.
+    pub fn at(&self, place: usize, guess: usize) -> &T
         requires { place < length self.now.elements }
         ensures { result.now ≡ slice_index_or self.now.elements place result.now }
     {
-        self.rows.at(place)
+        self.rows.at(place, guess)
     }
 
     /// The elements from the place on, as far as they stand together.
@@ -122,51 +122,59 @@ impl<T: Drop> Large<T> {
         self.rows.run_from(place)
     }
 
-    /// Puts the element at the place, which can't fail.
-    pub fn insert(&mut self, place: usize, element: T)
+    /// Puts the element at the place, whose block is guessed, which can't fail.
+    pub fn insert(&mut self, place: usize, guess: usize, element: T)
         requires room { 0 < self.old.spare }
         requires within { place ≤ length self.old.elements }
         ensures elements { self.new.elements ≡ insert self.old.elements place element }
         ensures spare { self.new.spare + 1 ≡ self.old.spare }
     {
-        let way = make_way(&mut self.rows, &mut self.pool, place, self.pace, self.spare);
+        let at = self.rows.block_of(place, guess);
+        let way = make_way(
+            &mut self.rows,
+            &mut self.pool,
+            at,
+            place,
+            self.pace,
+            self.spare,
+        );
         self.rows.put(way.at, place, element);
         self.pace = way.pace;
         self.spare -= 1;
     }
 
-    /// Takes the element at the place out. As many adds are sure as before.
-    pub fn remove(&mut self, place: usize) -> T
+    /// Takes the element at the place out, whose block is guessed. As many adds are sure as before.
+    pub fn remove(&mut self, place: usize, guess: usize) -> T
         requires { place < length self.old.elements }
         ensures value { result ≡ slice_index_or self.old.elements place result }
         ensures elements { self.new.elements ≡ remove self.old.elements place }
         ensures spare { self.new.spare ≡ self.old.spare }
     {
-        let at = self.rows.block_of(place);
+        let at = self.rows.block_of(place, guess);
         let element = self.rows.take(at, place);
         free_empty(&mut self.rows, &mut self.pool, at);
         element
     }
 
-    /// Puts another element at the place, and gives the one that stood there.
-    pub fn replace(&mut self, place: usize, element: T) -> T
+    /// Puts another element at the place, whose block is guessed, and gives the one that stood there.
+    pub fn replace(&mut self, place: usize, guess: usize, element: T) -> T
         requires { place < length self.old.elements }
         ensures value { result ≡ slice_index_or self.old.elements place result }
         ensures elements { self.new.elements ≡ set self.old.elements place element }
         ensures spare { self.new.spare ≡ self.old.spare }
     {
-        let at = self.rows.block_of(place);
+        let at = self.rows.block_of(place, guess);
         self.rows.replace(at, place, element)
     }
 }
 
 impl<T: Keyed + Drop> Large<T> {
-    /// How many elements stand before the key, where those come first.
-    pub fn place_of(&self, key: &T::Key) -> usize
-        ensures within { result ≤ length self.now.elements }
-        ensures place { PartsAt T.Key.cmp T.key_of key.now self.now.elements result }
+    /// The place before which the elements stand before the key, where those come first.
+    pub fn spot_of(&self, key: &T::Key) -> Spot
+        ensures within { result.place ≤ length self.now.elements }
+        ensures place { PartsAt T.Key.cmp T.key_of key.now self.now.elements result.place }
     {
-        self.rows.place_of(key)
+        self.rows.spot_of(key)
     }
 }
 
@@ -177,16 +185,18 @@ struct Way {
     pace: usize,
 }
 
-// Makes way for an element at the place.
+// Makes way for an element at the place, which goes into this block.
 fn make_way<T: Drop>(
     rows: &mut Rows<T>,
     pool: &mut Pool<T>,
+    at: usize,
     place: usize,
     pace: usize,
     spare: usize,
 ) -> Way
-    requires some { 0 < length rows.old.blocks.items }
-    requires within { place ≤ length (joined rows.old.blocks.items) }
+    requires at { at < length rows.old.blocks.items }
+    requires low { before at rows.old.blocks.items ≤ place }
+    requires high { place ≤ before (at + 1) rows.old.blocks.items }
     requires filled { AreFilled rows.old.blocks.items }
     requires positive { 0 < spare }
     requires pace { IsPace pace }
@@ -200,7 +210,6 @@ fn make_way<T: Drop>(
     ensures filled { (block : List T) → 0 < length block → AreFilled (set rows.new.blocks.items result.at block) }
     ensures sure { IsSureAfter result.at result.pace (spare - 1) rows.new.blocks.items (length pool.new.free.items) }
 {
-    let at = rows.block_of(place);
     if rows.blocks[at].len() < BLOCK {
         return Way { at, pace };
     }

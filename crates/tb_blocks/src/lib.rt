@@ -16,4 +16,4 @@ mod tests;
 
 pub use blocks::Blocks;
 pub use ordered::Ordered;
-pub use search::Keyed;
+pub use search::{Keyed, Spot};

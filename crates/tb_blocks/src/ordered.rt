@@ -6,7 +6,7 @@ ghost use Rattle.tb_blocks.specs.Lists.{IsRun};
 ghost use Rattle.tb_blocks.specs.Orders.{AreOrdered, HasKey, HasKeyAt, IsInserted, IsPlaceOf, IsRemoved, PartsAt};
 
 use crate::blocks::Blocks;
-use crate::search::{Keyed, has_key};
+use crate::search::{Keyed, Spot, has_key};
 use std::alloc::{AllocError, Global};
 use std::marker::Model;
 
@@ -87,29 +87,37 @@ impl<T: Keyed + Drop> Ordered<T> {
         ensures within { result ≤ length self.now.elements }
         ensures place { IsPlaceOf T.Key.cmp T.key_of key.now self.now.elements result }
     {
-        self.list.place_of(key)
+        self.list.spot_of(key).place
     }
 
-    // The place of the element with the key. `Err` has where the key belongs, where there is no such element.
-    fn seek(&self, key: &T::Key) -> Result<usize, usize>
-        ensures found { IfOk result (λ place. HasKeyAt T.Key.cmp T.key_of key.now self.now.elements place) }
+    // The spot of the element with the key. `Err` has where the key belongs, where there is no such element.
+    fn seek(&self, key: &T::Key) -> Result<Spot, Spot>
+        ensures found { IfOk result (λ spot. HasKeyAt T.Key.cmp T.key_of key.now self.now.elements spot.place) }
         ensures none { OnErr result (¬ (HasKey T.Key.cmp T.key_of key.now self.now.elements)) }
-        ensures within { IfErr result (λ place. place ≤ length self.now.elements) }
-        ensures place { IfErr result (λ place. PartsAt T.Key.cmp T.key_of key.now self.now.elements place) }
+        ensures within { IfErr result (λ spot. spot.place ≤ length self.now.elements) }
+        ensures place { IfErr result (λ spot. PartsAt T.Key.cmp T.key_of key.now self.now.elements spot.place) }
     {
-        let place = self.list.place_of(key);
-        if place < self.list.len() && has_key(self.list.at(place), key) {
-            return Ok(place);
+        let spot = self.list.spot_of(key);
+        if spot.place < self.list.len() && has_key(self.list.at_spot(spot), key) {
+            return Ok(spot);
         }
-        Err(place)
+        Err(spot)
     }
 
-    /// The place of the element with the key. `None` where there is no such element.
-    pub fn find(&self, key: &T::Key) -> Option<usize>
+    /// The spot of the element with the key. `None` where there is no such element.
+    pub fn find(&self, key: &T::Key) -> Option<Spot>
         ensures none { IsNone result ↔ (¬ (HasKey T.Key.cmp T.key_of key.now self.now.elements)) }
-        ensures found { IfSome result (λ place. HasKeyAt T.Key.cmp T.key_of key.now self.now.elements place) }
+        ensures found { IfSome result (λ spot. HasKeyAt T.Key.cmp T.key_of key.now self.now.elements spot.place) }
     {
         self.seek(key).ok()
+    }
+
+    /// The element at the spot.
+    pub fn at_spot(&self, spot: Spot) -> &T
+        requires { spot.place < length self.now.elements }
+        ensures { result.now ≡ slice_index_or self.now.elements spot.place result.now }
+    {
+        self.list.at_spot(spot)
     }
 
     /// Puts in an element whose key no other has, which can't fail.
@@ -121,8 +129,8 @@ impl<T: Keyed + Drop> Ordered<T> {
         ensures spare { self.new.spare + 1 ≡ self.old.spare }
     {
         let key = element.key();
-        let place = self.list.place_of(&key);
-        self.list.insert(place, element);
+        let spot = self.list.spot_of(&key);
+        self.list.insert_at(spot, element);
     }
 
     /// Puts in an element where no other has its key, which can't fail, and tells whether it did.
@@ -137,8 +145,8 @@ impl<T: Keyed + Drop> Ordered<T> {
         let key = element.key();
         match self.seek(&key) {
             Ok(_) => false,
-            Err(place) => {
-                self.list.insert(place, element);
+            Err(spot) => {
+                self.list.insert_at(spot, element);
                 true
             }
         }
@@ -153,19 +161,19 @@ impl<T: Keyed + Drop> Ordered<T> {
         ensures ordered { AreOrdered T.Key.cmp T.key_of self.new.elements }
         ensures spare { self.new.spare ≡ self.old.spare }
     {
-        let place = self.find(key)?;
-        Some(self.list.remove(place))
+        let spot = self.find(key)?;
+        Some(self.list.remove_at(spot))
     }
 
-    /// Puts another element of the same key at the place, and gives the one that stood there. It needs no room.
-    pub fn replace(&mut self, place: usize, element: T) -> T
-        requires within { place < length self.old.elements }
-        requires same { HoldsAt (λ other. T.key_of element ≡ T.key_of other) self.old.elements place }
-        ensures value { result ≡ slice_index_or self.old.elements place result }
-        ensures elements { self.new.elements ≡ set self.old.elements place element }
+    /// Puts another element of the same key at the spot, and gives the one that stood there. It needs no room.
+    pub fn replace_at(&mut self, spot: Spot, element: T) -> T
+        requires within { spot.place < length self.old.elements }
+        requires same { HoldsAt (λ other. T.key_of element ≡ T.key_of other) self.old.elements spot.place }
+        ensures value { result ≡ slice_index_or self.old.elements spot.place result }
+        ensures elements { self.new.elements ≡ set self.old.elements spot.place element }
         ensures ordered { AreOrdered T.Key.cmp T.key_of self.new.elements }
         ensures spare { self.new.spare ≡ self.old.spare }
     {
-        self.list.replace(place, element)
+        self.list.replace_at(spot, element)
     }
 }

@@ -1,5 +1,5 @@
 //! The blocks of a list, with the number of elements before each.
-ghost use Rattle.std.specs.Prelude.{◌≡◌, ℕ, ◌+◌, ◌-◌, ◌*◌, ◌^◌, ◌<◌, ◌≤◌, ◌++◌, ◌∷◌, [], OnOk, length, set, take, drop, slice_index, slice_index_or, vec_len, vec_capacity};
+ghost use Rattle.std.specs.Prelude.{◌≡◌, true, ℕ, ◌+◌, ◌-◌, ◌*◌, ◌^◌, ◌<◌, ◌≤◌, ◌++◌, ◌∷◌, [], OnOk, length, set, take, drop, slice_index, slice_index_or, vec_len, vec_capacity};
 ghost use Rattle.std.specs.List.{insert, remove};
 ghost use Rattle.tb_blocks.specs.Sizes.{block_size, half_size, most_blocks, full_of};
 ghost use Rattle.tb_blocks.specs.Rows.{joined, before, block_at, halves, put_in, taken_from, replaced_in, AreRows};
@@ -75,8 +75,21 @@ impl<T: Drop> Rows<T> {
         self.groups[at / GROUP] + self.starts[at]
     }
 
-    /// The block that holds the place, or that an element at the place goes into.
-    pub fn block_of(&self, place: usize) -> usize
+    // Whether there is such a block, and the place is in it.
+    fn is_in(&self, block: usize, place: usize) -> bool
+        ensures { result ≡ true → (block < length self.now.blocks.items) × (before block self.now.blocks.items ≤ place)
+            × (place < before (block + 1) self.now.blocks.items) }
+    {
+        if block >= self.blocks.len() {
+            return false;
+        }
+        let start = self.start(block);
+        start <= place && place - start < self.blocks[block].len()
+    }
+
+    /// The block that holds the place, or that an element at the place goes into. The one that is guessed is looked at
+    /// first.
+    pub fn block_of(&self, place: usize, guess: usize) -> usize
         requires some { 0 < length self.now.blocks.items }
         requires within { place ≤ length (joined self.now.blocks.items) }
         ensures at { result < length self.now.blocks.items }
@@ -85,6 +98,9 @@ impl<T: Drop> Rows<T> {
         ensures inside { place < length (joined self.now.blocks.items)
             → place < before (result + 1) self.now.blocks.items }
     {
+        if self.is_in(guess, place) {
+            return guess;
+        }
         let (mut low, mut high) = (0, self.blocks.len());
         // The last block is looked at first: elements often go in behind all others.
         let mut middle = high - 1;
@@ -108,12 +124,12 @@ impl<T: Drop> Rows<T> {
         }
     }
 
-    /// The element at the place.
-    pub fn at(&self, place: usize) -> &T
+    /// The element at the place, and a guess at its block.
+    pub fn at(&self, place: usize, guess: usize) -> &T
         requires { place < length (joined self.now.blocks.items) }
         ensures { result.now ≡ slice_index_or (joined self.now.blocks.items) place result.now }
     {
-        let at = self.block_of(place);
+        let at = self.block_of(place, guess);
         self.blocks[at].at(place - self.start(at))
     }
 
@@ -122,7 +138,7 @@ impl<T: Drop> Rows<T> {
         requires { place < length (joined self.now.blocks.items) }
         ensures { IsRun place (joined self.now.blocks.items) result.now }
     {
-        let at = self.block_of(place);
+        let at = self.block_of(place, 0);
         &self.blocks[at].elements()[place - self.start(at)..]
     }
 

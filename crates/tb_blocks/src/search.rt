@@ -16,6 +16,22 @@ pub trait Keyed {
         ensures { result ≡ key_of self.now };
 }
 
+/// A place in a list, and a guess at the block that has it: where the guess is right, nothing is searched again.
+#[derive(Clone, Copy)]
+pub struct Spot {
+    pub place: usize,
+    pub block: usize,
+}
+
+impl Spot {
+    /// The place, of whose block nothing is known.
+    pub fn at(place: usize) -> Spot
+        ensures { result.place ≡ place }
+    {
+        Spot { place, block: 0 }
+    }
+}
+
 // The element stands before the key.
 fn is_below<T: Keyed>(element: &T, key: &T::Key) -> bool
     ensures { result ≡ is_below T.Key.cmp T.key_of key.now element.now }
@@ -50,13 +66,13 @@ pub fn place_in<T: Keyed>(elements: &[T], key: &T::Key) -> usize
 }
 
 impl<T: Keyed + Drop> Rows<T> {
-    /// How many elements stand before the key, where those come first. The blocks are searched by their first elements,
-    /// and then one of them.
-    pub fn place_of(&self, key: &T::Key) -> usize
+    /// The place before which the elements stand before the key, where those come first. The blocks are searched by
+    /// their first elements, and then one of them.
+    pub fn spot_of(&self, key: &T::Key) -> Spot
         requires some { 0 < length self.now.blocks.items }
         requires filled { AreFilled self.now.blocks.items }
-        ensures within { result ≤ length (joined self.now.blocks.items) }
-        ensures place { PartsAt T.Key.cmp T.key_of key.now (joined self.now.blocks.items) result }
+        ensures within { result.place ≤ length (joined self.now.blocks.items) }
+        ensures place { PartsAt T.Key.cmp T.key_of key.now (joined self.now.blocks.items) result.place }
     {
         let (mut low, mut high) = (0, self.blocks.len());
         let mut middle = high - 1;
@@ -68,6 +84,9 @@ impl<T: Keyed + Drop> Rows<T> {
             }
             middle = low + (high - low) / 2;
         }
-        self.start(low) + place_in(self.blocks[low].elements(), key)
+        Spot {
+            place: self.start(low) + place_in(self.blocks[low].elements(), key),
+            block: low,
+        }
     }
 }

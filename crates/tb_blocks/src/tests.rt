@@ -9,7 +9,7 @@ fn blocks_for(alloc: Global, elements: u64, more: usize) -> Result<usize, Fail> 
     for element in 0..elements {
         list.reserve(1)?;
         let end = list.len();
-        list.insert(end, element);
+        list.insert(end, 0, element);
     }
     list.reserve(more)?;
     Ok(list.blocks())
@@ -52,7 +52,7 @@ fn rising_and_falling_elements_fill_their_blocks(rt: HostRuntime) -> Result<(), 
         for element in 0..2_560u64 {
             list.reserve(1)?;
             let place = if rising { list.len() } else { 0 };
-            list.insert(place, element);
+            list.insert(place, 0, element);
         }
         // Ten full ones, and the one that an add to a full one could need.
         assert_eq!(rt; list.blocks(), 11);

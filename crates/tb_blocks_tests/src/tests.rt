@@ -52,7 +52,7 @@ fn insert(
     if place > list.len() || place > plain.len() {
         return Ok(false);
     }
-    list.insert(place, element);
+    list.insert_at(Spot::at(place), element);
     plain.insert(place, element)?;
     Ok(true)
 }
@@ -63,7 +63,7 @@ fn replace(list: &mut Blocks<u64>, plain: &mut Vec<u64>, seed: usize, element: u
     if place >= list.len() || place >= plain.len() {
         return false;
     }
-    let same = list.replace(place, element) == plain[place];
+    let same = list.replace_at(Spot::at(place), element) == plain[place];
     plain[place] = element;
     same
 }
@@ -71,7 +71,9 @@ fn replace(list: &mut Blocks<u64>, plain: &mut Vec<u64>, seed: usize, element: u
 // Whether the element that is removed is the same.
 fn remove(list: &mut Blocks<u64>, plain: &mut Vec<u64>, seed: usize) -> bool {
     let place = place_below(seed, plain.len());
-    place < list.len() && place < plain.len() && list.remove(place) == plain.remove(place)
+    place < list.len()
+        && place < plain.len()
+        && list.remove_at(Spot::at(place)) == plain.remove(place)
 }
 
 #[test]
@@ -181,14 +183,18 @@ fn is_in_order(loans: &Ordered<Loan>) -> bool {
     true
 }
 
+fn place_of_loan(loans: &Ordered<Loan>, number: u64) -> Option<usize> {
+    Some(loans.find(&number)?.place)
+}
+
 #[test]
 fn loans_stand_in_the_order_of_their_numbers(rt: HostRuntime) -> Result<(), Fail> {
     let loans = five_thousand_loans(&rt)?;
     assert!(rt; loans.len() == 5000 && is_in_order(&loans));
     // Of the numbers below 5,003 the remainders of 1,999 times 5,000, 5,001 and 5,002 are missing: 4,009, 1,005, 3,004.
-    assert!(rt; loans.find(&1004) == Some(1004));
-    assert!(rt; loans.find(&1005) == None);
-    assert!(rt; loans.find(&3005) == Some(3003));
+    assert!(rt; place_of_loan(&loans, 1004) == Some(1004));
+    assert!(rt; place_of_loan(&loans, 1005) == None);
+    assert!(rt; place_of_loan(&loans, 3005) == Some(3003));
     assert!(rt; loans.place_of(&5003) == 5000);
     Ok(())
 }
@@ -231,7 +237,7 @@ fn stands_at(run: &[Note], place: usize, year: u32, page: u32) -> bool {
 
 // Where the note of this year and page stands.
 fn place_of(notes: &Ordered<Note>, year: u32, page: u32) -> Option<usize> {
-    notes.find(&Note { year, page }.key())
+    Some(notes.find(&Note { year, page }.key())?.place)
 }
 
 #[test]
@@ -272,12 +278,12 @@ fn want_of_memory_leaves_the_list(rt: HostRuntime) -> Result<(), Fail> {
     let mut list = Blocks::new(rt.alloc());
     for step in 0..1000u64 {
         list.reserve(1)?;
-        list.insert(0, step);
+        list.insert_at(Spot::at(0), step);
     }
     assert!(rt; list.reserve(usize::MAX).is_err());
     // It succeeds, or fails where an allocation is made to fail.
     let _ = list.reserve(5000);
     assert!(rt; list.len() == 1000 && *list.at(999) == 0);
-    assert!(rt; list.remove(0) == 999);
+    assert!(rt; list.remove_at(Spot::at(0)) == 999);
     Ok(())
 }

@@ -30,8 +30,8 @@ pub fn totals_of(bidders: &Ordered<Bidder>, bidder: u32) -> (u128, u128)
     ensures noncompetitive { result.1 ≡ total_of (λ entry. entry.noncompetitive) bidder bidders.now.elements }
 {
     match bidders.find(&bidder) {
-        Some(place) => {
-            let entry = *bidders.at(place);
+        Some(spot) => {
+            let entry = *bidders.at_spot(spot);
             (entry.competitive, entry.noncompetitive)
         }
         None => (0, 0),
@@ -53,14 +53,14 @@ pub fn raise(bidders: &mut Ordered<Bidder>, bidder: u32, competitive: u128, nonc
     ensures room { bidders.old.spare ≤ bidders.new.spare + 1 }
 {
     match bidders.find(&bidder) {
-        Some(place) => {
-            let before = *bidders.at(place);
+        Some(spot) => {
+            let before = *bidders.at_spot(spot);
             let entry = Bidder {
                 bidder,
                 competitive: before.competitive + competitive,
                 noncompetitive: before.noncompetitive + noncompetitive,
             };
-            bidders.replace(place, entry);
+            bidders.replace_at(spot, entry);
         }
         None => bidders.insert(Bidder {
             bidder,
@@ -82,13 +82,13 @@ pub fn lower(bidders: &mut Ordered<Bidder>, bidder: u32, competitive: u128, nonc
     ensures apart { AreOfBidders bidders.new.elements }
     ensures room { bidders.new.spare ≡ bidders.old.spare }
 {
-    if let Some(place) = bidders.find(&bidder) {
-        let before = *bidders.at(place);
+    if let Some(spot) = bidders.find(&bidder) {
+        let before = *bidders.at_spot(spot);
         let entry = Bidder {
             bidder,
             competitive: before.competitive - competitive,
             noncompetitive: before.noncompetitive - noncompetitive,
         };
-        bidders.replace(place, entry);
+        bidders.replace_at(spot, entry);
     }
 }

@@ -1,5 +1,5 @@
 -- The host's tables stay tied, and its room is what it was, or is longer, or less by one.
-use Rattle.std.proofs.Common.{◌≡◌, ℕ, ◌+◌, ◌-◌, ◌*◌, ◌^◌, ◌<◌, ◌≤◌, ◌++◌, max, true, refl, inl, inr, List, [], ◌∷◌, length, length-append, sym, ap, ◌∙◌, subst, arith}
+use Rattle.std.proofs.Common.{◌≡◌, ℕ, ◌+◌, ◌-◌, ◌^◌, ◌<◌, ◌≤◌, ◌++◌, true, refl, List, [], ◌∷◌, length, length-append, sym, ap, ◌∙◌, subst, arith}
 use Rattle.tb_message.specs.declared.message.Entry.{Entry}
 use Rattle.tb_message.specs.declared.message.Message.{Message}
 use Rattle.tb_message.specs.declared.message.Message.TheVariants as message
@@ -11,10 +11,10 @@ use Rattle.tb_index.specs.Listed.{Listed}
 use Rattle.tb_ledger.specs.Settling.{HasScratch}
 use Rattle.tb_ledger.specs.Accounting.{TellsNext}
 use Rattle.tb_core.specs.Crediting.{movement_in}
-use Rattle.tb_core.specs.House.{AreTied, AreSame, EntersMoney, HasEntered, HasRows, HasRoom, IsHouse, room_of}
+use Rattle.tb_core.specs.House.{AreTied, AreSame, EntersMoney, HasEntered, HasRoom, IsHouse, room_of}
 use Rattle.tb_core.proofs.TiedLemmas.{AreTied-same, AreTied-push}
 use Rattle.std.specs.List.{filter}
-use Rattle.std.proofs.lemmas.Bool.{and_parts, cases_lt}
+use Rattle.std.proofs.lemmas.Bool.{and_parts}
 use Rattle.tb_units.specs.Multiples.{most_par}
 use Rattle.tb_history.specs.declared.roster.Enrolment.{Enrolment}
 use Rattle.tb_history.specs.declared.bids.Bid.{Bid}
@@ -30,57 +30,6 @@ use Rattle.tb_shelving.proofs.KeptLemmas.{IsKeptShelf-both, KeepsRoom-kept}
 use Rattle.tb_shelving.proofs.NumberLemmas.{IsLegal-bidders}
 use Rattle.tb_history.proofs.ParLemmas.{IsLegal-par}
 use Rattle.tb_shelving.proofs.RoomLemmas.{TakesRoom-by, length-behind}
-
--- so it is in accounts
-room_max : (one other bidders spare : ℕ)
-    → one * (bidders + one + 1) ≤ spare
-    → other * (bidders + other + 1) ≤ spare
-    → max one other * (bidders + max one other + 1) ≤ spare
-room_max one other bidders spare first second =
-    elim (cases_lt one other) [
-      | inl less ↦
-          let is : other ≡ max one other = omega (arith, less) in
-          subst (λ (n : ℕ). n * (bidders + n + 1) ≤ spare) is second
-      | inr most ↦
-          let is : one ≡ max one other = omega (arith, most) in
-          subst (λ (n : ℕ). n * (bidders + n + 1) ≤ spare) is first
-    ]
-
--- room for one number and for another is room for the greater
-HasRows-max : (one other : ℕ) (tables : Tables) → HasRows one tables → HasRows other tables
-    → HasRows (max one other) tables
-HasRows-max one other tables first second = record {
-  submitters = omega (arith, first.submitters, second.submitters);
-  bidders = omega (arith, first.bidders, second.bidders);
-  holidays = omega (arith, first.holidays, second.holidays);
-  auctions = omega (arith, first.auctions, second.auctions);
-  bids = omega (arith, first.bids, second.bids);
-  cancels = omega (arith, first.cancels, second.cancels);
-  reports = omega (arith, first.reports, second.reports);
-  published = omega (arith, first.published, second.published);
-  settled = omega (arith, first.settled, second.settled);
-  redeemed = omega (arith, first.redeemed, second.redeemed);
-  add_ons = omega (arith, first.add_ons, second.add_ons);
-  places = omega (arith, first.places, second.places);
-  calendar = omega (arith, first.calendar, second.calendar);
-}
-
--- and so it is everywhere
-HasRoom-max : (one other : ℕ) (tables : Tables) → HasRoom one tables → HasRoom other tables
-    → HasRoom (max one other) tables
-HasRoom-max one other tables first second = record {
-  rows = HasRows-max one other tables first.rows second.rows;
-  accounts = record {
-    accounts = room_max one other (length tables.bidders.list) tables.accounts.spare_accounts first.accounts.accounts
-        second.accounts.accounts;
-    marks = omega (arith, first.accounts.marks, second.accounts.marks);
-    redeems = omega (arith, first.accounts.redeems, second.accounts.redeems);
-  };
-  money = record {
-    balances = omega (arith, first.money.balances, second.money.balances);
-    offers = omega (arith, first.money.offers, second.money.offers);
-  };
-}
 
 -- where the rows stay and no room is lost, it is a host as before
 pub house_kept : (old new : Listed Entry) (before after : Tables)
@@ -100,19 +49,25 @@ house_kept old new before after list spare same keeps scratch room house = recor
 -- and where so many adds are sure it has room for as many
 pub house_more : (old new : Listed Entry) (before after : Tables) (more : ℕ)
     → new.list ≡ old.list
-    → old.spare ≤ new.spare
     → more ≤ new.spare
     → AreSame before after
-    → ((room : ℕ) → HasRoom room before → HasRoom room after)
     → HasRoom more after
     → HasScratch (length after.bids.list) (length after.bidders.list) after.scratch
-    → (room : ℕ) → IsHouse old before room → IsHouse new after (max room more)
-house_more old new before after more list spare sure same keeps roomy scratch room house = record {
+    → (room : ℕ) → IsHouse old before room → IsHouse new after more
+house_more old new before after more list sure same roomy scratch room house = record {
   tied = subst (λ (h : List Entry). AreTied h after) (sym list) (AreTied-same old.list before after house.tied same);
-  roomy = HasRoom-max room more after (keeps room house.roomy) roomy;
-  spare = omega (arith, house.spare, spare, sure);
+  roomy = roomy;
+  spare = sure;
   scratch = scratch;
 }
+
+-- the scratch lists that were enough are enough where the rows stay
+pub HasScratch-same : (before after : Tables)
+    → AreSame before after
+    → after.scratch ≡ before.scratch
+    → HasScratch (length before.bids.list) (length before.bidders.list) before.scratch
+    → HasScratch (length after.bids.list) (length after.bidders.list) after.scratch
+HasScratch-same before after same is has = rw (is, same.bids, same.bidders) has
 
 -- room for bids and bidders is room for fewer
 pub HasScratch-less : (bids bidders fewer less : ℕ) (scratch : Scratch)

@@ -89,6 +89,33 @@ impl Model for Host {
     ghost invariant = { λ h. IsHouse h.entries h.tables h.room };
 }
 
+// For so many entries room is taken at once, since each time all tables are looked at. A settlement may open an account
+// for each bidder, so that room for more would be large.
+const ROOM_AT_ONCE: usize = 8;
+
+// Takes the room for so many entries in the tables, where there isn't so much yet.
+fn reserve_rows(
+    entries: &mut Entries,
+    tables: &mut Tables,
+    room: &mut usize,
+    more: usize,
+) -> Result<(), OutOfMemory>
+    requires { IsHouse entries.old tables.old room.old }
+    ensures enough { OnOk result (more ≤ room.new) }
+    ensures house { IsHouse entries.new tables.new room.new }
+    ensures history { entries.new.list ≡ entries.old.list }
+    ensures room { KeepsRoom (room_of room.old tables.old) (room_of room.new tables.new) }
+{
+    if more <= *room {
+        return Ok(());
+    }
+    let rows = more.max(ROOM_AT_ONCE);
+    entries.reserve(rows)?;
+    tables.reserve_rows(rows)?;
+    *room = rows;
+    Ok(())
+}
+
 // Takes the room for the messages of these entries, and then for these.
 fn reserve(
     entries: &mut Entries,
@@ -103,11 +130,8 @@ fn reserve(
     ensures history { entries.new.list ≡ entries.old.list }
     ensures room { KeepsRoom (room_of room.old tables.old) (room_of room.new tables.new) }
 {
-    let more = ahead.len() + messages.len();
-    entries.reserve(more)?;
-    tables.reserve(ahead, messages)?;
-    *room = (*room).max(more);
-    Ok(())
+    reserve_rows(entries, tables, room, ahead.len() + messages.len())?;
+    tables.reserve_ahead(ahead, messages)
 }
 
 // Enters an accepted entry everywhere.

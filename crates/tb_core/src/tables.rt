@@ -104,9 +104,10 @@ impl Tables {
         }
     }
 
-    // Makes so many adds sure in each table, and so many places in each book that stands ready.
-    fn reserve_rows(&mut self, more: usize) -> Result<(), OutOfMemory>
+    /// Makes so many adds sure in each table, and so many places in each book that stands ready.
+    pub fn reserve_rows(&mut self, more: usize) -> Result<(), OutOfMemory>
         ensures spare { OnOk result (HasRoom more self.new) }
+        // The rows stay, and no room is lost, whatever the result.
         ensures same { AreSame self.old self.new }
         ensures room { (room : ℕ) → HasRoom room self.old → HasRoom room self.new }
         ensures scratch { self.new.scratch ≡ self.old.scratch }
@@ -128,8 +129,8 @@ impl Tables {
         self.shelf.prepare(0, more as u64)
     }
 
-    // Takes the room that books and settlements need for the messages of these entries, and then for these.
-    fn reserve_ahead(
+    /// Takes the room that books and settlements need for the messages of these entries, and then for these.
+    pub fn reserve_ahead(
         &mut self,
         ahead: &[Entry],
         messages: &[(u64, Message)],
@@ -137,6 +138,7 @@ impl Tables {
         requires { HasScratch (length self.old.bids.list) (length self.old.bidders.list) self.old.scratch }
         ensures ahead { OnOk result
             (HasRoomAhead self.new.shelf self.new.scratch.lasts (behind_all ahead.now messages.now)) }
+        // The rows stay, and no room is lost, whatever the result.
         ensures same { AreSame self.old self.new }
         ensures room { (room : ℕ) → HasRoom room self.old → HasRoom room self.new }
         ensures scratch { HasScratch (length self.new.bids.list) (length self.new.bidders.list) self.new.scratch }
@@ -151,25 +153,6 @@ impl Tables {
             self.scratch.reserve(bids, bidders, more)?;
         }
         Ok(())
-    }
-
-    /// Takes the room for the messages of these entries, and then for these.
-    pub fn reserve(
-        &mut self,
-        ahead: &[Entry],
-        messages: &[(u64, Message)],
-    ) -> Result<(), OutOfMemory>
-        requires { HasScratch (length self.old.bids.list) (length self.old.bidders.list) self.old.scratch }
-        ensures rows { OnOk result (HasRoom (length ahead.now + length messages.now) self.new) }
-        ensures ahead { OnOk result
-            (HasRoomAhead self.new.shelf self.new.scratch.lasts (behind_all ahead.now messages.now)) }
-        // The rows stay, and no room is lost, whatever the result.
-        ensures same { AreSame self.old self.new }
-        ensures room { (room : ℕ) → HasRoom room self.old → HasRoom room self.new }
-        ensures scratch { HasScratch (length self.new.bids.list) (length self.new.bidders.list) self.new.scratch }
-    {
-        self.reserve_rows(ahead.len() + messages.len())?;
-        self.reserve_ahead(ahead, messages)
     }
 
     /// Whether books and settlements have the room for the messages of these entries, and then for these.

@@ -333,7 +333,8 @@ fn a_group_follows_an_announcement_in_room_taken_for_all(rt: HostRuntime) {
     assert_eq!(rt; open_for_group(&mut host), Some(true));
     let none: [Entry; 0] = [];
     let next = bid(3, 1).expect(&rt, "names");
-    assert!(rt; !host.has_room_group(&none, &[(3, next.message)]));
+    // Room was taken for eight, of which five are left.
+    assert!(rt; !host.has_room_group(&none, &[(3, next.message); 6]));
 }
 
 // Applies a bid, if it is accepted, and takes it back.

@@ -27,7 +27,7 @@ pub fn amount_of(amounts: &Ordered<Amount>, key: u32) -> u128
     ensures { result ≡ amount_in key amounts.now.elements }
 {
     match amounts.find(&key) {
-        Some(place) => amounts.at(place).value,
+        Some(spot) => amounts.at_spot(spot).value,
         None => 0,
     }
 }
@@ -44,9 +44,9 @@ pub fn raise(amounts: &mut Ordered<Amount>, key: u32, more: u128)
     ensures room { amounts.old.spare ≤ amounts.new.spare + 1 }
 {
     match amounts.find(&key) {
-        Some(place) => {
-            let value = amounts.at(place).value + more;
-            let _ = amounts.replace(place, Amount { key, value });
+        Some(spot) => {
+            let value = amounts.at_spot(spot).value + more;
+            let _ = amounts.replace_at(spot, Amount { key, value });
         }
         None => amounts.insert(Amount { key, value: more }),
     }
@@ -62,8 +62,8 @@ pub fn lower(amounts: &mut Ordered<Amount>, key: u32, less: u128)
     ensures in_order { AreInOrder amounts.new.elements }
     ensures room { amounts.new.spare ≡ amounts.old.spare }
 {
-    if let Some(place) = amounts.find(&key) {
-        let value = amounts.at(place).value - less;
-        let _ = amounts.replace(place, Amount { key, value });
+    if let Some(spot) = amounts.find(&key) {
+        let value = amounts.at_spot(spot).value - less;
+        let _ = amounts.replace_at(spot, Amount { key, value });
     }
 }

@@ -53,7 +53,7 @@ pub fn find_offer(offers: &Ordered<KeptOffer>, seller: u32, number: u64) -> Opti
     ensures { result ≡ offer_in seller number offers.now.elements }
 {
     match offers.find(&(seller, number)) {
-        Some(place) => Some(*offers.at(place)),
+        Some(spot) => Some(*offers.at_spot(spot)),
         None => None,
     }
 }
@@ -82,7 +82,7 @@ pub fn put_offer(offers: &mut Ordered<KeptOffer>, old: KeptOffer, kept: KeptOffe
     ensures in_order { OffersAreInOrder offers.new.elements }
     ensures room { offers.new.spare ≡ offers.old.spare }
 {
-    if let Some(place) = offers.find(&(kept.seller, kept.number)) {
-        let _ = offers.replace(place, kept);
+    if let Some(spot) = offers.find(&(kept.seller, kept.number)) {
+        let _ = offers.replace_at(spot, kept);
     }
 }

@@ -106,7 +106,7 @@ pub fn held_by(accounts: &Ordered<Account>, holder: u32, security: u32) -> u128
     ensures { result ≡ held_in holder security accounts.now.elements }
 {
     match accounts.find(&(holder, security)) {
-        Some(place) => accounts.at(place).held,
+        Some(spot) => accounts.at_spot(spot).held,
         None => 0,
     }
 }
@@ -159,8 +159,8 @@ pub fn set_held(accounts: &mut Ordered<Account>, holder: u32, security: u32, hel
         held,
     };
     match accounts.find(&(holder, security)) {
-        Some(place) if held > 0 => {
-            accounts.replace(place, account);
+        Some(spot) if held > 0 => {
+            accounts.replace_at(spot, account);
         }
         Some(_) => {
             accounts.remove(&(holder, security));

@@ -3,7 +3,7 @@ ghost use Rattle.std.specs.Prelude.{◌≡◌, ◌+◌, ◌^◌, ◌<◌, ◌≤
 ghost use Rattle.tb_holdings.specs.Marks.{MarkIsMissingAt, MarkStandsAt, MarksAreInOrder, has_left, mark_in, pledged_in, open_marks_in, with_mark, released, cleared, precedes};
 ghost use Rattle.tb_units.specs.Places.{IsPlace};
 
-use tb_blocks::{Keyed, Ordered};
+use tb_blocks::{Keyed, Ordered, Spot};
 use tb_units::Dollars;
 
 /// What is left of a pledge, of which security, and who may release it.
@@ -169,7 +169,7 @@ pub fn release_mark(marks: &mut Ordered<KeptMark>, holder: u32, number: u64, par
     if let Ok(place) = seek_mark(marks, holder, number) {
         let mark = *marks.at(place);
         let left = mark.left.saturating_sub(par);
-        let _ = marks.replace(place, KeptMark { left, ..mark });
+        let _ = marks.replace_at(Spot::at(place), KeptMark { left, ..mark });
     }
 }
 
@@ -184,7 +184,7 @@ pub fn lower_mark(marks: &mut Ordered<KeptMark>, holder: u32, number: u64, par: 
         let mark = *marks.at(place);
         let left = mark.left.saturating_sub(par);
         if left > 0 {
-            let _ = marks.replace(place, KeptMark { left, ..mark });
+            let _ = marks.replace_at(Spot::at(place), KeptMark { left, ..mark });
         } else {
             let _ = marks.remove(&(holder, number));
         }
@@ -199,7 +199,7 @@ pub fn clear_marks(marks: &mut Ordered<KeptMark>, security: u32)
     for place in 0..marks.len() {
         let mark = *marks.at(place);
         if mark.security == security && mark.left > 0 {
-            let _ = marks.replace(place, KeptMark { left: 0, ..mark });
+            let _ = marks.replace_at(Spot::at(place), KeptMark { left: 0, ..mark });
         }
     }
 }

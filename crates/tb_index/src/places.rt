@@ -28,8 +28,8 @@ pub type Places<K> = Ordered<Place<K>>;
 pub fn first_place<K: Ord + Copy + Drop>(places: &Places<K>, key: &K) -> Option<usize>
     ensures { (keys : List K) → ArePlaces K.cmp keys places.now.elements → result ≡ first_of (tied K.cmp) key.now keys }
 {
-    let at = places.find(key)?;
-    Some(places.at(at).place)
+    let spot = places.find(key)?;
+    Some(places.at_spot(spot).place)
 }
 
 /// Adds the key at the end of the list, which is the place.
@@ -48,8 +48,8 @@ pub fn take_place<K: Ord + Copy + Drop>(places: &mut Places<K>, key: &K, place: 
         → ArePlaces K.cmp keys places.new.elements }
     ensures spare { places.old.spare ≤ places.new.spare }
 {
-    if let Some(at) = places.find(key) {
-        if places.at(at).place == place {
+    if let Some(spot) = places.find(key) {
+        if places.at_spot(spot).place == place {
             let _ = places.remove(key);
         }
     }

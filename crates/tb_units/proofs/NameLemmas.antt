@@ -1,14 +1,13 @@
 -- Names, and texts with zeros behind them.
-use Rattle.std.proofs.Common.{◌≡◌, ℕ, ◌≤◌, List, ◌++◌, length, take, drop, true, sym, ap, ◌∙◌, arith}
+use Rattle.std.proofs.Common.{◌≡◌, ℕ, ◌≤◌, List, ◌++◌, length, take, drop, true, sym, ◌∙◌, arith}
 use Rattle.std.specs.Prelude.{replicate}
 use Rattle.std.proofs.lemmas.Bool.Decides.{nat_tests}
 use Rattle.std.proofs.lemmas.List.{drop-replicate, length-replicate, length-append, length-drop}
 use Rattle.std.proofs.Math.Seq.{drop-append_seam}
 use Rattle.tb_units.specs.Names.{is_name}
 use Rattle.std.specs.List.{list_all}
-use Rattle.std.specs.Ordering.{nat_cmp, is_eq}
-use Rattle.std.specs.Cmp.Lexicographic.{slice_cmp, texts_ties}
-use Rattle.std.specs.Str.{bytes_eq}
+use Rattle.std.specs.Ordering.{nat_cmp}
+use Rattle.std.specs.Cmp.Lexicographic.{slice_cmp}
 use Rattle.tb_units.specs.Names.{is_name_byte}
 use Rattle.tb_units.specs.Padding.{IsPadded, IsPadded-bytes, IsPadded-length}
 use Rattle.tb_units.proofs.WordLemmas.{padding-order}
@@ -52,13 +51,3 @@ padded-order bytes others used used_other one other =
     ∙ padding-order (take used bytes) (take used_other others) _ _
     (is_name-bytes (take used bytes) one.1) (is_name-bytes (take used_other others) other.1)
     (omega (arith, long, long_other, one.0.within, other.0.within))
-
--- and are equal where these are
-pub padded-equal : (bytes others : List ℕ) (used used_other : ℕ)
-    → IsPadded bytes used × (is_name (take used bytes) ≡ true)
-    → IsPadded others used_other × (is_name (take used_other others) ≡ true)
-    → bytes_eq bytes others ≡ bytes_eq (take used bytes) (take used_other others)
-padded-equal bytes others used used_other one other =
-    texts_ties bytes others
-    ∙ ap is_eq (padded-order bytes others used used_other one other)
-    ∙ sym (texts_ties (take used bytes) (take used_other others))

@@ -1,10 +1,9 @@
 //! Names of submitters, bidders and auctions.
-ghost use Rattle.std.specs.Prelude.{◌≡◌, ◌≤◌, ◌++◌, ◌↔◌, true, false, length, drop, Some, IfSome, IsNone};
+ghost use Rattle.std.specs.Prelude.{◌≡◌, ◌≤◌, [], ◌∷◌, ◌++◌, ◌↔◌, true, false, length, drop, Some, IfSome, IsNone};
 ghost use Rattle.std.specs.List.{list_all};
 ghost use Rattle.std.specs.Cmp;
 ghost use Rattle.std.specs.Cmp.Lexicographic.{pointwise, slice_cmp, nat_list_eq_equiv, nat_list_cmp_total, texts_ties, texts_po};
 ghost use Rattle.std.specs.Ordering.{nat_cmp};
-ghost use Rattle.std.specs.Hash as fed;
 ghost use Rattle.std.specs.Hash.{same_Alike};
 ghost use Rattle.std.specs.Str.{bytes_eq};
 ghost use Rattle.std.proofs.Common.{rules};
@@ -78,14 +77,14 @@ impl Ident {
     }
 }
 
-// Names are equal where their bytes are.
+// Names are equal where their bytes are, which are compared eight at a time.
 impl PartialEq for Ident {
     ghost eq = { bytes_eq };
 
     ghost laws = { Cmp.partial_equiv_from_equiv nat_list_eq_equiv };
 
     fn eq(&self, other: &Ident) -> bool {
-        self.bytes == other.bytes
+        self.cmp(other).is_eq()
     }
 }
 
@@ -118,13 +117,14 @@ impl Ord for Ident {
     }
 }
 
+// A name is hashed in one write: a slice would be hashed byte by byte.
 impl Hash for Ident {
-    ghost hash_input = { fed.slice fed.u8 };
+    ghost hash_input = { λ name. name ∷ [] };
 
-    ghost respects_eq = { (same_Alike (fed.slice fed.u8) bytes_eq-Decides).fed };
+    ghost respects_eq = { (same_Alike (λ name. name ∷ []) bytes_eq-Decides).fed };
 
     fn hash<H: Hasher>(&self, state: &mut H) {
-        self.bytes().hash(state);
+        state.write(self.bytes());
     }
 }
 

@@ -19,7 +19,8 @@ pub fn order(one: &[u8; 32], other: &[u8; 32]) -> Ordering
     Ordering::Equal
 }
 
-// The eight bytes from the place on, as a number whose first byte weighs most.
+// The eight bytes from the place on, as a number whose first byte weighs most. In line it is one read of memory.
+#[inline(always)]
 fn word(bytes: &[u8; 32], place: usize) -> u64
     requires { place + 8 ≤ 32 }
     ensures { result ≡ big_endian 0 (take 8 (drop place bytes.now)) }

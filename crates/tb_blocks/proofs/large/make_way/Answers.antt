@@ -19,9 +19,9 @@ returns-in-Some-clause-way g c =
 pub returns-in-Some-clause-filled : goal.returns-in-Some-clause-filled
 returns-in-Some-clause-filled g c = λ block here.
     let blocks = c.args.rows.now.blocks.items in
-    let e = ap (λ b. length b) (block-is blocks c.block_of-at.result c.index.result.now c.block_of-at.ensures.at
+    let e = ap (λ b. length b) (block-is blocks c.args.at c.index.result.now c.requires.at
     c.index.ensures) in
-    let all = filled-all blocks c.block_of-at.result c.requires.filled c.block_of-at.ensures.at
+    let all = filled-all blocks c.args.at c.requires.filled c.requires.at
     (omega (arith, e, c.len.ensures.len, c.if-len-lt-BLOCK.false)) in
     rw (c.open.ensures.blocks, c.take.ensures.empty)
     (filled-open blocks c.in-Some.fresh block all c.in-Some.ensures.at here)
@@ -48,28 +48,28 @@ pub returns-in_default-clause-way : goal.returns-in_default-clause-way
 returns-in_default-clause-way g c =
     let blocks = c.args.rows.now.blocks.items in
     let o = c.split.ensures in
-    rw o.blocks (IsWay-split blocks c.block_of-at.result c.split.result c.args.place c.block_of-at.ensures.at o.side
+    rw o.blocks (IsWay-split blocks c.args.at c.split.result c.args.place c.requires.at o.side
     (rw o.blocks at o.low) (rw o.blocks at o.high) (rw o.blocks at o.half))
 
 pub returns-in_default-clause-filled : goal.returns-in_default-clause-filled
 returns-in_default-clause-filled g c = λ block here.
     let blocks = c.args.rows.now.blocks.items in
-    let at = c.block_of-at.result in
+    let at = c.args.at in
     let o = c.split.ensures in
-    let e = ap (λ b. length b) (block-is blocks at c.index.result.now c.block_of-at.ensures.at c.index.ensures) in
+    let e = ap (λ b. length b) (block-is blocks at c.index.result.now c.requires.at c.index.ensures) in
     let full : length (get_or blocks at []) ≡ block_size =
     omega (arith, e, c.len.ensures.len, c.len.ensures.most, c.if-len-lt-BLOCK.false) in
-    let all = filled-halves blocks at (filled-all blocks at c.requires.filled c.block_of-at.ensures.at (omega arith))
-    c.block_of-at.ensures.at full in
+    let all = filled-halves blocks at (filled-all blocks at c.requires.filled c.requires.at (omega arith))
+    c.requires.at full in
     rw o.blocks (filled-set (halves blocks at) c.split.result block (λ k short several. all k short)
-    (omega (arith, length-halves blocks at c.block_of-at.ensures.at, o.side, c.block_of-at.ensures.at)) here)
+    (omega (arith, length-halves blocks at c.requires.at, o.side, c.requires.at)) here)
 
 pub returns-in_default-clause-sure : goal.returns-in_default-clause-sure
 returns-in_default-clause-sure g c = λ block longer.
     let blocks = c.args.rows.now.blocks.items in
-    let at = c.block_of-at.result in
+    let at = c.args.at in
     let o = c.split.ensures in
-    let e = ap (λ b. length b) (block-is blocks at c.index.result.now c.block_of-at.ensures.at c.index.ensures) in
+    let e = ap (λ b. length b) (block-is blocks at c.index.result.now c.requires.at c.index.ensures) in
     let full : length (get_or blocks at []) ≡ block_size =
     omega (arith, e, c.len.ensures.len, c.len.ensures.most, c.if-len-lt-BLOCK.false) in
     let one : c.args.spare ≡ (c.args.spare - 1) + 1 = omega (arith, c.requires.positive) in
@@ -77,5 +77,5 @@ returns-in_default-clause-sure g c = λ block longer.
     rw (c.min-pace.ensures, o.blocks)
     (sure-split c.args.pace (c.args.spare - 1) blocks at c.split.result block (length c.args.pool.now.free.items)
     (length c.split.new.pool.free.items)
-    c.requires.pace c.block_of-at.ensures.at full o.free sure (omega (arith, o.side, c.block_of-at.ensures.at))
+    c.requires.pace c.requires.at full o.free sure (omega (arith, o.side, c.requires.at))
     (rw o.blocks at o.half) (longer ∙ ap (λ b. length (get_or b c.split.result []) + 1) o.blocks))

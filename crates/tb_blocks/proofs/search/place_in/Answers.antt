@@ -1,5 +1,5 @@
 -- A part of what is left to search goes.
-use Rattle.std.proofs.Common.{◌+◌, ◌-◌, ◌/◌, ◌<◌, length, arith, sym}
+use Rattle.std.proofs.Common.{◌<◌, length, arith, sym}
 use Rattle.tb_blocks.specs.Orders.{is_below}
 use Rattle.tb_blocks.proofs.SearchLemmas.{all-before, none-behind}
 use Rattle.tb_blocks.proofs.search.place_in.Goals as goal

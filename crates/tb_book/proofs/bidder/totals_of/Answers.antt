@@ -5,13 +5,13 @@ use Rattle.tb_book.proofs.bidder.totals_of.Goals as goal
 
 pub returns-in-Some-clause-competitive : goal.returns-in-Some-clause-competitive
 returns-in-Some-clause-competitive c =
-    total-at (λ one. one.competitive) c.args.bidder c.args.bidders.now.elements c.in-Some.place c.at-entry.result.now
-    c.requires c.in-Some.ensures.found c.at-entry.ensures
+    total-at (λ one. one.competitive) c.args.bidder c.args.bidders.now.elements c.in-Some.spot.place
+    c.at_spot-entry.result.now c.requires c.in-Some.ensures.found c.at_spot-entry.ensures
 
 pub returns-in-Some-clause-noncompetitive : goal.returns-in-Some-clause-noncompetitive
 returns-in-Some-clause-noncompetitive c =
-    total-at (λ one. one.noncompetitive) c.args.bidder c.args.bidders.now.elements c.in-Some.place
-    c.at-entry.result.now c.requires c.in-Some.ensures.found c.at-entry.ensures
+    total-at (λ one. one.noncompetitive) c.args.bidder c.args.bidders.now.elements c.in-Some.spot.place
+    c.at_spot-entry.result.now c.requires c.in-Some.ensures.found c.at_spot-entry.ensures
 
 pub returns-in-None-clause-competitive : goal.returns-in-None-clause-competitive
 returns-in-None-clause-competitive c =

@@ -1,33 +1,24 @@
 -- The rows stay, and no room is lost.
-use Rattle.std.proofs.Common.{◌+◌, length, arith}
-use Rattle.tb_core.proofs.HouseLemmas.{KeepsRoom-same, fits_more, house_kept, house_more}
+use Rattle.std.proofs.Common.{◌≡◌, refl, arith}
+use Rattle.std.proofs.lemmas.Result.{on_ok_weaker}
+use Rattle.tb_core.proofs.HouseLemmas.{KeepsRoom-same, fits_more, house_kept}
 use Rattle.tb_core.proofs.host.reserve.Goals as goal
-
-pub returns-in_err-reserve-2-clause-house : goal.returns-in_err-reserve-2-clause-house
-returns-in_err-reserve-2-clause-house c =
-    house_kept c.args.entries.now c.reserve.new.self c.args.tables.now c.reserve-2.new.self c.reserve.ensures.list
-    c.reserve.ensures.room c.reserve-2.ensures.same c.reserve-2.ensures.room c.reserve-2.ensures.scratch c.args.room.now
-    c.requires
-
-pub returns-in_err-reserve-2-clause-room : goal.returns-in_err-reserve-2-clause-room
-returns-in_err-reserve-2-clause-room c =
-    KeepsRoom-same c.args.room.now c.args.room.now c.args.tables.now c.reserve-2.new.self (omega arith)
-    c.reserve-2.ensures.same
 
 pub returns-clause-house : goal.returns-clause-house
 returns-clause-house c =
-    rw c.max.ensures
-    (house_more c.args.entries.now c.reserve.new.self c.args.tables.now c.reserve-2.new.self
-    (length c.args.ahead.now + length c.args.messages.now)
-    c.reserve.ensures.list c.reserve.ensures.room c.in_ok-reserve.ensures.spare c.reserve-2.ensures.same
-    c.reserve-2.ensures.room c.in_ok-reserve-2.ensures.rows c.reserve-2.ensures.scratch c.args.room.now c.requires)
+    let entries = c.reserve_rows.new.entries in
+    let room = c.reserve_rows.new.room in
+    let house = c.reserve_rows.ensures.house in
+    house_kept entries entries c.reserve_rows.new.tables c.reserve_ahead.new.self refl (omega arith)
+    c.reserve_ahead.ensures.same c.reserve_ahead.ensures.room c.reserve_ahead.ensures.scratch room house
 
 pub returns-clause-fits : goal.returns-clause-fits
 returns-clause-fits c =
-    fits_more c.max.result c.reserve-2.new.self c.args.ahead.now c.args.messages.now (omega (arith, c.max.ensures))
-    c.in_ok-reserve-2.ensures.ahead
+    on_ok_weaker c.reserve_ahead.result
+    (fits_more c.reserve_rows.new.room c.reserve_ahead.new.self c.args.ahead.now c.args.messages.now
+    c.in_ok-reserve_rows.ensures.enough) c.reserve_ahead.ensures.ahead
 
 pub returns-clause-room : goal.returns-clause-room
-returns-clause-room c =
-    KeepsRoom-same c.args.room.now c.max.result c.args.tables.now c.reserve-2.new.self (omega (arith, c.max.ensures))
-    c.reserve-2.ensures.same
+returns-clause-room c = λ messages fits.
+    KeepsRoom-same c.reserve_rows.new.room c.reserve_rows.new.room c.reserve_rows.new.tables c.reserve_ahead.new.self
+    (omega arith) c.reserve_ahead.ensures.same messages (c.reserve_rows.ensures.room messages fits)

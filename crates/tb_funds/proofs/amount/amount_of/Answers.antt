@@ -5,8 +5,8 @@ use Rattle.tb_funds.proofs.amount.amount_of.Goals as goal
 
 pub returns-in-Some : goal.returns-in-Some
 returns-in-Some c =
-    amount_in-found c.args.key c.args.amounts.now.elements c.in-Some.place c.at.result.now c.requires
-    c.in-Some.ensures.found c.at.ensures
+    amount_in-found c.args.key c.args.amounts.now.elements c.in-Some.spot.place c.at_spot.result.now c.requires
+    c.in-Some.ensures.found c.at_spot.ensures
 
 pub returns-in-None : goal.returns-in-None
 returns-in-None c =

@@ -10,20 +10,20 @@ overflow_sub-value c =
     omega (
       arith,
       c.requires.there,
-      amount_in-found c.args.key c.args.amounts.now.elements c.in-Some.place c.at.result.now c.requires.in_order
-          c.in-Some.ensures.found c.at.ensures,
+      amount_in-found c.args.key c.args.amounts.now.elements c.in-Some.spot.place c.at_spot.result.now
+          c.requires.in_order c.in-Some.ensures.found c.at_spot.ensures,
     )
 
 pub returns-in-Some-clause-amounts : goal.returns-in-Some-clause-amounts
 returns-in-Some-clause-amounts c = λ other.
     let amounts = c.args.amounts.now.elements in
     let key = c.args.key in
-    let place = c.in-Some.place in
+    let place = c.in-Some.spot.place in
     let found = c.in-Some.ensures.found in
-    let value = c.at.result.now.value - c.args.less in
-    let was : c.at.result.now.value ≡ amount_in key amounts =
-    amount_in-found key amounts place c.at.result.now c.requires.in_order found c.at.ensures in
-    ap (λ xs. amount_in other xs + part (key == other) c.args.less) c.replace.ensures.elements
+    let value = c.at_spot.result.now.value - c.args.less in
+    let was : c.at_spot.result.now.value ≡ amount_in key amounts =
+    amount_in-found key amounts place c.at_spot.result.now c.requires.in_order found c.at_spot.ensures in
+    ap (λ xs. amount_in other xs + part (key == other) c.args.less) c.replace_at.ensures.elements
     ∙ lowered (key == other) _ (amount_in other amounts) (amount_in key amounts) c.args.less c.requires.there
     (amount_in-written key other place amounts (record { key = key; value = value }) c.requires.in_order found refl
     ∙ ap (λ n. amount_in other amounts + part (key == other) (n - c.args.less)) was)
@@ -31,14 +31,14 @@ returns-in-Some-clause-amounts c = λ other.
 pub returns-in-Some-clause-total : goal.returns-in-Some-clause-total
 returns-in-Some-clause-total c =
     let amounts = c.args.amounts.now.elements in
-    let value = c.at.result.now.value - c.args.less in
+    let value = c.at_spot.result.now.value - c.args.less in
     omega (
       arith,
-      ap total_in c.replace.ensures.elements,
+      ap total_in c.replace_at.ensures.elements,
       c.requires.there,
-      amount_in-found c.args.key amounts c.in-Some.place c.at.result.now c.requires.in_order c.in-Some.ensures.found
-          c.at.ensures,
-      total_in-written c.args.key c.in-Some.place amounts (record { key = c.args.key; value = value })
+      amount_in-found c.args.key amounts c.in-Some.spot.place c.at_spot.result.now c.requires.in_order
+          c.in-Some.ensures.found c.at_spot.ensures,
+      total_in-written c.args.key c.in-Some.spot.place amounts (record { key = c.args.key; value = value })
           c.requires.in_order c.in-Some.ensures.found,
     )
 

@@ -8,12 +8,12 @@ pub returns-in-Some-clause-amounts : goal.returns-in-Some-clause-amounts
 returns-in-Some-clause-amounts c = λ other.
     let amounts = c.args.amounts.now.elements in
     let key = c.args.key in
-    let place = c.in-Some.place in
+    let place = c.in-Some.spot.place in
     let found = c.in-Some.ensures.found in
-    let value = c.at.result.now.value + c.args.more in
-    let was : c.at.result.now.value ≡ amount_in key amounts =
-    amount_in-found key amounts place c.at.result.now c.requires.in_order found c.at.ensures in
-    ap (amount_in other) c.replace.ensures.elements
+    let value = c.at_spot.result.now.value + c.args.more in
+    let was : c.at_spot.result.now.value ≡ amount_in key amounts =
+    amount_in-found key amounts place c.at_spot.result.now c.requires.in_order found c.at_spot.ensures in
+    ap (amount_in other) c.replace_at.ensures.elements
     ∙ raised (key == other) _ (amount_in other amounts) (amount_in key amounts) c.args.more
     (amount_in-written key other place amounts (record { key = key; value = value }) c.requires.in_order found refl
     ∙ ap (λ n. amount_in other amounts + part (key == other) (n + c.args.more)) was)
@@ -30,6 +30,6 @@ overflow_add-value c =
     omega (
       arith,
       c.requires.fits,
-      amount_in-found c.args.key c.args.amounts.now.elements c.in-Some.place c.at.result.now c.requires.in_order
-          c.in-Some.ensures.found c.at.ensures,
+      amount_in-found c.args.key c.args.amounts.now.elements c.in-Some.spot.place c.at_spot.result.now
+          c.requires.in_order c.in-Some.ensures.found c.at_spot.ensures,
     )

@@ -5,9 +5,9 @@ use Rattle.tb_funds.proofs.offer.find_offer.Goals as goal
 
 pub returns-in-Some : goal.returns-in-Some
 returns-in-Some c =
-    ap Some c.at.ensures
-    ∙ sym (found-there (c.args.seller, c.args.number) c.args.offers.now.elements c.in-Some.place c.at.result.now
-    c.requires c.in-Some.ensures.found)
+    ap Some c.at_spot.ensures
+    ∙ sym (found-there (c.args.seller, c.args.number) c.args.offers.now.elements c.in-Some.spot.place
+    c.at_spot.result.now c.requires c.in-Some.ensures.found)
 
 pub returns-in-None : goal.returns-in-None
 returns-in-None c =

@@ -9,24 +9,24 @@ pub returns-in-Some-clause-offers : goal.returns-in-Some-clause-offers
 returns-in-Some-clause-offers c =
     let offers = c.args.offers.now.elements in
     let found = c.in-Some.ensures.found in
-    subst (Puts c.args.kept offers) (sym c.replace.ensures.elements)
-    (Puts-written offers c.in-Some.place c.args.kept c.args.kept c.requires.in_order found.within
-    (equal-is (key_of (get_or offers c.in-Some.place c.args.kept)) (key_of c.args.kept) (found.same c.args.kept)))
+    subst (Puts c.args.kept offers) (sym c.replace_at.ensures.elements)
+    (Puts-written offers c.in-Some.spot.place c.args.kept c.args.kept c.requires.in_order found.within
+    (equal-is (key_of (get_or offers c.in-Some.spot.place c.args.kept)) (key_of c.args.kept) (found.same c.args.kept)))
 
 pub returns-in-Some-clause-opens : goal.returns-in-Some-clause-opens
 returns-in-Some-clause-opens c = λ other.
     let offers = c.args.offers.now.elements in
     let found = c.in-Some.ensures.found in
-    let old = get_or offers c.in-Some.place c.args.kept in
+    let old = get_or offers c.in-Some.spot.place c.args.kept in
     let there : Some c.args.old ≡ Some old =
     sym c.requires.there
-    ∙ found-there (key_of c.args.kept) offers c.in-Some.place c.args.kept c.requires.in_order found in
+    ∙ found-there (key_of c.args.kept) offers c.in-Some.spot.place c.args.kept c.requires.in_order found in
     let same : c.args.old ≡ old = cc in
     omega (
       arith,
-      ap (open_in other) c.replace.ensures.elements,
+      ap (open_in other) c.replace_at.ensures.elements,
       ap (λ x. part (is_open_of other x) 1) same,
-      open_in-written other c.in-Some.place offers c.args.kept c.args.kept found.within,
+      open_in-written other c.in-Some.spot.place offers c.args.kept c.args.kept found.within,
     )
 
 -- the offer is there

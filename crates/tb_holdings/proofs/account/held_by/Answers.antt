@@ -9,11 +9,12 @@ use Rattle.tb_holdings.proofs.account.held_by.Goals as goal
 pub returns-in-Some : goal.returns-in-Some
 returns-in-Some c =
     let accounts = c.args.accounts.now.elements in
-    let account = c.at.result.now in
-    ap (λ (one : Account). one.held) c.at.ensures
-    ∙ sym (held_in-stands c.args.holder c.args.security accounts c.in-Some.place account c.requires.in_order
+    let account = c.at_spot.result.now in
+    ap (λ (one : Account). one.held) c.at_spot.ensures
+    ∙ sym (held_in-stands c.args.holder c.args.security accounts c.in-Some.spot.place account c.requires.in_order
     c.requires.none_empty
-    (StandsAt-key c.args.holder c.args.security accounts c.in-Some.place c.requires.in_order c.in-Some.ensures.found))
+    (StandsAt-key c.args.holder c.args.security accounts c.in-Some.spot.place c.requires.in_order
+    c.in-Some.ensures.found))
 
 pub returns-in-None : goal.returns-in-None
 returns-in-None c =

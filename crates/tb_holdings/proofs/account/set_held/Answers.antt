@@ -9,15 +9,16 @@ use Rattle.tb_holdings.proofs.account.set_held.Goals as goal
 pub returns-in-Some-clause-accounts : goal.returns-in-Some-clause-accounts
 returns-in-Some-clause-accounts c =
     let accounts = c.args.accounts.now.elements in
-    c.replace.ensures.elements
-    ∙ with_held-write c.args.holder c.args.security c.args.held accounts c.in-Some.place c.requires.in_order
-    (StandsAt-key c.args.holder c.args.security accounts c.in-Some.place c.requires.in_order c.in-Some.ensures.found)
+    c.replace_at.ensures.elements
+    ∙ with_held-write c.args.holder c.args.security c.args.held accounts c.in-Some.spot.place c.requires.in_order
+    (StandsAt-key c.args.holder c.args.security accounts c.in-Some.spot.place c.requires.in_order
+    c.in-Some.ensures.found)
     c.if-held-gt0.true
 
 pub returns-in-Some-2-clause-accounts : goal.returns-in-Some-2-clause-accounts
 returns-in-Some-2-clause-accounts c =
     let accounts = c.args.accounts.now.elements in
-    let place = c.in-Some-2.field-0 in
+    let place = c.in-Some-2.field-0.place in
     let found = c.in-Some-2.ensures.found in
     removed-at account_key (c.args.holder, c.args.security) accounts c.remove.new.self.elements place c.remove.result
     c.requires.in_order found

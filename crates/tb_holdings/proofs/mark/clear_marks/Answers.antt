@@ -24,13 +24,13 @@ loop-place-preserved c =
           let same : own.security ≡ c.args.security =
           ap (λ (one : KeptMark). one.security) (sym c.at-mark.ensures) ∙ w.if-mark-security.true in
           rw w.marks-is (
-            w.replace.ensures.elements
+            (rw w.at.ensures at w.replace_at.ensures.elements)
                 ∙ (ap (λ (one : KeptMark). set written place (record one { left = 0 })) c.at-mark.ensures
                 ∙ with_left-more after old written place 0 mark short so_far.1 so_far.0
                 (cond-true (own.security == c.args.security) 0 own.left
                 (eq-eqb own.security c.args.security same))),
-            ap length w.replace.ensures.elements ∙ (length-set written place zeroed ∙ so_far.1),
-            w.replace.ensures.spare ∙ so_far.2,
+            ap length (rw w.at.ensures at w.replace_at.ensures.elements) ∙ (length-set written place zeroed ∙ so_far.1),
+            w.replace_at.ensures.spare ∙ so_far.2,
           )
       | else-mark-security w ↦
           rw w.marks-is (

@@ -9,7 +9,7 @@ returns-in-Ok-clause-marks c =
     let marks : List KeptMark = c.args.marks.now.elements in
     let mark : KeptMark = c.at-mark.result.now in
     let left = c.saturating_sub-left.result in
-    c.replace.ensures.elements
+    (rw c.at.ensures at c.replace_at.ensures.elements)
     ∙ (ap (λ (own : KeptMark). set marks c.in-Ok.place (record own { left = left })) c.at-mark.ensures
     ∙ released-stands c.args.holder c.args.number c.args.par marks c.in-Ok.place left mark c.requires
     c.in-Ok.ensures.stands

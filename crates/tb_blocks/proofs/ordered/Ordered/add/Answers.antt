@@ -10,12 +10,12 @@ invariant_of-self g c =
     let compare = g.T.Key.Ord.cmp in
     let key_of = g.T.Keyed.key_of in
     let key = key_of c.args.element in
-    let place = c.in-Err.place in
+    let place = c.in-Err.spot.place in
     let is : c.self.inside.list.elements ≡ c.args.self.now.elements = λ i. (c.self.view_is i).elements in
     let within : place ≤ length elements = rw is c.in-Err.ensures.within in
     let parts : PartsAt compare key_of key elements place = rw (is, ← c.key-key.ensures) c.in-Err.ensures.place in
     let new : ¬ (HasKey compare key_of key elements) = rw (is, ← c.key-key.ensures) c.in-Err.ensures.none in
-    rw c.insert.ensures.elements (ordered-insert compare key_of elements place c.args.element
+    rw c.insert_at.ensures.elements (ordered-insert compare key_of elements place c.args.element
     g.met.T.Key.Ord.total c.self.invariant within
     (parts (partitioned-order compare key_of key elements g.met.T.Key.Ord.total c.self.invariant)) new)
 

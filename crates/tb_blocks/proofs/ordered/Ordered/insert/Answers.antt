@@ -12,22 +12,11 @@ invariant_of-self g c =
     let key = key_of c.args.element in
     let is : c.self.inside.list.elements ≡ c.args.self.now.elements = λ i. (c.self.view_is i).elements in
     let parts = rw c.key-key.ensures at
-    (c.place_of-place.ensures.place
+    (c.spot_of-spot.ensures.place
     (partitioned-order compare key_of c.key-key.result elements g.met.T.Key.Ord.total c.self.invariant)) in
     let new : ¬ (HasKey compare key_of key elements) = rw is c.requires.new in
-    rw c.insert.ensures.elements (ordered-insert compare key_of elements c.place_of-place.result c.args.element
-    g.met.T.Key.Ord.total c.self.invariant c.place_of-place.ensures.within parts new)
+    rw c.insert_at.ensures.elements (ordered-insert compare key_of elements c.spot_of-spot.result.place c.args.element
+    g.met.T.Key.Ord.total c.self.invariant c.spot_of-spot.ensures.within parts new)
 
 pub returns-clause-ordered : goal.returns-clause-ordered
-returns-clause-ordered g c =
-    let elements = c.self.inside.list.elements in
-    let compare = g.T.Key.Ord.cmp in
-    let key_of = g.T.Keyed.key_of in
-    let key = key_of c.args.element in
-    let is : c.self.inside.list.elements ≡ c.args.self.now.elements = λ i. (c.self.view_is i).elements in
-    let parts = rw c.key-key.ensures at
-    (c.place_of-place.ensures.place
-    (partitioned-order compare key_of c.key-key.result elements g.met.T.Key.Ord.total c.self.invariant)) in
-    let new : ¬ (HasKey compare key_of key elements) = rw is c.requires.new in
-    rw c.insert.ensures.elements (ordered-insert compare key_of elements c.place_of-place.result c.args.element
-    g.met.T.Key.Ord.total c.self.invariant c.place_of-place.ensures.within parts new)
+returns-clause-ordered g c = invariant_of-self g c

@@ -6,8 +6,8 @@ use Rattle.tb_blocks.proofs.ordered.Ordered.place_of.Goals as goal
 pub returns-clause-place : goal.returns-clause-place
 returns-clause-place g c =
     let elements = c.self.inside.list.elements in
-    let parts = c.place_of.ensures.place
+    let parts = c.spot_of.ensures.place
     (partitioned-order g.T.Key.Ord.cmp g.T.Keyed.key_of c.args.key.now elements g.met.T.Key.Ord.total
     c.self.invariant) in
     let is : c.self.inside.list.elements ≡ c.args.self.now.elements = λ i. (c.self.view_is i).elements in
-    rw (← is) (parted-keys g.T.Key.Ord.cmp g.T.Keyed.key_of c.args.key.now elements c.place_of.result parts)
+    rw (← is) (parted-keys g.T.Key.Ord.cmp g.T.Keyed.key_of c.args.key.now elements c.spot_of.result.place parts)

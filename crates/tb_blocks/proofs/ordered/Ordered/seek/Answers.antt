@@ -6,7 +6,7 @@ use Rattle.std.proofs.lemmas.Bool.{false≢true}
 use Rattle.std.proofs.lemmas.List.{get_or_default}
 use Rattle.tb_blocks.proofs.OrderLemmas.{partitioned-order, none-has}
 use Rattle.tb_blocks.proofs.ordered.Ordered.seek.Goals as goal
-use Rattle.tb_blocks.proofs.ordered.Ordered.seek.Goals.{else-place-len-via-then-place-len+else-has_key, else-place-len-via-else-place-len}
+use Rattle.tb_blocks.proofs.ordered.Ordered.seek.Goals.{else-spot-len-via-then-spot-len+else-has_key, else-spot-len-via-else-spot-len}
 
 pub returns-clause-none : goal.returns-clause-none
 returns-clause-none g c =
@@ -14,18 +14,18 @@ returns-clause-none g c =
     let compare = g.T.Key.Ord.cmp in
     let key_of = g.T.Keyed.key_of in
     let key = c.args.key.now in
-    let place = c.place_of-place.result in
-    let parts = c.place_of-place.ensures.place
+    let place = c.spot_of-spot.result.place in
+    let parts = c.spot_of-spot.ensures.place
     (partitioned-order compare key_of key elements g.met.T.Key.Ord.total c.self.invariant) in
     let apart : (d : g.row.T.Denot) → place < length elements → compare (key_of (get_or elements place d)) key ≡ Equal
     → ⊥ =
-    elim c.else-place-len.branch [
-      | else-place-len-via-then-place-len+else-has_key w ↦ λ d some equal.
-          let e : w.at.result.now ≡ get_or elements place d =
-          w.at.ensures ∙ get_or_default elements place w.at.result.now d some in
+    elim c.else-spot-len.branch [
+      | else-spot-len-via-then-spot-len+else-has_key w ↦ λ d some equal.
+          let e : w.at_spot.result.now ≡ get_or elements place d =
+          w.at_spot.ensures ∙ get_or_default elements place w.at_spot.result.now d some in
           false≢true (w.if-has_key.ensures ∙ ap (λ x. is_eq (compare (key_of x) key)) e ∙ ap is_eq equal)
-      | else-place-len-via-else-place-len w ↦
-          λ d some equal. absurd (omega (arith, w.if-place-len.false, c.len.ensures))
+      | else-spot-len-via-else-spot-len w ↦
+          λ d some equal. absurd (omega (arith, w.if-spot-len.false, c.len.ensures))
     ] in
     let none = none-has compare key_of key elements place g.met.T.Key.Ord.total c.self.invariant parts apart in
     let is : c.self.inside.list.elements ≡ c.args.self.now.elements = λ i. (c.self.view_is i).elements in

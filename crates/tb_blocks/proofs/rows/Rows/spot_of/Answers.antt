@@ -1,13 +1,13 @@
 -- The blocks are parted by their first elements, and one of them within.
-use Rattle.std.proofs.Common.{◌≡◌, ◌+◌, ◌-◌, ◌/◌, ◌<◌, [], length, get_or, arith, ap, sym, ◌∙◌}
+use Rattle.std.proofs.Common.{◌≡◌, ◌+◌, ◌<◌, [], length, get_or, arith, ap, sym, ◌∙◌}
 use Rattle.tb_blocks.specs.Orders.{is_below}
 use Rattle.tb_blocks.specs.Rows.{joined, before}
 use Rattle.tb_blocks.proofs.BeforeLemmas.{before-more, before-le, before-end}
 use Rattle.tb_blocks.proofs.CountsLemmas.{joined-fits}
 use Rattle.tb_blocks.proofs.RowsLemmas.{block-is}
 use Rattle.tb_blocks.proofs.SearchLemmas.{all-before, none-behind, first-of-block, first-within, partition-block}
-use Rattle.tb_blocks.proofs.rows.Rows.place_of.Goals as goal
-use Rattle.tb_blocks.proofs.rows.Rows.place_of.Goals.{then-is_below, else-is_below}
+use Rattle.tb_blocks.proofs.rows.Rows.spot_of.Goals as goal
+use Rattle.tb_blocks.proofs.rows.Rows.spot_of.Goals.{then-is_below, else-is_below}
 
 pub loop-high-init : goal.loop-high-init
 loop-high-init g c =

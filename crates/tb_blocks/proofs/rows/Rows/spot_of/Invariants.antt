@@ -4,7 +4,7 @@ use Rattle.std.specs.List.{AllWithin}
 use Rattle.std.specs.List.Sorted.{IsPartitionedBy}
 use Rattle.tb_blocks.specs.Orders.{is_below}
 use Rattle.tb_blocks.specs.Rows.{joined, before}
-use Rattle.tb_blocks.proofs.rows.Rows.place_of.Given as goal
+use Rattle.tb_blocks.proofs.rows.Rows.spot_of.Given as goal
 
 abbrev pub invariant-loop-high : goal.invariant-loop-high
 invariant-loop-high g l = record {
