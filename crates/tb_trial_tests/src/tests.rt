@@ -24,12 +24,13 @@ fn figures(
     ))
 }
 
-// Too few bids to reach what is sought, enough of them, and many.
+// Too few bids to reach what is sought, enough of them, many, and more than are put in order at once.
 #[test]
 fn figures_follow_from_seed_and_count(rt: HostRuntime) -> Result<(), Fail> {
     let alloc = rt.alloc();
     assert!(rt; figures(&rt, alloc, 1, 1)? == (1010, 10_000, 98_723_472, 27_200));
     assert!(rt; figures(&rt, alloc, 7, 100)? == (1100, 10_000, 98_609_722, 5_305_600));
     assert!(rt; figures(&rt, alloc, 7, 50_000)? == (1040, 8913, 98_685_556, 1_000_024_700));
+    assert!(rt; figures(&rt, alloc, 7, 70_000)? == (1029, 47, 98_699_458, 1_000_032_400));
     Ok(())
 }
