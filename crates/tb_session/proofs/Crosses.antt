@@ -1,6 +1,6 @@
--- Which types may cross threads: a room may where its disk and its clock may.
+-- Which types may cross threads: a room may where its disk and its clock may. Each type goes by its fields.
 use denote.RattleType.{RattleType}
-use denote.Param.Send.{AllSend, IsSend, recorded_send, struct_send, sendable}
+use denote.Param.Send.{AllSend, IsSend, recorded_send, struct_send, sendable, view_send}
 use denote.Struct.Declared as declared
 use denote.Struct.Struct.{Struct}
 use Rattle.std.proofs.Crossing.{crosses}
@@ -10,7 +10,9 @@ use Rattle.tb_message.proofs.message.Entry.TheSendSync as entry
 use Rattle.tb_core.proofs.host.Host.TheSendSync as host
 use Rattle.http_server.proofs.log.Log.TheSendSync as log
 use Rattle.tb_journal.specs.contracts.journal.Journal as Journal
+use Rattle.tb_journal.specs.contracts.journal.Journal.TheInside as journal
 use Rattle.tb_desk.specs.contracts.desk.Desk as Desk
+use Rattle.tb_desk.specs.contracts.desk.Desk.TheInside as desk
 use Rattle.tb_lock.proofs.pass.Pass.TheSendSync as pass
 use Rattle.tb_session.specs.contracts.room.Room as Room
 use Rattle.tb_session.specs.contracts.worker.Worker as Worker
@@ -18,19 +20,31 @@ use Rattle.tb_session.specs.contracts.worker.Worker as Worker
 module _ (D : RattleType) (g : Ghosts D.Denot) where
   -- a journal may cross threads where its disk may
   journal_send : IsSend D → IsSend (Journal.the_row D g)
-  journal_send d = search (sendable, crosses) depth 60 fits 20000
+  journal_send d =
+      let made = journal.the_type D g in
+      let parts : AllSend (declared.fields made) = search (sendable, crosses) in
+      view_send _ _ _ _ _
+      (recorded_send (Struct (declared.shape made)) made.D made.to made.to_one
+      (struct_send (declared.shape made) parts))
 
   -- so may a desk on it
   desk_send : IsSend D → IsSend (Desk.the_row D g)
   desk_send d =
+      let made = desk.the_type D g in
       let journal = journal_send d in
-      search (sendable, crosses, host.the_send, entry.the_send, log.the_send) depth 60 fits 20000
+      let parts : AllSend (declared.fields made) =
+      search (sendable, crosses, host.the_send, entry.the_send, log.the_send) in
+      view_send _ _ _ _ _
+      (recorded_send (Struct (declared.shape made)) made.D made.to made.to_one
+      (struct_send (declared.shape made) parts))
 
   -- so may a room, where its clock may too
   pub room_send : (C : RattleType) → IsSend D → IsSend C → IsSend (Room.the_row D C g)
   room_send C d c =
+      let made = Room.the_type D C g in
       let desk = desk_send d in
-      search (sendable, ident.the_send) depth 60 fits 20000
+      let parts : AllSend (declared.fields made) = search (sendable, ident.the_send) in
+      recorded_send (Struct (declared.shape made)) made.D made.to made.to_one (struct_send (declared.shape made) parts)
 
   -- so may a worker, where its gate may too
   pub worker_send : (C G : RattleType) → IsSend D → IsSend C → IsSend G → IsSend (Worker.the_row D C G g)
