@@ -1,6 +1,6 @@
 -- How many elements stand before a block.
 use Rattle.std.proofs.Common.{◌≡◌, ℕ, zero, suc, ◌+◌, ◌*◌, ◌<◌, ◌≤◌, List, [], ◌∷◌, length, set, take, get_or, sum_by, refl, ap, sym, ◌∙◌, arith}
-use Rattle.std.specs.List.{insert}
+use Rattle.std.specs.List.{insert, remove}
 use Rattle.std.proofs.Math.Seq.{take-set-lt}
 use Rattle.std.proofs.lemmas.List.{take-set-le, length-take, get_or-take, take_all}
 use Rattle.std.proofs.lemmas.List.Sums.{sum_by-cons, sum_by_more, sum_by-take-le, sum_by-set}
@@ -77,6 +77,20 @@ before-insert_above (first ∷ blocks) (suc at) block (suc k) within high =
       before-insert_above blocks at block k (omega arith) (omega arith),
       sum_by-cons (λ b. length b) first (take k blocks),
       sum_by-cons (λ b. length b) first (take (suc k) (insert blocks at block)),
+    )
+
+-- a block that is taken out counted only for those behind it
+pub before-remove_below : {X : Type 0} (blocks : List (List X)) (at k : ℕ) → k ≤ at
+    → before k (remove blocks at) ≡ before k blocks
+before-remove_below blocks at zero low = refl
+before-remove_below blocks zero (suc k) low = absurd (omega arith)
+before-remove_below [] (suc at) (suc k) low = refl
+before-remove_below (first ∷ blocks) (suc at) (suc k) low =
+    omega (
+      arith,
+      before-remove_below blocks at k (omega arith),
+      sum_by-cons (λ b. length b) first (take k blocks),
+      sum_by-cons (λ b. length b) first (take k (remove blocks at)),
     )
 
 -- no fewer elements stand before a later block

@@ -1,11 +1,12 @@
--- Counting all blocks, one after another.
-use Rattle.std.proofs.Common.{◌≡◌, ℕ, ◌+◌, ◌-◌, ◌*◌, ◌/◌, ◌%◌, ◌<◌, ◌≤◌, List, [], ◌∷◌, ◌++◌, length, take, get_or, ap, sym, ◌∙◌, arith, inl, inr, length-append}
+-- Counting blocks, one after another.
+use Rattle.std.proofs.Common.{◌≡◌, ℕ, zero, suc, ◌+◌, ◌-◌, ◌*◌, ◌/◌, ◌%◌, ◌<◌, ◌≤◌, List, [], ◌∷◌, ◌++◌, length, take, get_or, ap, ◌∙◌, arith, inl, inr, length-append}
 use Rattle.std.proofs.lemmas.Bool.{cases_order}
 use Rattle.std.proofs.Math.ListN.{get_or-append}
 use Rattle.std.proofs.Math.Seq.{get_or-append_seam}
-use Rattle.std.proofs.lemmas.List.Sums.{sum_by_more}
-use Rattle.tb_blocks.specs.Sizes.{group_size, progress, full_of}
-use Rattle.tb_blocks.specs.Rows.{before}
+use Rattle.std.proofs.lemmas.List.{get_or-take, length-take}
+use Rattle.std.proofs.lemmas.List.Sums.{sum_by-cons}
+use Rattle.tb_blocks.specs.Sizes.{block_size, group_size}
+use Rattle.tb_blocks.specs.Rows.{before, AreCountedTo, AreCounts}
 use Rattle.tb_blocks.proofs.BeforeLemmas.{before-more}
 
 -- the blocks before one are counted, and so many elements stand before it and before its group
@@ -105,8 +106,64 @@ counting-next at total group new_group groups new_groups starts new_starts block
           (let z : at / group_size ≡ (at + 1) / group_size = omega arith in z);
     }
 
--- one block more is looked at for being full
-pub full-next : {X : Type 0} (blocks : List (List X)) (at : ℕ) (block : List X) → at < length blocks
-    → block ≡ get_or blocks at [] → full_of (take (at + 1) blocks) ≡ full_of (take at blocks) + progress 2 block
-full-next blocks at block some is =
-    sum_by_more (λ b. progress 2 b) blocks at [] some ∙ ap (λ b. full_of (take at blocks) + progress 2 b) (sym is)
+-- the blocks before a group are counted, and nothing of it
+pub counting-begun : {X : Type 0} (group total : ℕ) (groups starts : List ℕ) (blocks : List (List X))
+    → AreCountedTo group total groups starts blocks
+    → IsCounting (group_size * group) total total (take group groups) (take (group_size * group) starts) blocks
+counting-begun group total groups starts blocks counted =
+    let told : length (take group groups) ≡ group = omega (arith, length-take group groups, counted.groups_told) in
+    let each : length (take (group_size * group) starts) ≡ group_size * group =
+    omega (arith, length-take (group_size * group) starts, counted.starts_told) in
+    record {
+      one_each = each;
+      begun = omega (arith, told);
+      few = omega (arith, told);
+      by_group = λ k short.
+          let before_it : k < group = omega (arith, told) in
+          get_or-take group groups k 0 before_it ∙ counted.by_group k before_it;
+      by_block = λ k short. rw (get_or-take (group_size * group) starts k 0 short) (counted.by_block k short);
+      total_is = counted.total_is;
+      low = omega arith;
+      group_is = λ inside. absurd (omega (arith, inside));
+    }
+
+-- so many elements at most stand before a block
+pub before-small : {X : Type 0} (blocks : List (List X)) (at : ℕ)
+    → ((k : ℕ) → length (get_or blocks k []) ≤ block_size)
+    → before at blocks ≤ block_size * at
+before-small blocks zero small = omega arith
+before-small [] (suc at) small = omega arith
+before-small (block ∷ blocks) (suc at) small =
+    omega (
+      arith,
+      small zero,
+      before-small blocks at (λ k. small (suc k)),
+      sum_by-cons (λ b. length b) block (take at blocks),
+    )
+
+-- blocks of which those before a group stand as they were counted
+pub counted-before : {X : Type 0} (group total : ℕ) (groups starts : List ℕ) (old new : List (List X))
+    → AreCounts groups starts old
+    → group_size * group ≤ length old
+    → group ≤ length groups
+    → group_size * group ≤ length new
+    → total ≡ before (group_size * group) old
+    → ((k : ℕ) → k ≤ group_size * group → before k new ≡ before k old)
+    → AreCountedTo group total groups starts new
+counted-before group total groups starts old new counts within told longer total_is same = record {
+  within = longer;
+  groups_told = told;
+  starts_told = omega (arith, counts.one_each);
+  by_group = λ k short. omega (
+    arith,
+    counts.by_group k (omega (arith, told)),
+    same (group_size * k) (omega (arith, short)),
+  );
+  by_block = λ k short. omega (
+    arith,
+    counts.by_block k (omega (arith, within)),
+    same k (omega (arith, short)),
+    same (group_size * (k / group_size)) (omega (arith, short)),
+  );
+  total_is = omega (arith, total_is, same (group_size * group) (omega arith));
+}

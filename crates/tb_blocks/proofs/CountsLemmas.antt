@@ -1,9 +1,10 @@
 -- The numbers of elements before groups and blocks, where one block changes.
-use Rattle.std.proofs.Common.{◌≡◌, ℕ, zero, suc, ◌+◌, ◌*◌, ◌/◌, ◌<◌, ◌≤◌, List, [], ◌∷◌, length, set, get_or, min, ap, sym, ◌∙◌, arith, inl, inr, length-set}
+use Rattle.std.proofs.Common.{◌≡◌, ℕ, zero, suc, ◌+◌, ◌*◌, ◌/◌, ◌<◌, ◌≤◌, List, [], ◌∷◌, length, set, take, drop, get_or, min, ap, sym, ◌∙◌, arith, inl, inr, length-set, length-drop}
+use Rattle.std.specs.List.{insert, remove}
 use Rattle.std.proofs.lemmas.Bool.{cases_order}
-use Rattle.std.proofs.lemmas.List.{get_or_default}
-use Rattle.std.proofs.lemmas.List.Sums.{sum_by-cons, sum_by-set}
-use Rattle.tb_blocks.specs.Sizes.{block_size, group_size, most_blocks, progress, full_of}
+use Rattle.std.proofs.lemmas.List.{get_or_default, length-take}
+use Rattle.std.proofs.lemmas.List.Sums.{sum_by-cons, sum_by-insert, sum_by-remove, sum_by-set}
+use Rattle.tb_blocks.specs.Sizes.{block_size, half_size, group_size, most_blocks, progress, full_of}
 use Rattle.tb_blocks.specs.Rows.{joined, before, AreCounts, AreRows, IsRaised}
 use Rattle.tb_blocks.proofs.RowsLemmas.{block-is, small-set}
 use Rattle.tb_blocks.proofs.BeforeLemmas.{before-le, before-mono, before-set_below, before-set_above, joined-small}
@@ -299,4 +300,41 @@ full_of-set blocks at block new some is =
       arith,
       ap (λ b. length b) (block-is blocks at block some is),
       sum_by-set (λ b. progress 2 b) blocks at new [] some,
+    )
+
+-- where one comes in
+pub full_of-insert : {X : Type 0} (blocks : List (List X)) (at : ℕ) (block : List X)
+    → full_of (insert blocks at block) ≡ full_of blocks + progress 2 block
+full_of-insert blocks at block = sum_by-insert (λ b. progress 2 b) blocks at block
+
+-- where a full one is split
+pub full_of-split : {X : Type 0} (blocks : List (List X)) (at : ℕ) (block lower upper : List X)
+    → at < length blocks
+    → block ≡ get_or blocks at block
+    → length block ≡ block_size
+    → lower ≡ take half_size block
+    → upper ≡ drop half_size block
+    → full_of (insert (set blocks at lower) (at + 1) upper) + 1 ≡ full_of blocks
+full_of-split blocks at block lower upper some is full lower_is upper_is =
+    omega (
+      arith,
+      full_of-insert (set blocks at lower) (at + 1) upper,
+      full_of-set blocks at block lower some is,
+      full,
+      ap (λ b. length b) lower_is,
+      length-take half_size block,
+      ap (λ b. length b) upper_is,
+      length-drop half_size block,
+    )
+
+-- and where an empty one goes
+pub full_of-remove : {X : Type 0} (blocks : List (List X)) (at : ℕ)
+    → at < length blocks
+    → get_or blocks at [] ≡ []
+    → full_of (remove blocks at) ≡ full_of blocks
+full_of-remove blocks at some empty =
+    omega (
+      arith,
+      sum_by-remove (λ b. progress 2 b) blocks at [] some,
+      ap (λ b. length b) empty,
     )

@@ -10,7 +10,7 @@ use Rattle.std.proofs.lemmas.Cmp.{alike_right}
 use Rattle.std.proofs.lemmas.Bool.{cases_order, cases_lt, false≢true}
 use Rattle.std.proofs.lemmas.List.{get_or_default}
 use Rattle.std.proofs.lemmas.List.Edits.{length-insert, get_or-insert_below, get_or-insert_at, get_or-insert_above, length-remove, get_or-remove_below, get_or-remove_above}
-use Rattle.tb_blocks.specs.Orders.{is_below, AreOrdered, HasKey}
+use Rattle.tb_blocks.specs.Orders.{is_below, AreOrdered, HasKey, PartsAt}
 
 -- an element put between those that relate to it and those that it relates to
 pub AllPairs-insert : {X : Type 0} (R : X → X → Type 0) (xs : List X) (i : ℕ) (y : X) → i ≤ length xs → AllPairs R xs
@@ -152,6 +152,21 @@ ordered-insert compare key_of xs i y total order within parts new =
             to equal;
       },
     )))
+
+-- so it is of the element for whose key a place was looked up
+pub ordered-added : {X K : Type 0} (compare : K → K → Ordering) (key_of : X → K) (key : K) (elements : List X)
+    (element : X) (place : ℕ)
+    → IsTotalOrder compare
+    → AreOrdered compare key_of elements
+    → key ≡ key_of element
+    → place ≤ length elements
+    → PartsAt compare key_of key elements place
+    → ¬ (HasKey compare key_of key elements)
+    → AreOrdered compare key_of (insert elements place element)
+ordered-added compare key_of key elements element place total order is within parts new =
+    ordered-insert compare key_of elements place element total order within
+    (rw is at (parts (partitioned-order compare key_of key elements total order)))
+    (rw is at new)
 
 -- an element of another's key in its place keeps the order
 pub ordered-set : {X K : Type 0} (compare : K → K → Ordering) (key_of : X → K) (xs : List X) (i : ℕ) (y : X)

@@ -38,6 +38,16 @@ pub record AreCounts {X : Type 0} (groups starts : List ℕ) (blocks : List (Lis
   pub by_block : (k : ℕ) → k < length blocks
       → before (group_size * (k / group_size)) blocks + slice_index starts k ≡ before k blocks
 
+-- so it is of the blocks before a group, and so many elements stand before it
+pub record AreCountedTo {X : Type 0} (group total : ℕ) (groups starts : List ℕ) (blocks : List (List X)) : Type 0 where
+  pub within : group_size * group ≤ length blocks
+  pub groups_told : group ≤ length groups
+  pub starts_told : group_size * group ≤ length starts
+  pub by_group : (k : ℕ) → k < group → slice_index groups k ≡ before (group_size * k) blocks
+  pub by_block : (k : ℕ) → k < group_size * group
+      → before (group_size * (k / group_size)) blocks + slice_index starts k ≡ before k blocks
+  pub total_is : total ≡ before (group_size * group) blocks
+
 -- the new numbers are one more from one place on and before another
 pub record IsRaised (from to : ℕ) (old new : List ℕ) : Type 0 where
   pub same : length new ≡ length old

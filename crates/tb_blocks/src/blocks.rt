@@ -37,7 +37,7 @@ impl<T> Model for Blocks<T> {
         (vec_len list.small + list.spare ≤ vec_capacity list.small) × (vec_len list.small + list.spare ≤ block_size) };
 }
 
-impl<T: Drop> Blocks<T> {
+impl<T: Copy + Drop> Blocks<T> {
     /// An empty list, which takes no memory.
     pub fn new(alloc: Global) -> Blocks<T>
         ensures elements { result.elements ≡ [] }
@@ -173,7 +173,7 @@ impl<T: Drop> Blocks<T> {
     }
 }
 
-impl<T: Keyed + Drop> Blocks<T> {
+impl<T: Keyed + Copy + Drop> Blocks<T> {
     /// The spot before which the elements stand before the key, where those come first.
     pub fn spot_of(&self, key: &T::Key) -> Spot
         ensures within { result.place ≤ length self.now.elements }
@@ -187,7 +187,7 @@ impl<T: Keyed + Drop> Blocks<T> {
 }
 
 // The list of the vector in blocks, where so many adds are sure. The vector is empty then.
-fn enlarged<T: Drop>(
+fn enlarged<T: Copy + Drop>(
     small: &mut Vec<T>,
     more: usize,
     alloc: Global,
@@ -207,7 +207,7 @@ fn enlarged<T: Drop>(
 }
 
 // Moves all elements of the vector into an empty list, in which so many adds are sure.
-fn move_all<T: Drop>(small: &mut Vec<T>, large: &mut Large<T>)
+fn move_all<T: Copy + Drop>(small: &mut Vec<T>, large: &mut Large<T>)
     requires empty { large.old.elements ≡ [] }
     requires room { vec_len small.old ≤ large.old.spare }
     ensures elements { large.new.elements ≡ small.old.items }

@@ -1,8 +1,8 @@
 //! The numbers of elements before blocks, in two levels: before each group of blocks, and within the group before each
 //! of its blocks. Neither an add nor a place walks all of them.
 ghost use Rattle.std.specs.Prelude.{◌≡◌, ℕ, ◌+◌, ◌-◌, ◌*◌, ◌^◌, ◌<◌, ◌≤◌, [], length, slice_index, slice_index_or, vec_capacity};
-ghost use Rattle.tb_blocks.specs.Sizes.{block_size, most_blocks, full_of};
-ghost use Rattle.tb_blocks.specs.Rows.{before, AreCounts, IsRaised};
+ghost use Rattle.tb_blocks.specs.Sizes.{block_size, most_blocks};
+ghost use Rattle.tb_blocks.specs.Rows.{AreCountedTo, AreCounts, IsRaised};
 
 use crate::block::Block;
 
@@ -35,32 +35,33 @@ pub fn lower(numbers: &mut Vec<usize>, from: usize, to: usize)
     }
 }
 
-/// Counts all blocks anew, and tells how many are full.
-pub fn count<T: Drop>(
+/// Counts the blocks from a group on, before which so many elements stand. Those before it are counted.
+pub fn count_from<T: Copy + Drop>(
     blocks: &[Block<T>],
     starts: &mut Vec<usize>,
     groups: &mut Vec<usize>,
-) -> usize
+    from: usize,
+    elements: usize,
+)
     requires small { (k : ℕ) → length (slice_index_or blocks.now k []) ≤ block_size }
     requires few { length blocks.now ≤ most_blocks }
     requires room { length blocks.now ≤ vec_capacity starts.old }
     requires groups_room { length blocks.now ≤ vec_capacity groups.old }
+    requires counted { AreCountedTo from elements groups.old.items starts.old.items blocks.now }
     ensures counts { AreCounts groups.new.items starts.new.items blocks.now }
-    ensures full { result ≡ full_of blocks.now }
     ensures capacity { vec_capacity starts.new ≡ vec_capacity starts.old }
     ensures groups_capacity { vec_capacity groups.new ≡ vec_capacity groups.old }
 {
-    starts.clear();
-    groups.clear();
-    let (mut total, mut group, mut full) = (0, 0, 0);
-    for (at, block) in blocks.iter().enumerate() {
+    let first = from * GROUP;
+    starts.truncate(first);
+    groups.truncate(from);
+    let (mut total, mut group) = (elements, elements);
+    for at in first..blocks.len() {
         if at % GROUP == 0 {
             group = total;
             groups.push_reserved(group);
         }
         starts.push_reserved(total - group);
-        total += block.len();
-        full += block.full_count();
+        total += blocks[at].len();
     }
-    full
 }

@@ -40,7 +40,7 @@ impl<T> Model for Large<T> {
         list.rows.room (vec_capacity list.pool.free) };
 }
 
-impl<T: Drop> Large<T> {
+impl<T: Copy + Drop> Large<T> {
     /// An empty list with an empty block.
     pub fn new(alloc: Global) -> Result<Large<T>, AllocError>
         ensures { IfOk result (λ list. list.elements ≡ []) }
@@ -168,7 +168,7 @@ impl<T: Drop> Large<T> {
     }
 }
 
-impl<T: Keyed + Drop> Large<T> {
+impl<T: Keyed + Copy + Drop> Large<T> {
     /// The place before which the elements stand before the key, where those come first.
     pub fn spot_of(&self, key: &T::Key) -> Spot
         ensures within { result.place ≤ length self.now.elements }
@@ -186,7 +186,7 @@ struct Way {
 }
 
 // Makes way for an element at the place, which goes into this block.
-fn make_way<T: Drop>(
+fn make_way<T: Copy + Drop>(
     rows: &mut Rows<T>,
     pool: &mut Pool<T>,
     at: usize,
@@ -228,7 +228,7 @@ fn make_way<T: Drop>(
 }
 
 // Where the place is an end of the list: the place of a new block there.
-fn end_at<T: Drop>(rows: &Rows<T>, at: usize, place: usize) -> Option<usize>
+fn end_at<T: Copy + Drop>(rows: &Rows<T>, at: usize, place: usize) -> Option<usize>
     requires at { at < length rows.now.blocks.items }
     requires low { before at rows.now.blocks.items ≤ place }
     requires high { place ≤ before (at + 1) rows.now.blocks.items }
@@ -245,7 +245,7 @@ fn end_at<T: Drop>(rows: &Rows<T>, at: usize, place: usize) -> Option<usize>
 }
 
 // Splits the full block, and gives the half that the place is in.
-fn split<T: Drop>(rows: &mut Rows<T>, pool: &mut Pool<T>, at: usize, place: usize) -> usize
+fn split<T: Copy + Drop>(rows: &mut Rows<T>, pool: &mut Pool<T>, at: usize, place: usize) -> usize
     requires at { at < length rows.old.blocks.items }
     requires low { before at rows.old.blocks.items ≤ place }
     requires high { place ≤ before (at + 1) rows.old.blocks.items }
@@ -272,7 +272,7 @@ fn split<T: Drop>(rows: &mut Rows<T>, pool: &mut Pool<T>, at: usize, place: usiz
 }
 
 // Gives an empty block back, but for a list's only one.
-fn free_empty<T: Drop>(rows: &mut Rows<T>, pool: &mut Pool<T>, at: usize)
+fn free_empty<T: Copy + Drop>(rows: &mut Rows<T>, pool: &mut Pool<T>, at: usize)
     requires at { at < length rows.old.blocks.items }
     requires room { HasRoom (length rows.old.blocks.items) (length pool.old.free.items)
         rows.old.room (vec_capacity pool.old.free) }

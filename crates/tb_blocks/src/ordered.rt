@@ -28,7 +28,7 @@ impl<T: Keyed> Model for Ordered<T> {
     ghost invariant = { λ ordered. AreOrdered T.Key.cmp T.key_of ordered.list.elements };
 }
 
-impl<T: Keyed + Drop> Ordered<T> {
+impl<T: Keyed + Copy + Drop> Ordered<T> {
     /// An empty list, which takes no memory.
     pub fn new(alloc: Global) -> Ordered<T>
         ensures elements { result.elements ≡ [] }

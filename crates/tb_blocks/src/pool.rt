@@ -12,7 +12,7 @@ pub struct Pool<T> {
     ghost empty: { (k : ℕ) → slice_index_or free.items k [] ≡ [] },
 }
 
-impl<T: Drop> Pool<T> {
+impl<T: Copy + Drop> Pool<T> {
     /// No blocks.
     pub fn new(alloc: Global) -> Pool<T>
         ensures free { result.free.items ≡ [] }

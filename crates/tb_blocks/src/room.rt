@@ -15,7 +15,7 @@ pub const MOST_ADDS: usize = 1099511627776;
 pub const MOST_BLOCKS: usize = 4294967296;
 
 /// Sees that so many blocks are free.
-pub fn fill<T: Drop>(
+pub fn fill<T: Copy + Drop>(
     rows: &mut Rows<T>,
     pool: &mut Pool<T>,
     wanted: usize,
@@ -43,7 +43,7 @@ pub fn fill<T: Drop>(
 }
 
 /// The pace at which the adds need the fewest blocks, or one each where the list has as many.
-pub fn pace_for<T: Drop>(rows: &Rows<T>, free: usize, more: usize) -> usize
+pub fn pace_for<T: Copy + Drop>(rows: &Rows<T>, free: usize, more: usize) -> usize
     ensures { IsPace result }
 {
     if more <= free || (more == 1 && rows.full > 0) {
@@ -62,7 +62,7 @@ pub fn pace_for<T: Drop>(rows: &Rows<T>, free: usize, more: usize) -> usize
 }
 
 // Its result is only the better choice: the caller takes what the adds need at this pace, whatever it is.
-fn best_pace<T: Drop>(blocks: &[Block<T>], more: usize) -> usize
+fn best_pace<T: Copy + Drop>(blocks: &[Block<T>], more: usize) -> usize
     ensures { IsPace result }
 {
     let mut near: [usize; BLOCK] = [0; BLOCK];
@@ -101,7 +101,7 @@ pub fn needed(more: usize, progress: usize, pace: usize) -> usize
 }
 
 /// How far the blocks have come at the pace. At a pace of one or two this walks none of them.
-pub fn progress_at<T: Drop>(rows: &Rows<T>, pace: usize) -> usize
+pub fn progress_at<T: Copy + Drop>(rows: &Rows<T>, pace: usize) -> usize
     requires { IsPace pace }
     ensures progress { result ≡ progress_of pace rows.now.blocks.items }
     ensures fits { result ≤ (block_size + 1) * most_blocks }
@@ -114,7 +114,7 @@ pub fn progress_at<T: Drop>(rows: &Rows<T>, pace: usize) -> usize
 }
 
 /// How far the blocks have come towards their next splits.
-pub fn progress_of<T: Drop>(pace: usize, blocks: &[Block<T>]) -> usize
+pub fn progress_of<T: Copy + Drop>(pace: usize, blocks: &[Block<T>]) -> usize
     requires slow { IsPace pace }
     requires few { length blocks.now ≤ most_blocks }
     ensures progress { result ≡ progress_of pace blocks.now }

@@ -1,12 +1,12 @@
 //! The blocks of a list, with the number of elements before each.
 ghost use Rattle.std.specs.Prelude.{◌≡◌, true, ℕ, ◌+◌, ◌-◌, ◌*◌, ◌^◌, ◌<◌, ◌≤◌, ◌++◌, ◌∷◌, [], OnOk, length, set, take, drop, slice_index, slice_index_or, vec_len, vec_capacity};
 ghost use Rattle.std.specs.List.{insert, remove};
-ghost use Rattle.tb_blocks.specs.Sizes.{block_size, half_size, most_blocks, full_of};
+ghost use Rattle.tb_blocks.specs.Sizes.{block_size, group_size, half_size, most_blocks, full_of};
 ghost use Rattle.tb_blocks.specs.Rows.{joined, before, block_at, halves, put_in, taken_from, replaced_in, AreRows};
 ghost use Rattle.tb_blocks.specs.Lists.{HasPlaces, IsRun};
 
 use crate::block::Block;
-use crate::counts::{GROUP, count, lower, raise};
+use crate::counts::{GROUP, count_from, lower, raise};
 use std::alloc::{AllocError, Global};
 
 /// The blocks of a list.
@@ -35,7 +35,7 @@ fn insert_reserved<X: Drop>(vector: &mut Vec<X>, at: usize, element: X)
     vector.insert(at, element).unwrap();
 }
 
-impl<T: Drop> Rows<T> {
+impl<T: Copy + Drop> Rows<T> {
     /// No blocks.
     pub fn new(alloc: Global) -> Rows<T>
         ensures blocks { result.blocks.items ≡ [] }
@@ -73,6 +73,20 @@ impl<T: Drop> Rows<T> {
         ensures fits { result ≤ block_size * most_blocks }
     {
         self.groups[at / GROUP] + self.starts[at]
+    }
+
+    // How many elements stand before the group.
+    fn group_start(&self, group: usize) -> usize
+        requires { group_size * group ≤ length self.now.blocks.items }
+        ensures start { result ≡ before (group_size * group) self.now.blocks.items }
+        ensures group { group ≤ length self.now.groups.items }
+        ensures fits { result ≤ block_size * most_blocks }
+    {
+        if group < self.groups.len() {
+            self.groups[group]
+        } else {
+            self.len()
+        }
     }
 
     // Whether there is such a block, and the place is in it.
@@ -196,16 +210,25 @@ impl<T: Drop> Rows<T> {
         self.blocks[at].replace(place - start, element)
     }
 
-    /// Puts a block in before the one at the place, or behind the last.
+    /// Puts an empty block in before the one at the place, or behind the last.
     pub fn open(&mut self, at: usize, block: Block<T>)
         requires at { at ≤ length self.old.blocks.items }
+        requires empty { block ≡ [] }
         requires room { length self.old.blocks.items < self.old.room }
         requires few { length self.old.blocks.items < most_blocks }
         ensures blocks { self.new.blocks.items ≡ insert self.old.blocks.items at block }
         ensures room { self.new.room ≡ self.old.room }
     {
+        let group = at / GROUP;
+        let elements = self.group_start(group);
         insert_reserved(&mut self.blocks, at, block);
-        self.full = count(&self.blocks, &mut self.starts, &mut self.groups);
+        count_from(
+            &self.blocks,
+            &mut self.starts,
+            &mut self.groups,
+            group,
+            elements,
+        );
     }
 
     /// Splits a full block: its upper half goes into the empty block, which comes behind it.
@@ -218,9 +241,18 @@ impl<T: Drop> Rows<T> {
         ensures blocks { self.new.blocks.items ≡ halves self.old.blocks.items at }
         ensures room { self.new.room ≡ self.old.room }
     {
+        let group = at / GROUP;
+        let elements = self.group_start(group);
         self.blocks[at].split_into(&mut upper);
         insert_reserved(&mut self.blocks, at + 1, upper);
-        self.full = count(&self.blocks, &mut self.starts, &mut self.groups);
+        self.full -= 1;
+        count_from(
+            &self.blocks,
+            &mut self.starts,
+            &mut self.groups,
+            group,
+            elements,
+        );
     }
 
     /// Gives up an empty block.
@@ -231,8 +263,16 @@ impl<T: Drop> Rows<T> {
         ensures blocks { self.new.blocks.items ≡ remove self.old.blocks.items at }
         ensures room { self.new.room ≡ self.old.room }
     {
+        let group = at / GROUP;
+        let elements = self.group_start(group);
         let block = self.blocks.remove(at);
-        self.full = count(&self.blocks, &mut self.starts, &mut self.groups);
+        count_from(
+            &self.blocks,
+            &mut self.starts,
+            &mut self.groups,
+            group,
+            elements,
+        );
         block
     }
 }

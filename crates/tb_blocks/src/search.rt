@@ -65,7 +65,7 @@ pub fn place_in<T: Keyed>(elements: &[T], key: &T::Key) -> usize
     low
 }
 
-impl<T: Keyed + Drop> Rows<T> {
+impl<T: Keyed + Copy + Drop> Rows<T> {
     /// The place before which the elements stand before the key, where those come first. The blocks are searched by
     /// their first elements, and then one of them.
     pub fn spot_of(&self, key: &T::Key) -> Spot
@@ -77,7 +77,8 @@ impl<T: Keyed + Drop> Rows<T> {
         let (mut low, mut high) = (0, self.blocks.len());
         let mut middle = high - 1;
         while high - low > 1 {
-            if is_below(self.blocks[middle].at(0), key) {
+            let first = self.blocks[middle].first();
+            if is_below(&first, key) {
                 low = middle;
             } else {
                 high = middle;

@@ -1,14 +1,25 @@
 -- The element goes into a new block at an end, or into one of the halves.
-use Rattle.std.proofs.Common.{◌≡◌, ◌+◌, ◌-◌, ◌*◌, ◌≤◌, [], length, get_or, arith, ap, ◌∙◌, subst}
+use Rattle.std.proofs.Common.{◌≡◌, ◌+◌, ◌-◌, ◌*◌, ◌≤◌, [], length, get_or, min, mul-le-mul_left, arith, ap, ◌∙◌, subst}
 use Rattle.std.specs.List.{insert}
 use Rattle.std.proofs.lemmas.List.Edits.{get_or-insert_at}
-use Rattle.tb_blocks.specs.Sizes.{block_size, progress_of}
+use Rattle.tb_blocks.specs.Sizes.{block_size, half_size, progress_of}
 use Rattle.tb_blocks.specs.Lists.{IsSure}
 use Rattle.tb_blocks.specs.Rows.{halves}
 use Rattle.tb_blocks.proofs.RowsLemmas.{block-is, length-halves}
 use Rattle.tb_blocks.proofs.SureLemmas.{sure-open, sure-split}
 use Rattle.tb_blocks.proofs.WayLemmas.{IsWay-open, IsWay-split, filled-all, filled-open, filled-halves, filled-set}
 use Rattle.tb_blocks.proofs.large.make_way.Goals as goal
+
+pub overflow_add-spare : goal.overflow_add-spare
+overflow_add-spare g c =
+    omega (
+      arith,
+      c.progress_of.ensures.fits,
+      c.requires.sure,
+      c.requires.pace.most,
+      c.requires.room.few,
+      mul-le-mul_left (min c.args.pace half_size) c.requires.room.few,
+    )
 
 pub returns-in-Some-clause-way : goal.returns-in-Some-clause-way
 returns-in-Some-clause-way g c =

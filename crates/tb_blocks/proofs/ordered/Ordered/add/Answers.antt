@@ -1,23 +1,18 @@
 -- The element stands where its key belongs.
-use Rattle.std.proofs.Common.{◌≡◌, ◌≤◌, length}
-use Rattle.tb_blocks.specs.Orders.{HasKey, PartsAt}
-use Rattle.tb_blocks.proofs.OrderLemmas.{partitioned-order, ordered-insert}
+use Rattle.std.proofs.Common.{◌≡◌}
+use Rattle.tb_blocks.proofs.OrderLemmas.{ordered-added}
 use Rattle.tb_blocks.proofs.ordered.Ordered.add.Goals as goal
 
 pub invariant_of-self : goal.invariant_of-self
 invariant_of-self g c =
-    let elements = c.self.inside.list.elements in
-    let compare = g.T.Key.Ord.cmp in
-    let key_of = g.T.Keyed.key_of in
-    let key = key_of c.args.element in
-    let place = c.in-Err.spot.place in
     let is : c.self.inside.list.elements ≡ c.args.self.now.elements = λ i. (c.self.view_is i).elements in
-    let within : place ≤ length elements = rw is c.in-Err.ensures.within in
-    let parts : PartsAt compare key_of key elements place = rw (is, ← c.key-key.ensures) c.in-Err.ensures.place in
-    let new : ¬ (HasKey compare key_of key elements) = rw (is, ← c.key-key.ensures) c.in-Err.ensures.none in
-    rw c.insert_at.ensures.elements (ordered-insert compare key_of elements place c.args.element
-    g.met.T.Key.Ord.total c.self.invariant within
-    (parts (partitioned-order compare key_of key elements g.met.T.Key.Ord.total c.self.invariant)) new)
+    rw c.insert_at.ensures.elements (ordered-added g.T.Key.Ord.cmp g.T.Keyed.key_of c.key-key.result
+    c.self.inside.list.elements c.args.element c.in-Err.spot.place g.met.T.Key.Ord.total c.self.invariant
+    c.key-key.ensures (rw is c.in-Err.ensures.within) (rw is c.in-Err.ensures.place) (rw is c.in-Err.ensures.none))
 
-pub returns-in-Err-clause-ordered : goal.returns-in-Err-clause-ordered
-returns-in-Err-clause-ordered g c = invariant_of-self g c
+pub returns-clause-ordered : goal.returns-clause-ordered
+returns-clause-ordered g c =
+    let is : c.self.inside.list.elements ≡ c.args.self.now.elements = λ i. (c.self.view_is i).elements in
+    rw c.insert_at.ensures.elements (ordered-added g.T.Key.Ord.cmp g.T.Keyed.key_of c.key-key.result
+    c.self.inside.list.elements c.args.element c.in-Err.spot.place g.met.T.Key.Ord.total c.self.invariant
+    c.key-key.ensures (rw is c.in-Err.ensures.within) (rw is c.in-Err.ensures.place) (rw is c.in-Err.ensures.none))

@@ -35,9 +35,9 @@ loop-high-preserved g c =
     let short : middle < length blocks = omega (arith, i.within, looked.1) in
     let here : 0 < length (get_or blocks middle []) =
     c.requires.filled middle short (omega (arith, i.within, looked.0, looked.1)) in
-    let x = c.at.result.now in
+    let x = c.first-first.result in
     let block_is = block-is blocks middle c.index.result.now short c.index.ensures in
-    let is = first-of-block blocks middle x short here (c.at.ensures ∙ ap (λ b. get_or b 0 x) block_is) in
+    let is = first-of-block blocks middle x short here (c.first-first.ensures ∙ ap (λ b. get_or b 0 x) block_is) in
     let within = first-within blocks middle short here in
     elim c.if-is_below.branch [
       | then-is_below w ↦ rw (w.low-is, w.high-is) record {

@@ -1,9 +1,26 @@
 -- One block more is counted.
-use Rattle.std.proofs.Common.{◌≡◌, ◌<◌, [], length, get_or, vec_capacity, arith, ap, ◌∙◌}
+use Rattle.std.proofs.Common.{◌≡◌, ◌*◌, ◌<◌, [], length, get_or, vec_capacity, arith, ap, ◌∙◌}
 use Rattle.std.proofs.lemmas.List.{get_or_default}
-use Rattle.tb_blocks.proofs.CountingLemmas.{IsGrouped, grouped-new, grouped-same, counting-next, full-next}
-use Rattle.tb_blocks.proofs.counts.count.Goals as goal
-use Rattle.tb_blocks.proofs.counts.count.Goals.{then-at-eq0, else-at-eq0}
+use Rattle.tb_blocks.specs.Sizes.{group_size}
+use Rattle.tb_blocks.proofs.CountingLemmas.{IsGrouped, before-small, counting-begun, counting-next, grouped-new, grouped-same}
+use Rattle.tb_blocks.proofs.counts.count_from.Goals as goal
+use Rattle.tb_blocks.proofs.counts.count_from.Goals.{then-at-eq0, else-at-eq0}
+
+pub loop-at-init : goal.loop-at-init
+loop-at-init g c =
+    let first : group_size * c.args.from ≡ c.args.from * 32 = omega arith in
+    record {
+      counting = rw (← first, c.truncate.ensures.items, c.truncate-2.ensures.items, ← first)
+          (counting-begun c.args.from c.args.elements c.args.groups.now.items c.args.starts.now.items
+          c.args.blocks.now c.requires.counted);
+      total = omega (
+        arith,
+        c.requires.counted.total_is,
+        before-small c.args.blocks.now (group_size * c.args.from) c.requires.small,
+      );
+      capacity = c.truncate.ensures.capacity;
+      groups_capacity = c.truncate-2.ensures.capacity;
+    }
 
 pub loop-at-preserved : goal.loop-at-preserved
 loop-at-preserved g c =
@@ -29,14 +46,6 @@ loop-at-preserved g c =
     record {
       counting = rw c.len-total.ensures.len next;
       total = omega (arith, i.total, c.len-total.ensures.len, c.len-total.ensures.most);
-      full = omega (arith, i.full, c.full_count-full.ensures, full-next blocks at block some block_is);
-      full_few = omega (
-        arith,
-        i.full_few,
-        c.full_count-full.ensures,
-        c.len-total.ensures.len,
-        c.len-total.ensures.most,
-      );
       capacity = c.push_reserved-in-loop-at.ensures.capacity ∙ i.capacity;
       groups_capacity = elim c.if-at-eq0.branch [
         | then-at-eq0 w ↦ ap (λ v. vec_capacity v) w.groups-is ∙ w.push_reserved.ensures.capacity ∙ i.groups_capacity

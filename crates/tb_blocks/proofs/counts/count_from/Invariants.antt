@@ -1,15 +1,13 @@
 -- the blocks so far are counted
-use Rattle.std.proofs.Common.{◌≡◌, ◌*◌, ◌≤◌, take, vec_capacity}
-use Rattle.tb_blocks.specs.Sizes.{block_size, full_of}
+use Rattle.std.proofs.Common.{◌≡◌, ◌*◌, ◌≤◌, vec_capacity}
+use Rattle.tb_blocks.specs.Sizes.{block_size}
 use Rattle.tb_blocks.proofs.CountingLemmas.{IsCounting}
-use Rattle.tb_blocks.proofs.counts.count.Given as goal
+use Rattle.tb_blocks.proofs.counts.count_from.Given as goal
 
 abbrev pub invariant-loop-at : goal.invariant-loop-at
 invariant-loop-at g l = record {
   counting : IsCounting l.at l.total l.group l.groups.items l.starts.items l.blocks;
   total : l.total ≤ block_size * l.at;
-  full : l.full ≡ full_of (take l.at l.blocks);
-  full_few : l.full ≤ l.at;
   capacity : vec_capacity l.starts ≡ vec_capacity l.fn.starts;
   groups_capacity : vec_capacity l.groups ≡ vec_capacity l.fn.groups;
 }
