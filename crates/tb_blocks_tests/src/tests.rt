@@ -132,7 +132,7 @@ impl Keyed for Note {
 }
 
 // Adds the element, if no other has its key.
-fn add<T: Keyed + Drop>(list: &mut Ordered<T>, element: T) -> Result<bool, Fail> {
+fn add<T: Keyed + Copy + Drop>(list: &mut Ordered<T>, element: T) -> Result<bool, Fail> {
     list.reserve(1)?;
     let key = element.key();
     if list.find(&key).is_some() {
