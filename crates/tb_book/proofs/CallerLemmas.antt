@@ -2,6 +2,7 @@
 -- are there, and what the competitive lines are as lines of rates.
 use Rattle.std.proofs.Common.{◌≡◌, ℕ, ◌+◌, ◌≤◌, ◌==◌, ◌&&◌, Bool, true, false, cond, List, [], ◌∷◌, Option, Some, None, All, sum_by, refl, ap, ap₂, sym, ◌∙◌, subst, arith}
 use Rattle.std.specs.Prelude.{IfSome}
+use Rattle.std.proofs.lemmas.Bool.{cond-true}
 use Rattle.std.proofs.lemmas.List.{get_or_default}
 use Rattle.std.proofs.lemmas.List.Elements.{All-nil, All-cons, All-head, All-tail, All-append}
 use Rattle.std.proofs.lemmas.List.Sums.{sum_by-cons, sum_by-append, sum_by-le-sum_by}
@@ -11,7 +12,7 @@ use Rattle.tb_units.specs.declared.amount.Dollars.{Dollars}
 use Rattle.tb_units.specs.declared.rate.Rate.{Rate}
 use Rattle.tb_units.specs.declared.lines.RateLine.{RateLine}
 use Rattle.tb_book.specs.declared.book_line.BookLine.{BookLine}
-use Rattle.tb_book.specs.Books.{HasBid, IsInserted, IsTakenOut, competitive_at, is_at, par_in, rate_line_of, rate_lines}
+use Rattle.tb_book.specs.Books.{Bids, HasBid, IsInserted, IsTakenOut, competitive_at, is_at, open_lines, par_in, rate_line_of, rate_lines}
 
 -- a sum over the lines with one more has its part more
 pub sum_by-inserted : (f : BookLine → ℕ) (line : BookLine) (old new : List BookLine)
@@ -58,14 +59,15 @@ pub IsOther-all : (bidder number : ℕ) (lines : List BookLine)
 IsOther-all bidder number lines none = λ k d short same.
     none (k, short, λ e. rw (get_or_default lines k e d short) same)
 
+-- a line that stands for none
+abbrev pub no_line : BookLine
+no_line = record { bidder = 0; number = 0; rate = None; amount = record { value = 0; in_range = omega arith } }
+
 -- and where each line is another the bid isn't there
 pub HasBid-none : (bidder number : ℕ) (lines : List BookLine)
     → All (IsOther bidder number) lines
     → ¬ (HasBid bidder number lines)
-HasBid-none bidder number lines others = λ has.
-    let d : BookLine =
-    record { bidder = 0; number = 0; rate = None; amount = record { value = 0; in_range = omega arith } } in
-    others has.0 d has.1 (has.2 d)
+HasBid-none bidder number lines others = λ has. others has.0 no_line has.1 (has.2 no_line)
 
 -- what follows for the line of a rate from what holds of the book's line holds of each line of a rate
 All-rate_line : (P : RateLine → Type 0) (bidder : ℕ) (rate : Option Rate) (amount : Dollars)
@@ -168,3 +170,7 @@ bids-rate_lines bidder steps (line ∷ lines) =
     sum_by-append (bid_of bidder steps) (rate_line_of line.bidder line.rate line.amount) (rate_lines lines)
     ∙ bids-cons bidder steps line lines (sum_by (bid_of bidder steps) (rate_lines lines))
     (bids-rate_lines bidder steps lines)
+
+-- an open book is read whole
+pub open_lines-open : (book : Bids) → book.opened ≡ true → open_lines book ≡ rate_lines book.lines
+open_lines-open book opened = cond-true book.opened (rate_lines book.lines) [] opened

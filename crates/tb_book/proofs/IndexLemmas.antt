@@ -1,24 +1,21 @@
 -- A book's lines after one is added or taken out, and what is kept beside them.
-use Rattle.std.proofs.Common.{◌≡◌, ℕ, suc, ◌+◌, ◌<◌, ◌≤◌, ◌==◌, ◌&&◌, Bool, true, false, cond, Option, Some, None, is_some, is_none, List, [], ◌∷◌, ◌++◌, length, get_or, take, drop, All, AllPairs, sum_by, refl, ap, sym, ◌∙◌, subst, eq-eqb, drop-cons, arith}
+use Rattle.std.proofs.Common.{◌≡◌, ℕ, suc, ◌+◌, ◌<◌, ◌≤◌, ◌==◌, ◌&&◌, Bool, true, false, cond, Option, Some, None, is_some, is_none, List, [], ◌∷◌, ◌++◌, length, get_or, take, drop, AllPairs, sum_by, refl, ap, sym, ◌∙◌, subst, eq-eqb, drop-cons, arith}
 use Rattle.std.specs.List.{insert, remove}
 use Rattle.std.specs.Prelude.{IsPermutation}
 use Rattle.std.specs.Ordering.{nat_cmp, ordering_then}
 use Rattle.std.specs.declared.cmp.Ordering.TheVariants.{Equal}
 use Rattle.std.proofs.lemmas.Bool.{cond-true}
 use Rattle.std.proofs.lemmas.List.{take-append-drop}
-use Rattle.std.proofs.lemmas.List.Quantifiers.{all_pairs_remove}
-use Rattle.std.proofs.lemmas.List.Sums.{sum_by-cons, sum_by-insert, sum_by-remove, sum_by-le-sum_by}
-use Rattle.std.proofs.lemmas.List.Sorted.{IsPermutation-insert, IsPermutation-remove}
+use Rattle.std.proofs.lemmas.List.Sums.{sum_by-cons, sum_by-le-sum_by}
+use Rattle.std.proofs.lemmas.List.Sorted.{IsPermutation-insert, IsPermutation-remove, IsPermutation-sym, sum_by-IsPermutation}
 use Rattle.tb_blocks.specs.Orders.{IsInserted, IsRemoved}
-use Rattle.tb_units.proofs.ListLemmas.{AllPairs-insert}
 use Rattle.tb_units.proofs.SumLemmas.{cond-le}
 use Rattle.tb_units.specs.Places.{HasOneMore}
 use Rattle.tb_units.specs.declared.rate.Rate.{Rate}
 use Rattle.tb_book.specs.declared.book_line.BookLine.{BookLine}
 use Rattle.tb_book.specs.declared.bidder.Bidder.{Bidder}
-use Rattle.tb_book.specs.Books.{IsEarlier, AreApart, AreKept, HasBid, HasBidAt, IsTakenOut, par_in, most_bid, competitive_of, noncompetitive_of, noncompetitive_in}
-use Rattle.tb_book.specs.Indexes.{rank_of, AreOfBidders, IsRaised, IsIndexed}
-use Rattle.tb_book.proofs.CallerLemmas.{IsOther-all}
+use Rattle.tb_book.specs.Books.{AreApart, AreRanked, HasBid, HasBidAt, IsTakenOut, par_in, most_bid, competitive_of, noncompetitive_of, noncompetitive_in}
+use Rattle.tb_book.specs.Indexes.{rank_of, AreOfBidders, IsRaised, IsIndexed, total_of}
 use Rattle.tb_units.proofs.OrderLemmas.{nat-equal, equal-nat}
 use Rattle.tb_book.proofs.KeyLemmas.{pair-equal, equal-pair, then-equal, equal-then, rank-equal}
 
@@ -85,25 +82,7 @@ pub line_key-HasBidAt : (rate : Option Rate) (bidder number : ℕ) (lines : List
 line_key-HasBidAt rate bidder number lines has =
     (has.0, has.1, λ d. key-IsOf rate bidder number (get_or lines has.0 d) (has.2 d))
 
--- ---- the laws of a book's lines
-
--- they hold with a line put in in order
-pub AreKept-insert : (line : BookLine) (lines : List BookLine) (place : ℕ)
-    → AreKept lines
-    → place ≤ length lines
-    → AllPairs IsEarlier (insert lines place line)
-    → ¬ (HasBid line.bidder line.number lines)
-    → par_in lines + line.amount.value ≤ most_bid
-    → AreKept (insert lines place line)
-AreKept-insert line lines place kept within order new fits =
-    let apart : All (λ other. AreApart other line) lines = IsOther-all line.bidder line.number lines new in
-    record {
-      order = order;
-      apart = AllPairs-insert AreApart lines place line within kept.apart
-          (λ k d from short. apart k d (omega (arith, short, within)))
-          (λ k d from short same. apart k d short (sym same.0, sym same.1));
-      limited = omega (arith, sum_by-insert (λ (other : BookLine). other.amount.value) lines place line, fits);
-    }
+-- ---- a line that is put in or removed
 
 -- a line put in at a place is among the lines
 pub HasOneMore-insert : (line : BookLine) (lines : List BookLine) (place : ℕ)
@@ -113,15 +92,6 @@ HasOneMore-insert line lines place = record {
   back = drop place lines;
   without = sym (take-append-drop place lines);
   whole = λ i. insert lines place line;
-}
-
--- the laws hold without a line
-pub AreKept-remove : (line : BookLine) (lines : List BookLine) (place : ℕ) → AreKept lines → place < length lines
-    → AreKept (remove lines place)
-AreKept-remove line lines place kept within = record {
-  order = all_pairs_remove IsEarlier lines place within kept.order;
-  apart = all_pairs_remove AreApart lines place within kept.apart;
-  limited = omega (arith, kept.limited, sum_by-remove (λ (l : BookLine). l.amount.value) lines place line within);
 }
 
 -- the line at a place is no more among the lines once it is removed
@@ -195,11 +165,54 @@ both_kinds-le bidder (line ∷ lines) =
       both_kinds-le bidder lines,
     )
 
+-- a sum over the lines without one
+sum-less : (line : BookLine) (lines rest : List BookLine)
+    → IsPermutation lines (line ∷ rest)
+    → (part : BookLine → ℕ)
+    → sum_by part rest + part line ≡ sum_by part lines
+sum-less line lines rest out = λ part.
+    omega (arith, sum_by-IsPermutation part lines (line ∷ rest) out, sum_by-cons part line rest)
+
+-- the sums of a line's parts: one list of lines and of bidders has it, and the other hasn't
+record DifferBy (line : BookLine) (fewer more : List BookLine) (lower higher : List Bidder) : Type 0 where
+  lines : (part : BookLine → ℕ) → sum_by part fewer + part line ≡ sum_by part more
+  competitive : IsRaised (λ entry. entry.competitive) line.bidder
+      (cond (is_some line.rate) line.amount.value 0) lower higher
+  noncompetitive : IsRaised (λ entry. entry.noncompetitive) line.bidder
+      (cond (is_none line.rate) line.amount.value 0) lower higher
+
+-- what the bidders have of each kind is what the lines say with the line just where it is so without it
+competitive-more : (line : BookLine) (fewer more : List BookLine) (lower higher : List Bidder) (bidder : ℕ)
+    → DifferBy line fewer more lower higher
+    → total_of (λ entry. entry.competitive) bidder lower + competitive_of bidder more
+    ≡ total_of (λ entry. entry.competitive) bidder higher + competitive_of bidder fewer
+competitive-more line fewer more lower higher bidder differ =
+    omega (
+      arith,
+      differ.competitive bidder,
+      cond-both (line.bidder == bidder) (is_some line.rate) line.amount.value,
+      differ.lines (competitive_part bidder),
+    )
+
+-- of the other kind too
+noncompetitive-more : (line : BookLine) (fewer more : List BookLine) (lower higher : List Bidder) (bidder : ℕ)
+    → DifferBy line fewer more lower higher
+    → total_of (λ entry. entry.noncompetitive) bidder lower + noncompetitive_of bidder more
+    ≡ total_of (λ entry. entry.noncompetitive) bidder higher + noncompetitive_of bidder fewer
+noncompetitive-more line fewer more lower higher bidder differ =
+    omega (
+      arith,
+      differ.noncompetitive bidder,
+      cond-both (line.bidder == bidder) (is_none line.rate) line.amount.value,
+      differ.lines (noncompetitive_part bidder),
+    )
+
 -- a line that is added, and what is raised for it
-pub record IsAdded (line : BookLine) (lines more_lines : List BookLine) (bidders raised : List Bidder) : Type 0 where
-  pub line_in : IsInserted line lines more_lines
-  pub order : AllPairs IsEarlier more_lines
-  pub new : ¬ (HasBid line.bidder line.number lines)
+pub record IsAdded (opened : Bool) (line : BookLine) (lines more_lines : List BookLine)
+    (bidders raised : List Bidder) : Type 0 where
+  pub elements : IsPermutation (line ∷ lines) more_lines
+  pub order : AreRanked opened more_lines
+  pub apart_lines : AllPairs AreApart more_lines
   pub fits : par_in lines + line.amount.value ≤ most_bid
   pub apart : AreOfBidders raised
   pub competitive : IsRaised (λ entry. entry.competitive) line.bidder
@@ -208,34 +221,35 @@ pub record IsAdded (line : BookLine) (lines more_lines : List BookLine) (bidders
       (cond (is_none line.rate) line.amount.value 0) bidders raised
 
 -- all is kept with it
-pub IsIndexed-added : (line : BookLine) (lines more_lines : List BookLine) (bidders raised : List Bidder)
-    (noncompetitive more : ℕ)
-    → IsIndexed lines bidders noncompetitive
-    → IsAdded line lines more_lines bidders raised
+pub IsIndexed-added : (was_opened opened : Bool) (line : BookLine) (lines more_lines : List BookLine)
+    (bidders raised : List Bidder) (noncompetitive more : ℕ)
+    → IsIndexed was_opened lines bidders noncompetitive
+    → IsAdded opened line lines more_lines bidders raised
     → more ≡ noncompetitive + cond (is_none line.rate) line.amount.value 0
-    → IsIndexed more_lines raised more
-IsIndexed-added line lines more_lines bidders raised noncompetitive more kept added is =
-    let order = subst (AllPairs IsEarlier) added.line_in.is added.order in
-    let sum_lines : (part : BookLine → ℕ) → sum_by part more_lines ≡ sum_by part lines + part line =
-    λ part. ap (sum_by part) added.line_in.is ∙ sum_by-insert part lines added.line_in.place line in
+    → IsIndexed opened more_lines raised more
+IsIndexed-added was_opened opened line lines more_lines bidders raised noncompetitive more kept added is =
+    let sum_lines = sum-less line more_lines lines (IsPermutation-sym (line ∷ lines) more_lines added.elements) in
+    let differ : DifferBy line lines more_lines bidders raised =
+    record { lines = sum_lines; competitive = added.competitive; noncompetitive = added.noncompetitive } in
     record {
-      kept = subst AreKept (sym added.line_in.is)
-          (AreKept-insert line lines added.line_in.place kept.kept added.line_in.within order added.new added.fits);
+      kept = record {
+        order = added.order;
+        apart = added.apart_lines;
+        limited = omega (arith, sum_lines (λ (other : BookLine). other.amount.value), added.fits);
+      };
       apart = added.apart;
-      competitive_are = λ bidder. omega (
-        arith,
-        added.competitive bidder,
-        kept.competitive_are bidder,
-        cond-both (line.bidder == bidder) (is_some line.rate) line.amount.value,
-        sum_lines (competitive_part bidder),
-      );
-      noncompetitive_are = λ bidder. omega (
-        arith,
-        added.noncompetitive bidder,
-        kept.noncompetitive_are bidder,
-        cond-both (line.bidder == bidder) (is_none line.rate) line.amount.value,
-        sum_lines (noncompetitive_part bidder),
-      );
+      competitive_are = λ bidder.
+          omega (
+            arith,
+            kept.competitive_are bidder,
+            competitive-more line lines more_lines bidders raised bidder differ,
+          );
+      noncompetitive_are = λ bidder.
+          omega (
+            arith,
+            kept.noncompetitive_are bidder,
+            noncompetitive-more line lines more_lines bidders raised bidder differ,
+          );
       noncompetitive_is = omega (
         arith,
         is,
@@ -245,54 +259,43 @@ IsIndexed-added line lines more_lines bidders raised noncompetitive more kept ad
     }
 
 -- a line that is taken out, and what is lowered for it
-pub record IsGone (line : BookLine) (lines rest : List BookLine) (bidders lowered : List Bidder) : Type 0 where
-  pub line_out : IsRemoved line lines rest
+pub record IsGone (opened : Bool) (line : BookLine) (lines rest : List BookLine)
+    (bidders lowered : List Bidder) : Type 0 where
+  pub elements : IsPermutation lines (line ∷ rest)
+  pub order : AreRanked opened rest
+  pub apart_lines : AllPairs AreApart rest
   pub apart : AreOfBidders lowered
   pub competitive : IsRaised (λ entry. entry.competitive) line.bidder
       (cond (is_some line.rate) line.amount.value 0) lowered bidders
   pub noncompetitive : IsRaised (λ entry. entry.noncompetitive) line.bidder
       (cond (is_none line.rate) line.amount.value 0) lowered bidders
 
--- a sum over the lines without one
-sum-removed : (line : BookLine) (lines rest : List BookLine)
-    → IsRemoved line lines rest
-    → (part : BookLine → ℕ)
-    → sum_by part rest + part line ≡ sum_by part lines
-sum-removed line lines rest out = λ part.
-    omega (
-      arith,
-      ap (sum_by part) out.is,
-      ap part (out.there line),
-      sum_by-remove part lines out.place line out.within,
-    )
-
 -- all is kept without it
-pub IsIndexed-gone : (line : BookLine) (lines rest : List BookLine) (bidders lowered : List Bidder)
-    (noncompetitive less : ℕ)
-    → IsIndexed lines bidders noncompetitive
-    → IsGone line lines rest bidders lowered
+pub IsIndexed-gone : (was_opened opened : Bool) (line : BookLine) (lines rest : List BookLine)
+    (bidders lowered : List Bidder) (noncompetitive less : ℕ)
+    → IsIndexed was_opened lines bidders noncompetitive
+    → IsGone opened line lines rest bidders lowered
     → less + cond (is_none line.rate) line.amount.value 0 ≡ noncompetitive
-    → IsIndexed rest lowered less
-IsIndexed-gone line lines rest bidders lowered noncompetitive less kept gone is =
-    let sum_lines = sum-removed line lines rest gone.line_out in
+    → IsIndexed opened rest lowered less
+IsIndexed-gone was_opened opened line lines rest bidders lowered noncompetitive less kept gone is =
+    let sum_lines = sum-less line lines rest gone.elements in
+    let differ : DifferBy line rest lines lowered bidders =
+    record { lines = sum_lines; competitive = gone.competitive; noncompetitive = gone.noncompetitive } in
     record {
-      kept = subst AreKept (sym gone.line_out.is)
-          (AreKept-remove line lines gone.line_out.place kept.kept gone.line_out.within);
+      kept = record {
+        order = gone.order;
+        apart = gone.apart_lines;
+        limited = omega (arith, sum_lines (λ (other : BookLine). other.amount.value), kept.kept.limited);
+      };
       apart = gone.apart;
-      competitive_are = λ bidder. omega (
-        arith,
-        gone.competitive bidder,
-        kept.competitive_are bidder,
-        cond-both (line.bidder == bidder) (is_some line.rate) line.amount.value,
-        sum_lines (competitive_part bidder),
-      );
-      noncompetitive_are = λ bidder. omega (
-        arith,
-        gone.noncompetitive bidder,
-        kept.noncompetitive_are bidder,
-        cond-both (line.bidder == bidder) (is_none line.rate) line.amount.value,
-        sum_lines (noncompetitive_part bidder),
-      );
+      competitive_are = λ bidder.
+          omega (arith, kept.competitive_are bidder, competitive-more line rest lines lowered bidders bidder differ);
+      noncompetitive_are = λ bidder.
+          omega (
+            arith,
+            kept.noncompetitive_are bidder,
+            noncompetitive-more line rest lines lowered bidders bidder differ,
+          );
       noncompetitive_is = omega (
         arith,
         is,
@@ -301,35 +304,58 @@ IsIndexed-gone line lines rest bidders lowered noncompetitive less kept gone is 
       );
     }
 
+-- and all is kept where the lines go into another order
+pub IsIndexed-moved : (was_opened opened : Bool) (lines moved : List BookLine) (bidders : List Bidder)
+    (noncompetitive : ℕ)
+    → IsIndexed was_opened lines bidders noncompetitive
+    → IsPermutation lines moved
+    → AreRanked opened moved
+    → AllPairs AreApart moved
+    → IsIndexed opened moved bidders noncompetitive
+IsIndexed-moved was_opened opened lines moved bidders noncompetitive kept same order apart =
+    let sums : (part : BookLine → ℕ) → sum_by part lines ≡ sum_by part moved =
+    λ part. sym (sum_by-IsPermutation part lines moved same) in
+    record {
+      kept = record {
+        order = order;
+        apart = apart;
+        limited = omega (arith, sums (λ (other : BookLine). other.amount.value), kept.kept.limited);
+      };
+      apart = kept.apart;
+      competitive_are = λ bidder. kept.competitive_are bidder ∙ sums (competitive_part bidder);
+      noncompetitive_are = λ bidder. kept.noncompetitive_are bidder ∙ sums (noncompetitive_part bidder);
+      noncompetitive_is = kept.noncompetitive_is ∙ sums (λ l. cond (is_none l.rate) l.amount.value 0);
+    }
+
 -- what a bidder's line counts is at most what the bidder has of the kind
-pub competitive-part-le : (line : BookLine) (lines rest : List BookLine) → IsRemoved line lines rest
+pub competitive-part-le : (line : BookLine) (lines rest : List BookLine) → IsPermutation lines (line ∷ rest)
     → cond (is_some line.rate) line.amount.value 0 ≤ competitive_of line.bidder lines
 competitive-part-le line lines rest out =
     omega (
       arith,
-      sum-removed line lines rest out (competitive_part line.bidder),
+      sum-less line lines rest out (competitive_part line.bidder),
       cond-both (line.bidder == line.bidder) (is_some line.rate) line.amount.value,
       cond-true (line.bidder == line.bidder) (cond (is_some line.rate) line.amount.value 0) 0
           (eq-eqb line.bidder line.bidder refl),
     )
 
 -- of the other kind too
-pub noncompetitive-part-le : (line : BookLine) (lines rest : List BookLine) → IsRemoved line lines rest
+pub noncompetitive-part-le : (line : BookLine) (lines rest : List BookLine) → IsPermutation lines (line ∷ rest)
     → cond (is_none line.rate) line.amount.value 0 ≤ noncompetitive_of line.bidder lines
 noncompetitive-part-le line lines rest out =
     omega (
       arith,
-      sum-removed line lines rest out (noncompetitive_part line.bidder),
+      sum-less line lines rest out (noncompetitive_part line.bidder),
       cond-both (line.bidder == line.bidder) (is_none line.rate) line.amount.value,
       cond-true (line.bidder == line.bidder) (cond (is_none line.rate) line.amount.value 0) 0
           (eq-eqb line.bidder line.bidder refl),
     )
 
 -- and at most all that is bid noncompetitively
-pub noncompetitive_in-part-le : (line : BookLine) (lines rest : List BookLine) → IsRemoved line lines rest
+pub noncompetitive_in-part-le : (line : BookLine) (lines rest : List BookLine) → IsPermutation lines (line ∷ rest)
     → cond (is_none line.rate) line.amount.value 0 ≤ noncompetitive_in lines
 noncompetitive_in-part-le line lines rest out =
-    omega (arith, sum-removed line lines rest out (λ l. cond (is_none l.rate) l.amount.value 0))
+    omega (arith, sum-less line lines rest out (λ l. cond (is_none l.rate) l.amount.value 0))
 
 -- a line put in is among the lines
 pub HasOneMore-inserted : (line : BookLine) (lines more_lines : List BookLine) → IsInserted line lines more_lines

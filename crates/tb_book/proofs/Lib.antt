@@ -3,3 +3,5 @@ pub mod CallerLemmas
 pub mod KeyLemmas
 pub mod BidderLemmas
 pub mod IndexLemmas
+pub mod ApartLemmas
+pub mod ListedLemmas

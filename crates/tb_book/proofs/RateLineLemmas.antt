@@ -1,5 +1,5 @@
 -- The competitive lines, as lines in order of rate.
-use Rattle.std.proofs.Common.{◌≡◌, ℕ, zero, suc, ◌<◌, ◌≤◌, ◌⊎◌, true, false, Option, Some, None, is_some, List, [], ◌∷◌, ◌++◌, length, get_or, All, AllPairs, inl, inr, refl, ap, sym, ◌∙◌, subst, arith}
+use Rattle.std.proofs.Common.{◌≡◌, ℕ, zero, suc, ◌<◌, ◌≤◌, ◌⊎◌, Bool, true, false, cond, Option, Some, None, is_some, List, [], ◌∷◌, ◌++◌, length, get_or, All, AllPairs, inl, inr, refl, ap, sym, ◌∙◌, subst, arith}
 use Rattle.std.specs.List.Sorted.{IsPartitionedBy, IsPartitionPoint}
 use Rattle.std.proofs.lemmas.Bool.{cases_eq, false≢true}
 use Rattle.std.proofs.lemmas.List.Elements.{All-nil, All-cons, All-head, All-tail, All-append}
@@ -9,7 +9,7 @@ use Rattle.tb_units.specs.declared.rate.Rate.{Rate}
 use Rattle.tb_units.specs.declared.lines.RateLine.{RateLine}
 use Rattle.tb_units.specs.LineOrder.{IsNoLater}
 use Rattle.tb_book.specs.declared.book_line.BookLine.{BookLine}
-use Rattle.tb_book.specs.Books.{IsLower, IsSmaller, IsEarlier, rate_line_of, rate_lines}
+use Rattle.tb_book.specs.Books.{AreRanked, IsLower, IsSmaller, IsEarlier, rate_line_of, rate_lines}
 use Rattle.tb_units.proofs.ListLemmas.{AllPairs-head, AllPairs-tail, AllPairs-nil}
 
 -- what stands before a competitive line is competitive
@@ -228,3 +228,10 @@ AreInOrder-rate_lines [] order = AllPairs-nil IsNoLater
 AreInOrder-rate_lines (line ∷ lines) order =
     in_order_cons line lines line.rate refl (AllPairs-head IsEarlier line lines order)
     (AreInOrder-rate_lines lines (AllPairs-tail IsEarlier line lines order))
+
+-- so are those of an open book, and a sealed one shows none
+pub AreInOrder-open_lines : (opened : Bool) (lines : List BookLine)
+    → AreRanked opened lines
+    → AllPairs IsNoLater (cond opened (rate_lines lines) [])
+AreInOrder-open_lines true lines order = AreInOrder-rate_lines lines (order refl)
+AreInOrder-open_lines false lines order = AllPairs-nil IsNoLater

@@ -1,5 +1,5 @@
 -- The sealed book of one auction: its live bids.
-use Rattle.std.specs.Prelude.{◌≡◌, ℕ, ◌^◌, ◌<◌, ◌≤◌, ◌==◌, ◌⊎◌, ◌&&◌, if◌then◌else◌, Bool, false, is_some, is_none, Option, Some, None, List, [], ◌∷◌, ◌++◌, length, slice_index_or, sum_by}
+use Rattle.std.specs.Prelude.{◌≡◌, ℕ, ◌^◌, ◌<◌, ◌≤◌, ◌==◌, ◌⊎◌, ◌&&◌, if◌then◌else◌, Bool, true, false, is_some, is_none, Option, Some, None, List, [], ◌∷◌, ◌++◌, length, slice_index_or, sum_by}
 use Rattle.std.specs.List.{AllPairs}
 use Rattle.tb_units.specs.Places.{HasOneMore}
 use Rattle.tb_units.specs.declared.amount.Dollars.{Dollars}
@@ -7,10 +7,11 @@ use Rattle.tb_units.specs.declared.rate.Rate.{Rate}
 use Rattle.tb_units.specs.declared.lines.RateLine.{RateLine}
 use Rattle.tb_book.specs.declared.book_line.BookLine.{BookLine}
 
--- what a contract sees of a book: its lines, and how many more may be added
+-- what a contract sees of a book: its lines, how many more may be added, and whether it is open
 pub record Bids : Type 0 where
   pub lines : List BookLine
   pub spare : ℕ
+  pub opened : Bool
 
 -- a lower rate; a noncompetitive bid stands behind every rate
 abbrev pub IsLower : Option Rate → Option Rate → Type 0
@@ -38,15 +39,19 @@ par_in lines = sum_by (λ line. line.amount.value) lines
 abbrev pub most_bid : ℕ
 most_bid = 10 ^ 22
 
+-- the lines are in order, where the book is open
+abbrev pub AreRanked : Bool → List BookLine → Type 0
+AreRanked opened lines = opened ≡ true → AllPairs IsEarlier lines
+
 -- the laws of a book's lines
-pub record AreKept (lines : List BookLine) : Type 0 where
-  pub order : AllPairs IsEarlier lines
+pub record AreKept (opened : Bool) (lines : List BookLine) : Type 0 where
+  pub order : AreRanked opened lines
   pub apart : AllPairs AreApart lines
   pub limited : par_in lines ≤ most_bid
 
 -- the laws of a book
 abbrev pub IsKept : Bids → Type 0
-IsKept book = AreKept book.lines
+IsKept book = AreKept book.opened book.lines
 
 -- the bidder's bid of this number is there
 abbrev pub HasBid : ℕ → ℕ → List BookLine → Type 0
@@ -104,3 +109,7 @@ rate_line_of bidder (Some rate) amount = record { rate = rate; bidder = bidder; 
 abbrev pub rate_lines : List BookLine → List RateLine
 rate_lines [] = []
 rate_lines (line ∷ lines) = rate_line_of line.bidder line.rate line.amount ++ rate_lines lines
+
+-- the lines that may be read as lines in order of rate: the competitive ones of a book that is open
+abbrev pub open_lines : Bids → List RateLine
+open_lines book = if book.opened then rate_lines book.lines else []

@@ -1,20 +1,22 @@
 //! The book of live bids.
-ghost use Rattle.std.specs.Prelude.{◌≡◌, ◌+◌, ◌<◌, ◌≤◌, ◌↔◌, [], ◌∷◌, length, slice_index_or, OnOk, IsOk, IfSome, IfNone, IsNone, IsPermutation};
-ghost use Rattle.tb_book.specs.Books.{HasBid, HasBidAt, IsInserted, IsTakenOut, IsKept, competitive_of, noncompetitive_of, noncompetitive_in, par_in, most_bid};
+ghost use Rattle.std.specs.Prelude.{◌≡◌, ◌+◌, ◌<◌, ◌≤◌, ◌↔◌, [], ◌∷◌, true, false, length, slice_index_or, OnOk, IsOk, IfSome, IfNone, IsNone, IsPermutation};
+ghost use Rattle.tb_book.specs.Books.{HasBid, HasBidAt, IsInserted, IsTakenOut, IsKept, competitive_of, noncompetitive_of, noncompetitive_in, open_lines, par_in, most_bid};
 
 use crate::bidder::{Bidder, lower, raise, totals_of};
-use crate::book_line::{BookLine, NO_RATE, find_line, rank};
+use crate::book_line::BookLine;
+use crate::line_list::LineList;
 use std::alloc::Global;
 use std::marker::Model;
 use std::sync::ledger::Ledger;
 use tb_blocks::Ordered;
 use tb_units::{Dollars, Lines, OutOfMemory, Rate, RateLine, Steps};
 
-/// The live bids of one auction. Contracts see the list of lines, in order of rate, bidder and number with the
-/// noncompetitive lines last, and the room for more.
+/// The live bids of one auction. Contracts see the list of lines, the room for more, and whether the book is open. The
+/// lines of an open book are in order of rate, bidder and number with the noncompetitive lines last. Those of a sealed
+/// one are in no order until it is opened, and aren't read before.
 #[derive(Drop)]
 pub struct Book {
-    lines: Ordered<BookLine>,
+    lines: LineList,
     // The sums of each bidder, and of all noncompetitive lines.
     bidders: Ordered<Bidder>,
     noncompetitive: u128,
@@ -28,24 +30,48 @@ impl Model for Book {
 
     ghost Value = { Bids };
 
-    ghost view = { λ book. record { lines = book.lines.elements; spare = book.spare } };
+    ghost view = { λ book. record { lines = book.lines.lines; spare = book.spare; opened = book.lines.opened } };
 
     ghost invariant = { λ book.
-        IsIndexed book.lines.elements book.bidders.elements book.noncompetitive
+        IsIndexed book.lines.opened book.lines.lines book.bidders.elements book.noncompetitive
         × HasSpare book.spare book.lines.spare book.bidders.spare };
 }
 
 impl Book {
-    /// An empty book.
+    /// An empty book, which is open: each line that is added goes to its place.
     pub fn new(alloc: Global) -> Book
-        ensures { result.lines ≡ [] }
+        ensures lines { result.lines ≡ [] }
+        ensures opened { result.opened ≡ true }
     {
         Book {
-            lines: Ordered::new(alloc),
+            lines: LineList::new(alloc, true),
             bidders: Ordered::new(alloc),
             noncompetitive: 0,
             spare: 0,
         }
+    }
+
+    /// An empty book, which is sealed: lines that are added are put in order many at a time.
+    pub fn sealed(alloc: Global) -> Book
+        ensures lines { result.lines ≡ [] }
+        ensures opened { result.opened ≡ false }
+    {
+        Book {
+            lines: LineList::new(alloc, false),
+            bidders: Ordered::new(alloc),
+            noncompetitive: 0,
+            spare: 0,
+        }
+    }
+
+    /// Opens the book, which needs no room: its lines stand in order, and may be read.
+    pub fn unseal(&mut self)
+        ensures opened { self.new.opened ≡ true }
+        ensures elements { IsPermutation self.old.lines self.new.lines }
+        ensures kept { IsKept self.new }
+        ensures room { self.new.spare ≡ self.old.spare }
+    {
+        self.lines.unseal();
     }
 
     /// Takes the memory for so many more lines. No other call takes memory.
@@ -56,6 +82,7 @@ impl Book {
         // The lines stay, and no room is lost, whatever the result.
         ensures lines { self.new.lines ≡ self.old.lines }
         ensures room { self.old.spare ≤ self.new.spare }
+        ensures opened { self.new.opened ≡ self.old.opened }
     {
         let wanted = more as usize;
         if wanted <= self.spare {
@@ -79,10 +106,12 @@ impl Book {
         requires room { 0 < self.old.spare }
         requires new { ¬ (HasBid line.bidder line.number self.old.lines) }
         requires fits { par_in self.old.lines + line.amount.value ≤ most_bid }
-        ensures lines { IsInserted line self.old.lines self.new.lines }
+        // The lines of an open book are in order.
+        ensures lines { self.old.opened ≡ true → IsInserted line self.old.lines self.new.lines }
         ensures elements { IsPermutation (line ∷ self.old.lines) self.new.lines }
         ensures kept { IsKept self.new }
         ensures room { self.old.spare ≤ self.new.spare + 1 }
+        ensures opened { self.new.opened ≡ self.old.opened }
     {
         self.lines.insert(line);
         raise(
@@ -99,28 +128,30 @@ impl Book {
     /// knows the rate calls `take_out_at`.
     pub fn take_out(&mut self, bidder: u32, number: u64) -> Option<BookLine>
         ensures none { IsNone result ↔ (¬ (HasBid bidder number self.old.lines)) }
-        ensures taken { IfSome result (λ line. (line.bidder ≡ bidder) × (line.number ≡ number)
-            × IsTakenOut line self.old.lines self.new.lines) }
+        ensures own { IfSome result (λ line. (line.bidder ≡ bidder) × (line.number ≡ number)) }
+        ensures taken { self.old.opened ≡ true → IfSome result (λ line. IsTakenOut line self.old.lines self.new.lines) }
         ensures elements { IfSome result (λ line. IsPermutation self.old.lines (line ∷ self.new.lines)) }
         ensures unchanged { IfNone result (self.new ≡ self.old) }
         ensures kept { IsKept self.new }
         ensures room { self.old.spare ≤ self.new.spare }
+        ensures opened { self.new.opened ≡ self.old.opened }
     {
-        let line = find_line(&self.lines, bidder, number)?;
+        let line = self.lines.find(bidder, number)?;
         self.take_out_at(line.rate, bidder, number)
     }
 
     /// Takes out the bidder's line of this rate, or of none, and of this number. `None` where there is no such line.
     pub fn take_out_at(&mut self, rate: Option<Rate>, bidder: u32, number: u64) -> Option<BookLine>
         ensures none { IsNone result ↔ (¬ (HasBidAt rate bidder number self.old.lines)) }
-        ensures taken { IfSome result (λ line. (line.rate ≡ rate) × (line.bidder ≡ bidder) × (line.number ≡ number)
-            × IsTakenOut line self.old.lines self.new.lines) }
+        ensures own { IfSome result (λ line. (line.rate ≡ rate) × (line.bidder ≡ bidder) × (line.number ≡ number)) }
+        ensures taken { self.old.opened ≡ true → IfSome result (λ line. IsTakenOut line self.old.lines self.new.lines) }
         ensures elements { IfSome result (λ line. IsPermutation self.old.lines (line ∷ self.new.lines)) }
         ensures unchanged { IfNone result (self.new ≡ self.old) }
         ensures kept { IsKept self.new }
         ensures room { self.old.spare ≤ self.new.spare }
+        ensures opened { self.new.opened ≡ self.old.opened }
     {
-        let line = self.lines.remove(&(rank(rate), (bidder, number)))?;
+        let line = self.lines.remove(rate, bidder, number)?;
         lower(
             &mut self.bidders,
             bidder,
@@ -159,25 +190,25 @@ impl Book {
     }
 }
 
-/// The competitive lines. A line costs one step.
+/// The competitive lines of a book that is open. A line costs one step.
 impl Lines for Book {
-    ghost use Rattle.tb_book.specs.Books.{rate_lines};
+    ghost use Rattle.tb_book.specs.Books.{open_lines};
 
-    ghost lines_of = { λ book. rate_lines book.lines };
+    ghost lines_of = { open_lines };
 
     ghost cost = { λ _. 1 };
 
     fn lines(&self) -> u64 {
-        self.lines.place_of(&(NO_RATE, (0, 0))) as u64
+        self.lines.count_rated() as u64
     }
 
     fn line<L: Ledger>(&self, place: u64, steps: &mut Steps<L>) -> RateLine
-        requires { place < length (rate_lines self.now.lines) }
-        ensures line { slice_index_or (rate_lines self.now.lines) place result ≡ result }
+        requires { place < length (open_lines self.now) }
+        ensures line { slice_index_or (open_lines self.now) place result ≡ result }
         ensures steps { steps.new ≡ steps.old + 1 }
     {
         steps.tick();
-        let line = *self.lines.at(place as usize);
+        let line = self.lines.at(place as usize);
         RateLine {
             rate: line.rate.unwrap(),
             bidder: line.bidder,

@@ -40,7 +40,7 @@ pub fn rank(rate: Option<Rate>) -> u32
     }
 }
 
-/// The bidder's line of this number. It goes over the lines.
+/// The bidder's line of this number, of lines in order. It goes over the lines.
 pub fn find_line(lines: &Ordered<BookLine>, bidder: u32, number: u64) -> Option<BookLine>
     ensures found { IfSome result (λ line. HasBidAt line.rate bidder number lines.now.elements) }
     ensures none { IfNone result (¬ (HasBid bidder number lines.now.elements)) }

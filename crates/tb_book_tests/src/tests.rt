@@ -70,16 +70,32 @@ fn take_out(book: &mut Book, bidder: u32, number: u64) -> Option<BookLine>
     book.take_out(bidder, number)
 }
 
-fn book_of(alloc: Global, lines: &[BookLine]) -> Result<Book, OutOfMemory>
-    requires { par_in lines.now ≤ most_bid }
+// The book, which has no lines yet, with these.
+fn with_lines(book: Book, lines: &[BookLine]) -> Result<Book, OutOfMemory>
+    requires none { par_in book.lines ≡ 0 }
+    requires fits { par_in lines.now ≤ most_bid }
     ensures { IfOk result (λ book. par_in book.lines ≤ par_in lines.now) }
 {
-    let mut book = Book::new(alloc);
+    let mut book = book;
     book.reserve(lines.len() as u64)?;
     for line in lines {
         add_new(&mut book, *line);
     }
     Ok(book)
+}
+
+fn book_of(alloc: Global, lines: &[BookLine]) -> Result<Book, OutOfMemory>
+    requires { par_in lines.now ≤ most_bid }
+    ensures { IfOk result (λ book. par_in book.lines ≤ par_in lines.now) }
+{
+    with_lines(Book::new(alloc), lines)
+}
+
+fn sealed_of(alloc: Global, lines: &[BookLine]) -> Result<Book, OutOfMemory>
+    requires { par_in lines.now ≤ most_bid }
+    ensures { IfOk result (λ book. par_in book.lines ≤ par_in lines.now) }
+{
+    with_lines(Book::sealed(alloc), lines)
 }
 
 // All lines of a book, place by place.
@@ -192,6 +208,68 @@ fn lines_come_in_order_of_rate_bidder_and_number(rt: HostRuntime) -> Result<(), 
     expect_order(&rt, alloc, &[low, first, second, third, high, unpriced])?;
     expect_order(&rt, alloc, &[unpriced, high, third, second, first, low])?;
     expect_order(&rt, alloc, &[second, unpriced, low, high, first, third])?;
+    Ok(())
+}
+
+// The same of a book that is sealed while the bids are added, which shows no line before it is open.
+fn expect_order_once_open(
+    rt: &impl Abort,
+    alloc: Global,
+    bids: &[BookLine],
+    late: BookLine,
+) -> Result<(), Fail>
+    requires { par_in bids.now + late.amount.value ≤ most_bid }
+{
+    let mut book = sealed_of(alloc, bids)?;
+    assert_eq!(rt; book.lines(), 0);
+    assert_eq!(rt; totals(&book, 1), (1_000, 600));
+    book.unseal();
+    assert_eq!(rt; book.lines(), 4);
+    book.reserve(1)?;
+    assert_eq!(rt; add_new(&mut book, late), None);
+    let wanted = [
+        rate_line(1064, 9, 100),
+        rate_line(1065, 1, 200),
+        rate_line(1065, 1, 300),
+        rate_line(1065, 2, 400),
+        rate_line(1066, 1, 500),
+    ];
+    assert_eq!(rt; seen(alloc, &book)?.as_slice(), wanted.as_slice());
+    Ok(())
+}
+
+#[test]
+fn lines_of_a_sealed_book_come_in_order_once_it_is_open(rt: HostRuntime) -> Result<(), Fail> {
+    let low = competitive(9, 7, 1064, 100);
+    let first = competitive(1, 2, 1065, 200);
+    let second = competitive(1, 10, 1065, 300);
+    let third = competitive(2, 1, 1065, 400);
+    let high = competitive(1, 1, 1066, 500);
+    let unpriced = noncompetitive(1, 3, 600);
+    let alloc = rt.alloc();
+    expect_order_once_open(&rt, alloc, &[unpriced, high, second, first, low], third)?;
+    expect_order_once_open(&rt, alloc, &[second, unpriced, low, high, first], third)?;
+    Ok(())
+}
+
+#[test]
+fn a_bid_is_taken_out_of_a_sealed_book(rt: HostRuntime) -> Result<(), Fail> {
+    let low = competitive(9, 7, 1064, 100);
+    let high = competitive(1, 1, 1066, 500);
+    let unpriced = noncompetitive(1, 3, 600);
+    let mut book = sealed_of(rt.alloc(), &[high, unpriced, low])?;
+    assert_eq!(rt; book.take_out_at(None, 1, 1), None);
+    assert_eq!(rt; book.take_out_at(high.rate, 1, 1), Some(high));
+    assert_eq!(rt; book.take_out_at(high.rate, 1, 1), None);
+    assert_eq!(rt; take_out(&mut book, 1, 3), Some(unpriced));
+    assert_eq!(rt; book.lines(), 0);
+    book.unseal();
+    assert_eq!(rt;
+        seen(rt.alloc(), &book)?.as_slice(),
+        [rate_line(1064, 9, 100)].as_slice()
+    );
+    assert_eq!(rt; totals(&book, 1), (0, 0));
+    assert_eq!(rt; book.noncompetitive().value, 0);
     Ok(())
 }
 

@@ -1,13 +1,13 @@
 -- The books of tables that are tied to a history have what stands of a bidder.
-use Rattle.std.proofs.Common.{◌≡◌, ℕ, List, Option, Some, None, is_some, ◌∙◌, sym, ap}
+use Rattle.std.proofs.Common.{◌≡◌, ℕ, List, Option, Some, None, is_some, true, ◌∙◌, sym, ap, subst}
 use Rattle.std.specs.Prelude.{IfNone, IfSome}
 use Rattle.std.specs.List.{filter}
 use Rattle.tb_message.specs.declared.message.Entry.{Entry}
 use Rattle.tb_terms.specs.declared.announcement.Announcement.{Announcement}
 use Rattle.tb_book.specs.Books.{Bids}
-use Rattle.tb_shelf.specs.Shelves.{book_in}
+use Rattle.tb_shelf.specs.Shelves.{book_in, is_open}
 use Rattle.tb_history.specs.Holdings.{bidding_in}
-use Rattle.tb_history.specs.Roster.{announcement_of, announcements}
+use Rattle.tb_history.specs.Roster.{announcement_of, announcements, is_published}
 use Rattle.tb_results.specs.Biddings.{AreBooked}
 use Rattle.tb_history.specs.LiveBids.{bids_of, competitive_in, is_live, noncompetitive_in, par_of}
 use Rattle.tb_history.specs.Readings.{place_of}
@@ -45,6 +45,15 @@ pub booked-found : {B : Type 0} (book_at : B → Bids) (found : Option B) (table
 booked-found book_at None tables auction is = tt
 booked-found book_at (Some b) tables auction is = λ h a tied announced.
     book-booked h tables.shelf.books auction a (book_at b) tied.books_are announced is
+
+-- and it is open where the auction is published
+pub open-found : {B : Type 0} (book_at : B → Bids) (found : Option B) (tables : Tables) (auction : List ℕ)
+    → IfSome found (λ b. book_in tables.shelf.books auction ≡ Some (book_at b))
+    → IfSome found (λ b. (h : List Entry) → AreTied h tables → is_published h auction ≡ true
+    → (book_at b).opened ≡ true)
+open-found book_at None tables auction is = tt
+open-found book_at (Some b) tables auction is = λ h tied published.
+    subst (λ (there : Option Bids). is_open there ≡ true) is (tied.books_are.opened auction published)
 
 -- and one is found just where the auction is announced
 pub there-found : {B : Type 0} (book_at : B → Bids) (found : Option B) (tables : Tables) (auction : List ℕ)

@@ -48,6 +48,25 @@ passed-announced h caller auction q shows asks passed =
     (refusal.NotPermitted, not (may_ask caller q))
     (asked_rows h q) passed)
 
+-- an auction of which results are asked for is published
+auction_rows-published : (found : Option Announcement) (published : Bool)
+    → refusal_in (auction_rows found true published) ≡ None → published ≡ true
+auction_rows-published None published passed = absurd cc
+auction_rows-published (Some a) true passed = refl
+auction_rows-published (Some a) false passed = absurd cc
+
+-- of a query that isn't refused
+pub passed-published : (h : List Entry) (caller auction : List ℕ) (q : Query)
+    → asked_rows h q ≡ auction_rows (announcement_of (announcements h) auction) true (is_published h auction)
+    → query_refusal h caller q ≡ None
+    → is_published h auction ≡ true
+passed-published h caller auction q asks passed =
+    auction_rows-published (announcement_of (announcements h) auction) (is_published h auction)
+    (ap refusal_in (sym asks)
+    ∙ behind-passed (refusal.UnknownKey, not (is_caller (registrations h) caller))
+    (refusal.NotPermitted, not (may_ask caller q))
+    (asked_rows h q) passed)
+
 -- the tables show of an auction what the history says
 pub tied_auction : (h : List Entry) (tables : Tables) → AreTied h tables
     → (auction : List ℕ) (shows : Bool)

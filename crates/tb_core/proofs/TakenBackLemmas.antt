@@ -17,7 +17,7 @@ use Rattle.tb_shelf.specs.declared.named.NamedBook.{NamedBook}
 use Rattle.tb_shelf.specs.Shelves.{IsChanged, IsLowered, has_places}
 use Rattle.tb_history.specs.declared.bids.Bid.{Bid}
 use Rattle.tb_history.specs.Entries.{bid_by}
-use Rattle.tb_history.specs.Roster.{announcement_of, announcements, enrolments, is_enrolled}
+use Rattle.tb_history.specs.Roster.{announcement_of, announcements, enrolments, is_enrolled, publications}
 use Rattle.tb_history.specs.LiveBids.{bids, cancels, is_live, live_bids_in, reports, standing_of}
 use Rattle.tb_history.specs.Readings.{place_of}
 use Rattle.tb_history.specs.Legal.{last_of}
@@ -38,6 +38,7 @@ use Rattle.tb_shelving.proofs.BookLemmas.{Follows-next, IsNext, apart-lines, bid
 use Rattle.tb_core.proofs.HouseLemmas.{HasScratch-less}
 use Rattle.tb_shelving.proofs.KeptLemmas.{list_all-weaker}
 use Rattle.tb_shelving.proofs.LiveLemmas.{live-more, live-other}
+use Rattle.tb_shelving.proofs.OpenLemmas.{open-changed}
 use Rattle.tb_shelving.proofs.RoomLemmas.{place-message, places-changed}
 use Rattle.tb_shelving.proofs.ShelfLemmas.{lines-changed, lines-taken}
 
@@ -136,6 +137,11 @@ tied-back h moment before bid old new tied earlier taken =
         lines = shelved-back h moment bid old.shelf.books new.shelf.books (Follows-next h e last.legal last.follows)
             shelved
             changed;
+        opened = λ auction published.
+            open-changed bid.auction (IsLowered bid.rate (place_of (enrolments h) bid.bidder) bid.number)
+            old.shelf.books new.shelf.books changed (λ one other lowered was. lowered.opened ∙ was) auction
+            (tied.books_are.opened auction
+            (rw (publications-snoc h e, append-nil (publications h)) published));
       };
       calendar_is = subst (λ (days : List Day). IsCalendar old.calendar.list days)
           (holidays-snoc h e ∙ append-nil _) tied.calendar_is;

@@ -437,7 +437,8 @@ impl Host {
     }
 
     fn results(&self, alloc: Global, auction: &Ident) -> Result<Results, OutOfMemory>
-        requires { is_some (announcement_of (announcements self.now.history) auction.now) ≡ true }
+        requires announced { is_some (announcement_of (announcements self.now.history) auction.now) ≡ true }
+        requires published { is_published self.now.history auction.now ≡ true }
         ensures { IfOk result
             (λ results. OfAnnounced self.now.history auction.now
             (λ a. AreResults (bidding_in self.now.history a) (add_on_of (add_ons self.now.history) a.auction)
@@ -448,7 +449,8 @@ impl Host {
     }
 
     fn awards(&self, alloc: Global, caller: &Ident, auction: &Ident) -> Result<Awards, OutOfMemory>
-        requires { is_some (announcement_of (announcements self.now.history) auction.now) ≡ true }
+        requires announced { is_some (announcement_of (announcements self.now.history) auction.now) ≡ true }
+        requires published { is_published self.now.history auction.now ≡ true }
         ensures { IfOk result
             (λ awards. OfAnnounced self.now.history auction.now
             (λ a. AreAwards self.now.history a caller.now awards)) }
@@ -492,11 +494,12 @@ impl Host {
         self.tables.funds.balance(holder)
     }
 
-    // The book of an announced auction.
+    // The book of an announced auction, which is open once that is published.
     fn book(&self, auction: &Ident) -> &Book
         requires { is_some (announcement_of (announcements self.now.history) auction.now) ≡ true }
-        ensures { (a : Announcement) → announcement_of (announcements self.now.history) auction.now ≡ Some a
+        ensures booked { (a : Announcement) → announcement_of (announcements self.now.history) auction.now ≡ Some a
             → AreBooked (bidding_in self.now.history a) result.now.lines }
+        ensures opened { is_published self.now.history auction.now ≡ true → result.now.opened ≡ true }
     {
         book_of(&self.tables, auction).unwrap()
     }

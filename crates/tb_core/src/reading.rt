@@ -1,5 +1,5 @@
 //! What queries are told, by the tables.
-ghost use Rattle.std.specs.Prelude.{◌≡◌, List, map, IfOk};
+ghost use Rattle.std.specs.Prelude.{◌≡◌, List, true, map, IfOk};
 ghost use Rattle.tb_message.specs.declared.message.Entry.{Entry};
 ghost use Rattle.tb_history.specs.Roster.{add_ons, add_on_of};
 ghost use Rattle.tb_history.specs.Holdings.{bidding_in};
@@ -54,14 +54,15 @@ pub fn bid_lines(
     lines_of(alloc, &own, cancels)
 }
 
-/// The results of the auction of these terms, by the book of its live bids.
+/// The results of the auction of these terms, by the book of its live bids, which is open.
 pub fn results_reading(
     alloc: Global,
     tables: &Tables,
     terms: &Terms,
     book: &Book,
 ) -> Result<Results, OutOfMemory>
-    requires { (history : List Entry) × IsAuctionOf history tables.now terms.now book.now.lines }
+    requires auction { (history : List Entry) × IsAuctionOf history tables.now terms.now book.now.lines }
+    requires opened { book.now.opened ≡ true }
     ensures { IfOk result (λ results. (history : List Entry) → IsAuctionOf history tables.now terms.now book.now.lines
         → AreResults (bidding_in history terms.now.announcement)
         (add_on_of (add_ons history) terms.now.announcement.auction) results) }
@@ -72,8 +73,8 @@ pub fn results_reading(
     results(alloc, terms, book, &positions, add_on)
 }
 
-/// The awards of the caller's bidders in the auction of these terms, by the book of its live bids, and of the add-on
-/// that the caller holds.
+/// The awards of the caller's bidders in the auction of these terms, by the book of its live bids, which is open, and
+/// of the add-on that the caller holds.
 pub fn awards_reading(
     alloc: Global,
     tables: &Tables,
@@ -81,7 +82,8 @@ pub fn awards_reading(
     book: &Book,
     caller: &Ident,
 ) -> Result<Awards, OutOfMemory>
-    requires { (history : List Entry) × IsAuctionOf history tables.now terms.now book.now.lines }
+    requires auction { (history : List Entry) × IsAuctionOf history tables.now terms.now book.now.lines }
+    requires opened { book.now.opened ≡ true }
     ensures { IfOk result (λ awards. (history : List Entry) → IsAuctionOf history tables.now terms.now book.now.lines
         → AreAwards history terms.now.announcement caller.now awards) }
 {

@@ -3,6 +3,7 @@ ghost use Rattle.std.specs.Prelude.{◌≡◌, ℕ, ◌+◌, ◌≤◌, ◌<◌,
 ghost use Rattle.tb_shelving.specs.Rooms.{HasRoomAhead, behind_all};
 ghost use Rattle.tb_tables.specs.Kinds.{settles};
 ghost use Rattle.tb_ledger.specs.Settling.{HasScratch};
+ghost use Rattle.tb_shelf.specs.Shelves.{book_in, is_open};
 ghost use Rattle.tb_shelving.specs.Shelving.{TakesMessage};
 ghost use Rattle.tb_movements.specs.Told.{IsTold};
 ghost use Rattle.tb_holdings.specs.Book.{TakesRoom};
@@ -173,10 +174,11 @@ impl Tables {
         true
     }
 
-    // Credits what is awarded in the announced auction of these terms, which is cut by its book.
+    // Credits what is awarded in the announced auction of these terms, which is cut by its book, which is open.
     fn settle_by(&mut self, terms: &Terms)
         requires tied { (history : List Entry) × AreTied history self.old
             × (announcement_of (announcements history) terms.now.announcement.auction ≡ Some terms.now.announcement) }
+        requires opened { is_open (book_in self.old.shelf.books terms.now.announcement.auction) ≡ true }
         requires room { HasSettleRoom self.old }
         requires accounts { length self.old.bidders.list + 1 ≤ self.old.accounts.spare_accounts }
         requires numbered { AreFew self.old }
@@ -207,6 +209,7 @@ impl Tables {
     // Credits what is awarded in the auction.
     fn settle(&mut self, auction: &Ident)
         requires tied { (history : List Entry) × AreTied history self.old }
+        requires opened { is_open (book_in self.old.shelf.books auction.now) ≡ true }
         requires room { HasSettleRoom self.old }
         requires accounts { length self.old.bidders.list + 1 ≤ self.old.accounts.spare_accounts }
         requires numbered { AreFew self.old }
@@ -254,6 +257,7 @@ impl Tables {
     // Moves what a message of a sender under its number moves.
     fn move_par(&mut self, sender: &Ident, number: u64, message: &Message)
         requires tied { (history : List Entry) × AreTied history self.old }
+        requires takes { TakesMessage self.old.bidders.list sender.now number message.now self.old.shelf }
         requires room { HasRoom 1 self.old }
         requires settling { settles message.now ≡ true → HasSettleRoom self.old }
         requires numbered { AreFew self.old }
@@ -375,6 +379,7 @@ impl Tables {
     // Moves what a message of a sender under its number moves, par and money: both, since nothing here is refused.
     fn move_all(&mut self, sender: &Ident, number: u64, message: &Message)
         requires tied { (history : List Entry) × AreTied history self.old }
+        requires takes { TakesMessage self.old.bidders.list sender.now number message.now self.old.shelf }
         requires room { HasRoom 1 self.old }
         requires settling { settles message.now ≡ true → HasSettleRoom self.old }
         requires numbered { AreFew self.old }

@@ -1,5 +1,5 @@
 //! What becomes of an auction that settles.
-ghost use Rattle.std.specs.Prelude.{◌≡◌, ◌≤◌, length, vec_capacity};
+ghost use Rattle.std.specs.Prelude.{◌≡◌, ◌≤◌, true, length, vec_capacity};
 ghost use Rattle.tb_history.specs.Awarded.{Bidding};
 ghost use Rattle.tb_results.specs.Biddings.{IsBookOf};
 ghost use Rattle.tb_results.specs.Outcomes.{IsCutIn};
@@ -31,8 +31,8 @@ pub fn fill_positions(
     }
 }
 
-/// Recognises the bids of the auction of these terms and cuts them, by the book and the reports, in the room that was
-/// taken. What is recognised stands in the scratch list then. It takes no memory, and loses no room.
+/// Recognises the bids of the auction of these terms and cuts them, by the book, which is open, and the reports, in the
+/// room that was taken. What is recognised stands in the scratch list then. It takes no memory, and loses no room.
 pub fn cut_auction(
     scratch: &mut Scratch,
     bidders: &Bidders,
@@ -42,6 +42,7 @@ pub fn cut_auction(
 ) -> Outcome
     requires bidding { (bidding : Bidding) × IsBookOf bidding terms.now book.now.lines
         (positions_by reports.now.list terms.now.announcement.auction bidders.now.list) }
+    requires opened { book.now.opened ≡ true }
     requires lines { length book.now.lines ≤ scratch.old.recognised.line_room }
     requires bidders { length bidders.now.list ≤ scratch.old.recognised.bidder_room }
     requires positions { length bidders.now.list ≤ vec_capacity scratch.old.positions }

@@ -1,6 +1,6 @@
 //! What a submitter's bidders are awarded, and what they pay.
 ghost use Rattle.std.specs.Prelude.{◌≡◌, ℕ, ◌+◌, ◌<◌, ◌≤◌, ◌==◌, ◌^◌, ◌&&◌, if◌then◌else◌, List, length};
-ghost use Rattle.std.specs.Prelude.{nat_lt, All, IfOk, IfSome};
+ghost use Rattle.std.specs.Prelude.{nat_lt, true, All, IfOk, IfSome};
 ghost use Rattle.tb_units.specs.declared.lines.RateLine.{RateLine};
 ghost use Rattle.tb_units.specs.Multiples.{most_par};
 ghost use Rattle.tb_book.specs.declared.book_line.BookLine.{BookLine};
@@ -21,8 +21,9 @@ use tb_price::payment;
 use tb_terms::Terms;
 use tb_units::{Cents, Dollars, Ident, Lines, OutOfMemory};
 
-/// The awards of the caller's bidders with a live bid, in the order of enrolment, and the add-on where the caller is
-/// its holder. `bidders` are all that are enrolled; `add_on` is the auction's, which has at most 10^22 of par.
+/// The awards of the caller's bidders with a live bid, by the auction's book, which is open, in the order of enrolment,
+/// and the add-on where the caller is its holder. `bidders` are all that are enrolled; `add_on` is the auction's, which
+/// has at most 10^22 of par.
 pub fn awards(
     alloc: Global,
     terms: &Terms,
@@ -34,6 +35,7 @@ pub fn awards(
 ) -> Result<Awards, OutOfMemory>
     requires bidding { (bidding : Bidding) × IsBookOf bidding terms.now book.now.lines positions.now
         × (bidders.now ≡ bidding.enrolled) }
+    requires opened { book.now.opened ≡ true }
     requires few { length bidders.now < 2 ^ 32 }
     requires range { IfSome add_on (λ x. x.amount.value ≤ most_par) }
     ensures lines { IfOk result (λ awards. (bidding : Bidding)

@@ -1,5 +1,5 @@
 //! Where an auction stops, by the book of its bids.
-ghost use Rattle.std.specs.Prelude.{◌≡◌, ◌≤◌, length};
+ghost use Rattle.std.specs.Prelude.{◌≡◌, ◌≤◌, true, length};
 ghost use Rattle.tb_award.specs.Limits.{sought_of};
 ghost use Rattle.tb_award.specs.Room.{KeepsRoom};
 ghost use Rattle.tb_book.specs.Books.{IsKept, noncompetitive_in, rate_lines};
@@ -12,10 +12,11 @@ use tb_book::Book;
 use tb_terms::Terms;
 use tb_units::Dollars;
 
-/// Recognises the competitive bids of the book into a list that has the room, and cuts them. Each bidder's position
-/// stands at its number, in whole dollars. It takes no memory, and loses no room.
+/// Recognises the competitive bids of the book, which is open, into a list that has the room, and cuts them. Each
+/// bidder's position stands at its number, in whole dollars. It takes no memory, and loses no room.
 pub fn cut_book(into: &mut Recognised, terms: &Terms, book: &Book, positions: &[i64]) -> Outcome
     requires bidding { (bidding : Bidding) × IsBookOf bidding terms.now book.now.lines positions.now }
+    requires opened { book.now.opened ≡ true }
     requires line_room { length (rate_lines book.now.lines) ≤ into.old.line_room }
     requires bidder_room { length positions.now ≤ into.old.bidder_room }
     ensures cut { (bidding : Bidding) → IsBookOf bidding terms.now book.now.lines positions.now

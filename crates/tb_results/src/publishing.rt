@@ -17,8 +17,8 @@ use tb_price::{Investment, investment};
 use tb_terms::{Terms, year_length};
 use tb_units::{Dollars, Lines, OutOfMemory, Price};
 
-/// The results of the auction. Each bidder's position stands at its number, in whole dollars. The add-on is the
-/// auction's: it is told as it stands, and enters nothing else.
+/// The results of the auction, by its book, which is open. Each bidder's position stands at its number, in whole
+/// dollars. The add-on is the auction's: it is told as it stands, and enters nothing else.
 pub fn results(
     alloc: Global,
     terms: &Terms,
@@ -26,7 +26,8 @@ pub fn results(
     positions: &[i64],
     add_on: Option<AddOn>,
 ) -> Result<Results, OutOfMemory>
-    requires { (bidding : Bidding) × IsBookOf bidding terms.now book.now.lines positions.now }
+    requires bidding { (bidding : Bidding) × IsBookOf bidding terms.now book.now.lines positions.now }
+    requires opened { book.now.opened ≡ true }
     ensures { IfOk result (λ results. (bidding : Bidding) → IsBookOf bidding terms.now book.now.lines positions.now
         → AreResults bidding add_on results) }
 {

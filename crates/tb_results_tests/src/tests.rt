@@ -1,7 +1,7 @@
 //! Tests of the public calls, with results that were worked out by hand.
 ghost use Rattle.std.specs.Prelude.{◌≡◌, ◌+◌, ◌%◌, ◌<◌, ◌≤◌, ◌^◌, true, length, All, IfOk, IfSome, OnOk};
 ghost use Rattle.tb_units.specs.Multiples.{most_par};
-ghost use Rattle.tb_book.specs.Books.{par_in, rate_lines};
+ghost use Rattle.tb_book.specs.Books.{open_lines, par_in};
 ghost use Rattle.tb_results.specs.Biddings.{is_priced, is_sound_line};
 
 use std::alloc::Global;
@@ -106,6 +106,7 @@ fn add(rt: &impl Abort, book: &mut Book, bidders: u32, line: BookLine) -> Result
     requires fits { par_in book.old.lines + line.amount.value ≤ 10 ^ 22 }
     ensures all { OnOk result (All (λ l. is_sound_line bidders 91 l ≡ true) book.new.lines) }
     ensures par { OnOk result (par_in book.new.lines ≤ par_in book.old.lines + line.amount.value) }
+    ensures opened { book.new.opened ≡ book.old.opened }
 {
     book.reserve(1)?;
     let there = book.take_out(line.bidder, line.number);
@@ -122,7 +123,8 @@ fn book_of(
     table: &[(u32, u64, Option<u32>, u32)],
 ) -> Result<Book, OutOfMemory>
     requires { length table.now ≤ 1000 }
-    ensures { IfOk result (λ book. All (λ l. is_sound_line bidders 91 l ≡ true) book.lines) }
+    ensures sound { IfOk result (λ book. All (λ l. is_sound_line bidders 91 l ≡ true) book.lines) }
+    ensures opened { IfOk result (λ book. book.opened ≡ true) }
 {
     let mut book = Book::new(alloc);
     for place in 0..table.len() {
@@ -163,6 +165,7 @@ fn results_of(
     requires offering { terms.now.announcement.offering.value % 100 ≡ 0 }
     requires floor { 100 ≤ terms.now.announcement.competitive_floor.value }
     requires sound { All (λ l. is_sound_line 5 91 l ≡ true) book.now.lines }
+    requires opened { book.now.opened ≡ true }
 {
     results(alloc, terms, book, &[0; 5], add_on)
 }
@@ -173,6 +176,7 @@ fn awarded_of(alloc: Global, terms: &Terms, book: &Book) -> Result<Vec<u128>, Ou
     requires offering { terms.now.announcement.offering.value % 100 ≡ 0 }
     requires floor { 100 ≤ terms.now.announcement.competitive_floor.value }
     requires sound { All (λ l. is_sound_line 5 91 l ≡ true) book.now.lines }
+    requires opened { book.now.opened ≡ true }
 {
     let mut recognised = Recognised::empty(alloc);
     recognised.reserve(book.lines(), 5)?;
@@ -196,6 +200,7 @@ fn awards_of(
     requires offering { terms.now.announcement.offering.value % 100 ≡ 0 }
     requires floor { 100 ≤ terms.now.announcement.competitive_floor.value }
     requires sound { All (λ l. is_sound_line 1 91 l ≡ true) book.now.lines }
+    requires opened { book.now.opened ≡ true }
     requires range { IfSome add_on (λ x. x.amount.value ≤ most_par) }
 {
     awards(alloc, terms, book, &[0], &[bidder], add_on, caller)
@@ -209,7 +214,8 @@ fn add_on_of(
     holder: &str,
     caller: &str,
 ) -> Result<Option<AddOnLine>, OutOfMemory>
-    requires { All (λ l. is_sound_line 1 91 l ≡ true) book.now.lines }
+    requires sound { All (λ l. is_sound_line 1 91 l ≡ true) book.now.lines }
+    requires opened { book.now.opened ≡ true }
 {
     let terms = terms_of(rt, alloc)?;
     let add_on = added(rt, holder);
@@ -242,8 +248,8 @@ fn recognised_in_four_steps<L: Ledger>(
     book: &Book,
     steps: &mut Steps<L>,
 ) -> Result<Recognised, OutOfMemory>
-    requires four { length (rate_lines book.now.lines) ≡ 4 }
-    requires known { All (λ line. line.bidder < 5) (rate_lines book.now.lines) }
+    requires four { length (open_lines book.now) ≡ 4 }
+    requires known { All (λ line. line.bidder < 5) (open_lines book.now) }
     ensures { steps.new ≤ steps.old + 4 }
 {
     let offering = Dollars {
@@ -260,15 +266,16 @@ fn recognised_by<L: Ledger>(
     requires name { blank.name ≡ L.name }
     requires parts { blank.parts ≡ L.parts }
     requires some { 0 < L.parts }
-    requires four { length (rate_lines book.now.lines) ≡ 4 }
-    requires known { All (λ line. line.bidder < 5) (rate_lines book.now.lines) }
+    requires four { length (open_lines book.now) ≡ 4 }
+    requires known { All (λ line. line.bidder < 5) (open_lines book.now) }
 {
     let mut steps = Steps::<L>::new(blank);
     recognised_in_four_steps(alloc, book, &mut steps)
 }
 
 fn recognised_of(rt: &impl Abort, alloc: Global, book: &Book) -> Result<Recognised, OutOfMemory>
-    requires { All (λ l. is_sound_line 5 91 l ≡ true) book.now.lines }
+    requires sound { All (λ l. is_sound_line 5 91 l ≡ true) book.now.lines }
+    requires opened { book.now.opened ≡ true }
 {
     assert_eq!(rt; book.lines(), 4);
     recognised_by::<Brand>(alloc, Blank::new(1), book)
@@ -288,7 +295,8 @@ fn expect_recognised(rt: &impl Abort, recognised: &Recognised, table: &[(u32, u3
 
 // Noncompetitive par of one bidder, and four competitive bids that stop at 5.330 percent.
 fn sample_book(rt: &impl Abort, alloc: Global) -> Result<Book, OutOfMemory>
-    ensures { IfOk result (λ book. All (λ l. is_sound_line 5 91 l ≡ true) book.lines) }
+    ensures sound { IfOk result (λ book. All (λ l. is_sound_line 5 91 l ≡ true) book.lines) }
+    ensures opened { IfOk result (λ book. book.opened ≡ true) }
 {
     let table = [
         (0, 1, None, 100_000_000),

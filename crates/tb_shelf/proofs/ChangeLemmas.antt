@@ -13,7 +13,7 @@ use Rattle.std.proofs.lemmas.List.Sums.{passes_at_first}
 use Rattle.std.proofs.lemmas.Slice.Eq.{bytes_eq-Decides}
 use Rattle.tb_units.specs.declared.rate.Rate.{Rate}
 use Rattle.tb_book.specs.declared.book_line.BookLine.{BookLine}
-use Rattle.tb_book.specs.Books.{Bids, HasBidAt, IsTakenOut, most_bid, par_in}
+use Rattle.tb_book.specs.Books.{Bids, HasBidAt, most_bid, par_in}
 use Rattle.tb_shelf.specs.declared.named.NamedBook.{NamedBook}
 use Rattle.tb_shelf.specs.Shelves.{IsChanged, IsChangedAt, IsLowered, IsOpened, Shelved, TakesLine, book_in, has_places, is_of, names_in}
 use Rattle.tb_shelf.proofs.FindLemmas.{position-place, found_at, found_none}
@@ -110,23 +110,25 @@ IsChanged-none auction Change books none =
 -- a line was taken out of a book, or there was none
 pub IsLowered-taken : (taken : Option BookLine) (rate : Option Rate) (bidder number : ℕ) (old new : Bids)
     → IsNone taken ↔ (¬ (HasBidAt rate bidder number old.lines))
-    → IfSome taken (λ line. (line.rate ≡ rate) × (line.bidder ≡ bidder) × (line.number ≡ number)
-    × IsTakenOut line old.lines new.lines)
+    → IfSome taken (λ line. (line.rate ≡ rate) × (line.bidder ≡ bidder) × (line.number ≡ number))
     → IfSome taken (λ line. IsPermutation old.lines (line ∷ new.lines))
     → IfNone taken (new ≡ old)
     → old.spare ≤ new.spare
+    → new.opened ≡ old.opened
     → IsLowered rate bidder number old new
-IsLowered-taken None rate bidder number old new none is elements unchanged room =
+IsLowered-taken None rate bidder number old new none is elements unchanged room opened =
     record {
       taken = λ has. absurd (none.0 refl has);
       none = λ lacks. ap (λ (book : Bids). book.lines) unchanged;
       room = room;
+      opened = opened;
     }
-IsLowered-taken (Some line) rate bidder number old new none is elements unchanged room =
+IsLowered-taken (Some line) rate bidder number old new none is elements unchanged room opened =
     record {
       taken = λ has. (line, is.0, is.1, is.2, elements);
       none = λ lacks. let wrong : true ≡ false = none.1 lacks in absurd cc;
       room = room;
+      opened = opened;
     }
 
 -- what holds of a name's book holds of the book at its place

@@ -37,6 +37,7 @@ pub record TakesLine (line : BookLine) (book : Bids) : Type 0 where
 pub record IsAdded (line : BookLine) (old new : Bids) : Type 0 where
   pub elements : IsPermutation (line ∷ old.lines) new.lines
   pub room : old.spare ≤ new.spare + 1
+  pub opened : new.opened ≡ old.opened
 
 -- the bidder's line of this rate, or of none, and of this number is taken out, if it is there
 pub record IsLowered (rate : Option Rate) (bidder number : ℕ) (old new : Bids) : Type 0 where
@@ -45,11 +46,19 @@ pub record IsLowered (rate : Option Rate) (bidder number : ℕ) (old new : Bids)
       × IsPermutation old.lines (line ∷ new.lines)
   pub none : ¬ (HasBidAt rate bidder number old.lines) → new.lines ≡ old.lines
   pub room : old.spare ≤ new.spare
+  pub opened : new.opened ≡ old.opened
+
+-- the book is open, and has its lines in some order
+pub record IsUnsealed (old new : Bids) : Type 0 where
+  pub elements : IsPermutation old.lines new.lines
+  pub room : old.spare ≤ new.spare
+  pub opened : new.opened ≡ true
 
 -- the lines stay, and no room is lost
 pub record IsKeptBook (old new : Bids) : Type 0 where
   pub lines : new.lines ≡ old.lines
   pub room : old.spare ≤ new.spare
+  pub opened : new.opened ≡ old.opened
 
 -- a book that is there goes so, and none comes where there is none
 abbrev pub Goes : (Bids → Bids → Type 0) → Option Bids → Option Bids → Type 0
@@ -88,6 +97,10 @@ pub record IsChangedAt (place : ℕ) (Change : Bids → Bids → Type 0) (old ne
   pub is : new ≡ slice_set old place named
   pub name : (d : NamedBook) → named.auction ≡ (slice_index_or old place d).auction
   pub changed : (d : NamedBook) → Change (slice_index_or old place d).book named.book
+
+-- there is a book, and it is open
+abbrev pub is_open : Option Bids → Bool
+is_open found = option_map_or (λ (book : Bids). book.opened) found false
 
 -- the book of the auction, if it is there, has so many places
 abbrev pub has_places : List NamedBook → ℕ → List ℕ → Bool

@@ -2,7 +2,7 @@
 ghost use Rattle.std.specs.Prelude.{◌≡◌, ◌<◌, ◌≤◌, List, length, slice_index_or, Some, None, IfNone, IfSome, OnOk};
 ghost use Rattle.std.specs.List.{position};
 ghost use Rattle.tb_shelf.specs.declared.named.NamedBook.{NamedBook};
-ghost use Rattle.tb_shelf.specs.Shelves.{IsAdded, IsChangedAt, IsKeptBook, IsLowered, TakesLine, book_in, is_of, names_in};
+ghost use Rattle.tb_shelf.specs.Shelves.{IsAdded, IsChangedAt, IsKeptBook, IsLowered, IsUnsealed, TakesLine, book_in, is_of, names_in};
 
 use crate::named::{NamedBook, Names};
 use tb_book::{Book, BookLine};
@@ -42,6 +42,14 @@ pub fn take_at(books: &mut [NamedBook], place: usize, rate: Option<Rate>, bidder
     ensures { IsChangedAt place (IsLowered rate bidder number) books.old books.new }
 {
     let _ = books[place].book.take_out_at(rate, bidder, number);
+}
+
+/// Opens the book at the place.
+pub fn unseal_at(books: &mut [NamedBook], place: usize)
+    requires { place < length books.old }
+    ensures { IsChangedAt place IsUnsealed books.old books.new }
+{
+    books[place].book.unseal();
 }
 
 /// Makes so many adds sure in the book at the place.

@@ -6,11 +6,11 @@ use std::alloc::Global;
 use tb_book::Book;
 use tb_units::OutOfMemory;
 
-// An empty book with room for so many lines.
+// An empty book, which is sealed, with room for so many lines.
 fn prepared(alloc: Global, places: u64) -> Result<Book, OutOfMemory>
     ensures { IfOk result (IsReady places) }
 {
-    let mut book = Book::new(alloc);
+    let mut book = Book::sealed(alloc);
     book.reserve(places)?;
     Ok(book)
 }

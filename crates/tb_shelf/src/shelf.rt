@@ -1,8 +1,8 @@
 //! The books of auctions by name, and those that stand ready.
 ghost use Rattle.std.specs.Prelude.{◌≡◌, ◌+◌, ◌<◌, ◌≤◌, true, [], Some, None, IfNone, IfSome, OnOk};
-ghost use Rattle.tb_shelf.specs.Shelves.{IsAdded, IsChanged, IsKeptBook, IsLowered, IsOpened, TakesLine, book_in, has_places};
+ghost use Rattle.tb_shelf.specs.Shelves.{IsAdded, IsChanged, IsKeptBook, IsLowered, IsOpened, IsUnsealed, TakesLine, book_in, has_places};
 
-use crate::finding::{add_at, find, place_of, reserve_at, take_at};
+use crate::finding::{add_at, find, place_of, reserve_at, take_at, unseal_at};
 use crate::named::{NamedBook, Names};
 use crate::preparing::{fill, raise_all};
 use std::alloc::Global;
@@ -130,6 +130,16 @@ impl Shelf {
     {
         if let Some(place) = place_of(&self.names, auction) {
             take_at(&mut self.books, place, rate, bidder, number);
+        }
+    }
+
+    /// Opens the auction's book, if there is one: its lines stand in order from then on, and may be read.
+    pub fn unseal(&mut self, auction: &Ident)
+        ensures books { IsChanged auction.now IsUnsealed self.old.books self.new.books }
+        ensures ready { (self.new.ready ≡ self.old.ready) × (self.new.places ≡ self.old.places) }
+    {
+        if let Some(place) = place_of(&self.names, auction) {
+            unseal_at(&mut self.books, place);
         }
     }
 

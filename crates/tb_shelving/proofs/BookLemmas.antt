@@ -20,18 +20,18 @@ use Rattle.tb_book.specs.declared.book_line.BookLine.{BookLine}
 use Rattle.tb_book.specs.Books.{Bids, most_bid, par_in}
 use Rattle.tb_book.proofs.CallerLemmas.{HasBid-none, IsOther}
 use Rattle.tb_shelf.specs.declared.named.NamedBook.{NamedBook}
-use Rattle.tb_shelf.specs.Shelves.{IsAdded, IsChanged, IsLowered, IsOpened, Shelved, TakesLine, book_in, names_in}
+use Rattle.tb_shelf.specs.Shelves.{IsAdded, IsChanged, IsLowered, IsOpened, IsUnsealed, Shelved, TakesLine, book_in, names_in}
 use Rattle.tb_history.specs.declared.roster.Enrolment.{Enrolment}
 use Rattle.tb_history.specs.declared.bids.Bid.{Bid}
 use Rattle.tb_history.specs.declared.bids.Cancel.{Cancel}
-use Rattle.tb_history.specs.Entries.{announced_by, bid_by, cancelled_by, enrolled_by, is_same}
-use Rattle.tb_history.specs.Roster.{announcement_of, announcements, enrolment_of, enrolments, is_enrolled, kept}
+use Rattle.tb_history.specs.Entries.{announced_by, bid_by, cancelled_by, enrolled_by, is_same, published_by}
+use Rattle.tb_history.specs.Roster.{announcement_of, announcements, enrolment_of, enrolments, is_enrolled, is_published, is_settled, kept, publications}
 use Rattle.tb_history.specs.LiveBids.{bid_of, bids, cancels, is_cancelled, is_live, live_bids_in, par_of, reports, standing_of}
 use Rattle.tb_history.specs.Readings.{place_of}
 use Rattle.tb_history.specs.Tables.{bid_rows, rows_of}
 use Rattle.tb_history.specs.Legal.{Follows, IsLegal}
 use Rattle.tb_history.proofs.SameLemmas.{is_same-equal, is_same-refl}
-use Rattle.tb_history.proofs.GrowthLemmas.{announcements-snoc, bids-snoc, cancels-snoc, enrolments-snoc}
+use Rattle.tb_history.proofs.GrowthLemmas.{announcements-snoc, bids-snoc, cancels-snoc, enrolments-snoc, publications-snoc}
 use Rattle.tb_history.proofs.AcceptedLemmas.{IsClear, accepted-passes}
 use Rattle.tb_history.proofs.LegalLemmas.{IsLegal-orderly, IsOrderly, IsPlaced}
 use Rattle.tb_history.proofs.ClosedLemmas.{found-in}
@@ -40,11 +40,13 @@ use Rattle.tb_results.specs.Biddings.{book_line_of}
 use Rattle.tb_results.proofs.BookedLemmas.{sum_by-mapped}
 use Rattle.tb_shelving.specs.Rooms.{has_place}
 use Rattle.tb_tables.specs.Kinds.{announces}
-use Rattle.tb_shelving.specs.Shelving.{AreBooks, AreShelved, HasShelved, IsOut, Shelves, TakesMessage}
+use Rattle.tb_shelving.specs.Shelving.{AreBooks, AreOpen, AreShelved, HasShelved, IsOut, Shelves, TakesMessage}
 use Rattle.tb_shelving.proofs.NumberLemmas.{AreNumbered, IsLegal-numbered, IsUsed, cancel_rows-clear, is_bid, none-of, unused}
 use Rattle.tb_shelving.proofs.LiveLemmas.{All-live, All-live_with, lines-enrolled, live-cancel_other, live-more, live-other, live-taken, live-unannounced, meant-parts, not_meant, under-some}
 use Rattle.tb_shelving.proofs.ShelfLemmas.{lines-changed, lines-opened, lines-taken, other-line}
+use Rattle.tb_shelving.proofs.OpenLemmas.{open-message, open-published, open-same, settle_rows-published}
 use Rattle.tb_shelving.proofs.StandingLemmas.{par_of-filter}
+use Rattle.tb_shelving.proofs.SumLemmas.{book-announced}
 
 -- the lines that the live bids of an auction are
 abbrev pub lines_in : List Entry → List ℕ → List BookLine
@@ -231,6 +233,11 @@ shelved-message h s n moment (message.Cancel auction number) old new next books 
 shelved-message h s n moment (message.Enrol bidder submitter) old new next books goes =
     rw (append-nil (bids h), append-nil (cancels h), goes)
     (shelved-enrol h ((record { bidder = bidder; submitter = submitter }) ∷ []) old.books next.orderly books)
+shelved-message h s n moment (message.Publish name) old new next books goes =
+    AreNow-same h new.books
+    (lines-changed name IsUnsealed (lines_in h) (lines_in h) old.books new.books goes books.lines
+    (λ one other unsealed has. IsPermutation-trans (lines_in h name) one.lines other.lines has unsealed.elements)
+    (λ auction apart. refl))
 shelved-message h s n moment other old new next books goes = AreNow-same h new.books (rw goes books.lines)
 
 -- and there is a book for each auction
@@ -255,7 +262,23 @@ names-message h s n (message.Cancel auction number) old new books goes =
         → IsOut enrolled found auction number old new → names_in new ≡ names_in old
     names-out enrolled None auction number old new out = ap names_in out
     names-out enrolled (Some bid) auction number old new out = out.names
+names-message h s n (message.Publish name) old new books goes =
+    rw (append-nil (announcements h)) (goes.names ∙ books.names)
 names-message h s n other old new books goes = rw (append-nil (announcements h)) (ap names_in goes ∙ books.names)
+
+-- and those of published auctions are open
+opened-message : (h : List Entry) (s : List ℕ) (n : ℕ) (moment : Moment) (m : Message) (old new : Shelved)
+    → IsNext h s n moment m
+    → AreBooks h old.books
+    → Shelves (enrolments h) (bids h) s n m old new
+    → AreOpen (publications h ++ published_by m) new.books
+opened-message h s n moment (message.Publish name) old new next books goes =
+    open-published (publications h) name (announcement_of (announcements h) name) (is_published h name) moment old.books
+    new.books next.rows (book-announced h old.books name books) books.opened goes
+opened-message h s n moment other old new next books goes =
+    open-same (publications h) new.books
+    (λ auction published. open-message (enrolments h) (bids h) s n other old new goes auction
+    (books.opened auction published))
 
 -- so the books are those of the history with an accepted entry
 pub AreBooks-push : (h : List Entry) (e : Entry) (old new : Shelved)
@@ -271,12 +294,16 @@ AreBooks-push h e old new legal follows books goes =
       lines = rw (enrolments-snoc h e, bids-snoc h e, cancels-snoc h e)
           (shelved-message h e.submitter e.number e.moment e.message old new (Follows-next h e legal follows)
           books goes.books);
+      opened = rw (publications-snoc h e)
+          (opened-message h e.submitter e.number e.moment e.message old new (Follows-next h e legal follows)
+          books goes.books);
     }
 
 -- in the empty history there is no book
 pub AreBooks-nil : (books : List NamedBook) → books ≡ [] → AreBooks [] books
-unfolding announcements enrolments bids cancels
-AreBooks-nil books none = rw none (record { names = refl; lines = λ auction. tt })
+unfolding announcements enrolments bids cancels publications
+AreBooks-nil books none =
+    rw none (record { names = refl; lines = λ auction. tt; opened = λ auction published. published })
 
 -- the par of the lines of a book is within that of all bids
 par-within : (h : List Entry) (auction : List ℕ) (lines : List BookLine)
@@ -380,4 +407,8 @@ takes-message h s n moment (message.Bid auction bidder rate amount) shelf next f
     bid_rows-known (announcement_of (announcements h) auction) (is_enrolled h bidder s)
     (standing_of (bids h) (cancels h) (reports h) auction bidder) moment rate amount.value next.rows in
     takes-bid h bid shelf.books next.orderly next.numbered next.unused enrolled few books room.place
+takes-message h s n moment (message.Settle auction) shelf next few books room =
+    books.opened auction
+    (settle_rows-published (announcement_of (announcements h) auction) (is_published h auction) (is_settled h auction)
+    moment next.rows)
 takes-message h s n moment other shelf next few books room = tt

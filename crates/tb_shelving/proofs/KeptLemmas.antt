@@ -11,6 +11,7 @@ use Rattle.tb_book.specs.declared.book_line.BookLine.{BookLine}
 use Rattle.tb_book.specs.Books.{Bids}
 use Rattle.tb_shelf.specs.declared.named.NamedBook.{NamedBook}
 use Rattle.tb_shelf.specs.Shelves.{Goes, IsChanged, IsKeptBook, Shelved, book_in}
+use Rattle.tb_shelving.proofs.OpenLemmas.{goes-open}
 use Rattle.tb_history.specs.Entries.{is_same}
 use Rattle.tb_history.proofs.SameLemmas.{is_same-equal}
 use Rattle.tb_shelving.specs.Rooms.{KeepsRoom, Room, has_place}
@@ -19,7 +20,7 @@ use Rattle.tb_shelving.specs.Shelving.{AreBooks, IsKeptShelf}
 -- a book is as it is
 goes-same : (found : Option Bids) → Goes IsKeptBook found found
 goes-same None = tt
-goes-same (Some book) = record { lines = refl; room = omega arith }
+goes-same (Some book) = record { lines = refl; room = omega arith; opened = refl }
 
 -- and what keeps its lines twice has kept them
 goes-both : (one two three : Option Bids) → Goes IsKeptBook one two → Goes IsKeptBook two three
@@ -29,7 +30,11 @@ goes-both None (Some two) three first second = absurd first
 goes-both (Some one) None three first second = absurd first
 goes-both (Some one) (Some two) None first second = absurd second
 goes-both (Some one) (Some two) (Some three) first second =
-    record { lines = second.lines ∙ first.lines; room = omega (arith, first.room, second.room) }
+    record {
+      lines = second.lines ∙ first.lines;
+      room = omega (arith, first.room, second.room);
+      opened = second.opened ∙ first.opened;
+    }
 
 -- where one book keeps its lines and the others stay, all keep them
 goes-kept : (auction : List ℕ) (old new : List NamedBook)
@@ -114,6 +119,9 @@ AreBooks-kept h old new books kept =
       names = kept.names ∙ books.names;
       lines = λ auction. lines-kept (book_in old.books auction) (book_in new.books auction) _ (kept.books auction)
           (books.lines auction);
+      opened = λ auction published.
+          goes-open IsKeptBook (book_in old.books auction) (book_in new.books auction) (kept.books auction)
+          (λ one other kept_book opened. kept_book.opened ∙ opened) (books.opened auction published);
     }
 
 -- the places of a kept book

@@ -1,6 +1,7 @@
 pub mod NumberLemmas
 pub mod LiveLemmas
 pub mod ShelfLemmas
+pub mod OpenLemmas
 pub mod StandingLemmas
 pub mod BookLemmas
 pub mod SumLemmas

@@ -12,7 +12,7 @@ use Rattle.tb_message.specs.declared.message.Message.{Message}
 use Rattle.tb_message.specs.declared.message.Message.TheVariants as message
 use Rattle.tb_book.specs.Books.{Bids}
 use Rattle.tb_shelf.specs.declared.named.NamedBook.{NamedBook}
-use Rattle.tb_shelf.specs.Shelves.{Goes, IsAdded, IsChanged, IsLowered, Shelved, book_in, has_places, is_of}
+use Rattle.tb_shelf.specs.Shelves.{Goes, IsAdded, IsChanged, IsLowered, IsUnsealed, Shelved, book_in, has_places, is_of}
 use Rattle.tb_history.specs.declared.roster.Enrolment.{Enrolment}
 use Rattle.tb_history.specs.declared.bids.Bid.{Bid}
 use Rattle.tb_history.specs.Entries.{announced_by, is_same}
@@ -232,6 +232,9 @@ places-message enrolled all s number (message.Bid name bidder rate amount) old n
     auction has
 places-message enrolled all s number (message.Cancel name bid) old new n enough goes auction has =
     places-out enrolled (bid_of all s name bid) name bid old.books new.books n goes auction has
+places-message enrolled all s number (message.Publish name) old new n enough goes auction has =
+    places-changed name IsUnsealed old.books new.books (n + 1) n (omega arith)
+    (λ one other unsealed enough. omega (arith, unsealed.room, enough)) goes auction has
 places-message enrolled all s number other old new n enough goes auction has =
     rw goes (places-less (book_in old.books auction) (n + 1) n (omega arith) has)
 

@@ -11,8 +11,9 @@ use tb_shelf::Shelf;
 use tb_tables::{Bidders, find_bid, number_of};
 use tb_units::Ident;
 
-/// Opens the book of an auction that is announced, adds the line of a bid of the sender under its number, or takes that
-/// of a bid that it cancels out, which the entries before the message have.
+/// Puts a book there for an auction that is announced, adds the line of a bid of the sender under its number, takes
+/// that of a bid that it cancels out, which the entries before the message have, or opens the book of an auction that
+/// is published.
 pub fn enter_line(
     shelf: &mut Shelf,
     bidders: &Bidders,
@@ -45,6 +46,7 @@ pub fn enter_line(
         Message::Cancel { auction, bid } => cancel_line(
             shelf, bidders, entries, sender, auction, *bid,
         ),
+        Message::Publish { auction } => shelf.unseal(auction),
         _ => (),
     }
 }

@@ -1,10 +1,10 @@
 -- The bids of a trial, one by one and as lines of a book.
-use Rattle.std.proofs.Common.{◌≡◌, ℕ, zero, suc, ◌+◌, ◌*◌, ◌/◌, ◌%◌, ◌<◌, ◌≤◌, ◌^◌, ◌==◌, cond, eq-eqb, eqb-true, inl, inr, Some, List, [], ◌∷◌, ◌++◌, get_or, map, sum_by, refl, sym, ap, ◌∙◌, subst, add-one, append_assoc, arith}
+use Rattle.std.proofs.Common.{◌≡◌, ℕ, zero, suc, ◌+◌, ◌*◌, ◌/◌, ◌%◌, ◌<◌, ◌≤◌, ◌^◌, Some, List, [], ◌∷◌, ◌++◌, map, All, sym, ap, ◌∙◌, subst, add-one, arith}
 use Rattle.std.specs.Prelude.{IsPermutation}
-use Rattle.std.proofs.lemmas.Bool.{cases_Bool, cases_eq, cond-false, cond-true}
 use Rattle.std.proofs.lemmas.List.{map_push}
-use Rattle.std.proofs.lemmas.List.Sorted.{IsPermutation-append_right, IsPermutation-middle, IsPermutation-push_more, IsPermutation-refl, IsPermutation-sym, IsPermutation-trans, sum_by-IsPermutation}
-use Rattle.std.proofs.lemmas.List.Sums.{sum_by-append, sum_by_more_le, sum_by_push}
+use Rattle.std.proofs.lemmas.List.Elements.{All-nil, All-push}
+use Rattle.std.proofs.lemmas.List.Sorted.{All-permutation, IsPermutation-push_more, IsPermutation-refl, sum_by-IsPermutation}
+use Rattle.std.proofs.lemmas.List.Sums.{sum_by-append}
 use Rattle.tb_units.specs.Amounts.{dollars_of}
 use Rattle.tb_units.specs.Same.{same_dollars, same_rate}
 use Rattle.tb_units.specs.declared.amount.Dollars.{Dollars}
@@ -53,13 +53,18 @@ line_of-stated number drawn bidder rate amount placed rated valued =
 abbrev pub lines_to : ℕ → ℕ → List BookLine
 lines_to seed count = map line_of (stated_bids seed count)
 
--- there are no bids yet
-pub lines_to-none : (seed : ℕ) (left booked : List BookLine)
-    → left ≡ []
-    → booked ≡ []
-    → IsPermutation (lines_to seed 0) (left ++ booked)
+-- a book without lines has no bids
+pub lines_to-none : (seed : ℕ) (lines : List BookLine) → lines ≡ [] → IsPermutation (lines_to seed 0) lines
 unfolding stated_bids
-lines_to-none seed left booked none_left none = rw (none_left, none) (IsPermutation-refl [])
+lines_to-none seed lines none = subst (λ (xs : List BookLine). IsPermutation [] xs) (sym none) (IsPermutation-refl [])
+
+-- the lines that are kept are those
+pub lines_to-kept : (seed count : ℕ) (old new : List BookLine)
+    → new ≡ old
+    → IsPermutation (lines_to seed count) old
+    → IsPermutation (lines_to seed count) new
+lines_to-kept seed count old new same are =
+    subst (λ (lines : List BookLine). IsPermutation (lines_to seed count) lines) (sym same) are
 
 -- one more bid is one more line behind them
 lines_to-suc : (seed count : ℕ)
@@ -90,90 +95,15 @@ lines_to-added seed count drawn line old new drawn_is line_is are more =
     rw add-one (rw lines_to-suc
     (subst (λ (l : BookLine). IsPermutation (lines_to seed count ++ l ∷ []) new) next_is added))
 
--- with the line of the next bid behind those that are left there is one bid more
-pub lines_to-left : (seed count drawn : ℕ) (line : BookLine) (left booked : List BookLine)
-    → drawn ≡ drawn_for seed (count + 1)
-    → line ≡ line_of (stated_bid (count + 1) drawn)
-    → IsPermutation (lines_to seed count) (left ++ booked)
-    → IsPermutation (lines_to seed (count + 1)) ((left ++ line ∷ []) ++ booked)
-lines_to-left seed count drawn line left booked drawn_is line_is are =
-    lines_to-added seed count drawn line (left ++ booked) ((left ++ line ∷ []) ++ booked) drawn_is line_is are
-    (subst (IsPermutation (line ∷ (left ++ booked))) (sym (append_assoc left (line ∷ []) booked))
-    (IsPermutation-sym _ _ (IsPermutation-middle left line booked)))
-
--- the last line goes from those that are left to the book
-pub moved-line : (whole left booked added : List BookLine) (line : BookLine)
-    → IsPermutation whole ((left ++ line ∷ []) ++ booked)
-    → IsPermutation (line ∷ booked) added
-    → IsPermutation whole (left ++ added)
-moved-line whole left booked added line are more =
-    IsPermutation-trans whole (left ++ line ∷ booked) (left ++ added)
-    (subst (IsPermutation whole) (append_assoc left (line ∷ []) booked) are)
-    (IsPermutation-append_right left (line ∷ booked) added more)
-
--- once none are left the book has all
-pub lines_to-all : (seed stated count : ℕ) (before left booked : List BookLine)
-    → stated ≡ count
-    → IsPermutation (lines_to seed stated) before
-    → IsPermutation before (left ++ booked)
-    → left ≡ []
-    → IsPermutation (lines_to seed count) booked
-lines_to-all seed stated count before left booked all are added none =
-    subst (λ (number : ℕ). IsPermutation (lines_to seed number) booked) all
-    (IsPermutation-trans (lines_to seed stated) before booked are
-    (subst (λ (rest : List BookLine). IsPermutation before (rest ++ booked)) none added))
-
--- one for a line of the number
-abbrev pub counts_as : ℕ → BookLine → ℕ
-counts_as number line = cond (line.number == number) 1 0
-
--- how many lines have the number
-abbrev pub numbered : ℕ → List BookLine → ℕ
-numbered number lines = sum_by (counts_as number) lines
-
--- a line of another number counts for nothing
-counts-other : (number : ℕ) (line : BookLine) → ¬ (line.number ≡ number) → counts_as number line ≡ 0
-counts-other number line other =
-    elim (cases_Bool (line.number == number)) [
-      | inl same ↦ absurd (other (eqb-true line.number number same))
-      | inr apart ↦ cond-false (line.number == number) 1 0 apart
-    ]
-
--- one of the number counts
-counts-own : (number : ℕ) (line : BookLine) → line.number ≡ number → counts_as number line ≡ 1
-counts-own number line same = cond-true (line.number == number) 1 0 (eq-eqb line.number number same)
-
--- none of so many bids has a later number
-numbered-later : (seed count number : ℕ) → count < number → numbered number (lines_to seed count) ≡ 0
+-- no line has a number above their count
+numbers-lines_to : (seed count : ℕ) → All (λ line. line.number ≤ count) (lines_to seed count)
 unfolding stated_bids
-numbered-later seed zero number later = refl
-numbered-later seed (suc count) number later =
-    let line = line_of (stated_bid (suc count) (drawn_for seed (suc count))) in
-    omega (
-      arith,
-      ap (numbered number) (lines_to-suc seed count),
-      sum_by_push (counts_as number) (lines_to seed count) line,
-      counts-other number line (λ same. omega (arith, later, same)),
-      numbered-later seed count number (omega (arith, later)),
-    )
-
--- no two have one number
-numbered-once : (seed count number : ℕ) → numbered number (lines_to seed count) ≤ 1
-unfolding stated_bids
-numbered-once seed zero number = omega arith
-numbered-once seed (suc count) number =
-    let line = line_of (stated_bid (suc count) (drawn_for seed (suc count))) in
-    let all = ap (numbered number) (lines_to-suc seed count)
-    ∙ sum_by_push (counts_as number) (lines_to seed count) line in
-    elim (cases_eq (suc count) number) [
-      | inl same ↦ omega (
-        arith,
-        all,
-        counts-own number line same,
-        numbered-later seed count number (omega (arith, same)),
-      )
-      | inr apart ↦ omega (arith, all, counts-other number line apart, numbered-once seed count number)
-    ]
+numbers-lines_to seed zero = All-nil (λ (line : BookLine). line.number ≤ 0)
+numbers-lines_to seed (suc count) =
+    let Within : BookLine → Type 0 = λ line. line.number ≤ suc count in
+    subst (All Within) (sym (lines_to-suc seed count))
+    (All-push Within (lines_to seed count) _
+    (λ k d below. let within = numbers-lines_to seed count k d below in omega (arith, within)) (omega arith))
 
 -- their par is at most 100,000 each
 par-lines_to : (seed count : ℕ) → par_in (lines_to seed count) ≤ 100000 * count
@@ -191,33 +121,24 @@ par-lines_to seed (suc count) =
       par-lines_to seed count,
     )
 
--- a bid that isn't in the book yet has another number than those that are
-pub added-new : (seed count : ℕ) (left booked : List BookLine) (line : BookLine)
-    → IsPermutation (lines_to seed count) ((left ++ line ∷ []) ++ booked)
-    → ¬ (HasBid line.bidder line.number booked)
-added-new seed count left booked line are =
-    HasBid-none line.bidder line.number booked
-    (λ k d below same. omega (
-      arith,
-      numbered-once seed count line.number,
-      sum_by-IsPermutation (counts_as line.number) (lines_to seed count) ((left ++ line ∷ []) ++ booked) are,
-      sum_by-append (counts_as line.number) (left ++ line ∷ []) booked,
-      sum_by_push (counts_as line.number) left line,
-      counts-own line.number line refl,
-      sum_by_more_le (counts_as line.number) booked k d below,
-      counts-own line.number (get_or booked k d) same.1,
-    ))
+-- a book of them has no bid of a later number
+pub later-none : (seed count bidder number : ℕ) (lines : List BookLine)
+    → IsPermutation (lines_to seed count) lines
+    → count < number
+    → ¬ (HasBid bidder number lines)
+later-none seed count bidder number lines are later =
+    let within = All-permutation (λ (line : BookLine). line.number ≤ count) (lines_to seed count) lines are
+    (numbers-lines_to seed count) in
+    HasBid-none bidder number lines
+    (λ k d below same. let has = within k d below in omega (arith, has, same.1, later))
 
--- and fits in
-pub added-fits : (seed count : ℕ) (left booked : List BookLine) (line : BookLine)
-    → IsPermutation (lines_to seed count) ((left ++ line ∷ []) ++ booked)
-    → par_in booked + line.amount.value ≤ 100000 * count
-added-fits seed count left booked line are =
-    let par : BookLine → ℕ = λ one. one.amount.value in
+-- nor more par than that
+pub par-limited : (seed count : ℕ) (lines : List BookLine)
+    → IsPermutation (lines_to seed count) lines
+    → par_in lines ≤ 100000 * count
+par-limited seed count lines are =
     omega (
       arith,
-      sum_by-IsPermutation par (lines_to seed count) ((left ++ line ∷ []) ++ booked) are,
-      sum_by-append par (left ++ line ∷ []) booked,
-      sum_by_push par left line,
+      sum_by-IsPermutation (λ (line : BookLine). line.amount.value) (lines_to seed count) lines are,
       par-lines_to seed count,
     )

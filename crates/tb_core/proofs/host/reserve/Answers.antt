@@ -1,5 +1,5 @@
 -- The rows stay, and no room is lost.
-use Rattle.std.proofs.Common.{◌≡◌, refl, arith}
+use Rattle.std.proofs.Common.{refl, arith}
 use Rattle.std.proofs.lemmas.Result.{on_ok_weaker}
 use Rattle.tb_core.proofs.HouseLemmas.{KeepsRoom-same, fits_more, house_kept}
 use Rattle.tb_core.proofs.host.reserve.Goals as goal

@@ -14,17 +14,19 @@ use Rattle.tb_core.proofs.reading.awards_reading.Goals as goal
 pub awards-requires : goal.awards-requires
 awards-requires c = record {
   bidding = (
-    bidding_in c.requires.0 c.args.terms.now.announcement,
-    IsAuctionOf-book c.requires.0 c.args.tables.now c.args.terms.now c.args.book.now.lines c.deref.result.now
-        c.requires.1
+    bidding_in c.requires.auction.0 c.args.terms.now.announcement,
+    IsAuctionOf-book c.requires.auction.0 c.args.tables.now c.args.terms.now c.args.book.now.lines c.deref.result.now
+        c.requires.auction.1
         (c.deref.ensures.value ∙ c.in_ok-positions.ensures),
-    c.rows.ensures ∙ c.requires.1.tied.bidders_are,
+    c.rows.ensures ∙ c.requires.auction.1.tied.bidders_are,
   );
+  opened = c.requires.opened;
   few = subst (λ (es : List Enrolment). length es < 2 ^ 32) (sym c.rows.ensures)
-      (few-bidders c.requires.0 c.args.tables.now c.requires.1.tied);
+      (few-bidders c.requires.auction.0 c.args.tables.now c.requires.auction.1.tied);
   range = subst (λ (add_on : Option AddOn). IfSome add_on (λ x. x.amount.value ≤ most_par))
       (sym c.find_add_on-add_on.ensures)
-      (add_on-limited c.requires.0 c.args.tables.now c.args.terms.now.announcement.auction c.requires.1.tied);
+      (add_on-limited c.requires.auction.0 c.args.tables.now c.args.terms.now.announcement.auction
+      c.requires.auction.1.tied);
 }
 
 pub returns : goal.returns

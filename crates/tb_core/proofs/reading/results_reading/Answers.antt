@@ -8,10 +8,11 @@ use Rattle.tb_history.specs.Readings.{AreResults}
 use Rattle.tb_core.proofs.BiddenLemmas.{IsAuctionOf-book}
 use Rattle.tb_core.proofs.reading.results_reading.Goals as goal
 
-pub results-requires : goal.results-requires
-results-requires c = (
-  bidding_in c.requires.0 c.args.terms.now.announcement,
-  IsAuctionOf-book c.requires.0 c.args.tables.now c.args.terms.now c.args.book.now.lines c.deref.result.now c.requires.1
+pub results-requires-clause-bidding : goal.results-requires-clause-bidding
+results-requires-clause-bidding c = (
+  bidding_in c.requires.auction.0 c.args.terms.now.announcement,
+  IsAuctionOf-book c.requires.auction.0 c.args.tables.now c.args.terms.now c.args.book.now.lines c.deref.result.now
+      c.requires.auction.1
       (c.deref.ensures.value ∙ c.in_ok-positions.ensures),
 )
 

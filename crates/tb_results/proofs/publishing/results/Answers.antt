@@ -8,8 +8,8 @@ pub figures_of-requires : goal.figures_of-requires
 figures_of-requires c =
     omega (
       arith,
-      recognised-limited c.requires.0 c.args.book.now.lines c.cut_book-outcome.new.into.lines
-          c.cut_book-outcome.result 0 (c.cut_book-outcome.ensures.cut c.requires.0 c.requires.1),
+      recognised-limited c.requires.bidding.0 c.args.book.now.lines c.cut_book-outcome.new.into.lines
+          c.cut_book-outcome.result 0 (c.cut_book-outcome.ensures.cut c.requires.bidding.0 c.requires.bidding.1),
     )
 
 pub returns : goal.returns

@@ -1,5 +1,7 @@
 -- A book of sound lines is of some bidding.
-use Rattle.std.proofs.Common.{◌≡◌, ℕ, true, sym, subst, List, ◌%◌, ◌≤◌}
+use Rattle.std.proofs.Common.{◌≡◌, ℕ, true, ap, length, sym, subst, List, ◌%◌, ◌≤◌, arith}
+use Rattle.tb_units.specs.declared.lines.RateLine.{RateLine}
+use Rattle.tb_book.proofs.CallerLemmas.{open_lines-open}
 use Rattle.std.specs.Prelude.{All, pos, replicate}
 use Rattle.tb_terms.specs.declared.terms.Terms.{Terms}
 use Rattle.tb_book.specs.declared.book_line.BookLine.{BookLine}
@@ -31,3 +33,12 @@ award_all-requires-clause-bidding c =
     sample c.args.terms.now c.args.book.now.lines c.requires.days c.requires.offering
     c.requires.floor c.requires.sound in
     (bidding, c.cut_book-outcome.ensures.cut bidding is, sym (length-numbered 0 5))
+
+pub cut_book-outcome-requires-clause-line_room : goal.cut_book-outcome-requires-clause-line_room
+cut_book-outcome-requires-clause-line_room c =
+    omega (
+      arith,
+      c.lines.ensures.count,
+      ap (λ (lines : List RateLine). length lines) (open_lines-open c.args.book.now c.requires.opened),
+      c.in_ok-reserve.ensures.line_room,
+    )

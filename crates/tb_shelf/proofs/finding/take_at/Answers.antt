@@ -21,5 +21,5 @@ returns c =
           subst (λ (named : NamedBook). IsLowered c.args.rate c.args.bidder c.args.number named.book left)
           (get_or_default c.args.books.now c.args.place c.index-books-place.result d c.requires)
           (IsLowered-taken c.take_out_at.result c.args.rate c.args.bidder c.args.number old.book left
-          says.none says.taken says.elements says.unchanged says.room);
+          says.none says.own says.elements says.unchanged says.room says.opened);
     }

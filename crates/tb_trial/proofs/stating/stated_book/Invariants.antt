@@ -1,5 +1,5 @@
--- The book and the lines that are left have the bids up to this one.
-use Rattle.std.proofs.Common.{◌≡◌, ◌++◌}
+-- The book has the bids up to this one.
+use Rattle.std.proofs.Common.{◌≡◌}
 use Rattle.std.specs.Prelude.{IsPermutation}
 use Rattle.tb_trial.specs.Trials.{drawn_for}
 use Rattle.tb_trial.proofs.StatedLemmas.{lines_to}
@@ -8,5 +8,5 @@ use Rattle.tb_trial.proofs.stating.stated_book.Given as goal
 abbrev pub invariant-loop-stated : goal.invariant-loop-stated
 invariant-loop-stated l = record {
   drawn : l.drawn ≡ drawn_for l.fn.seed l.stated;
-  stated : IsPermutation (lines_to l.fn.seed l.stated) (l.lines.items ++ l.book.lines);
+  booked : IsPermutation (lines_to l.fn.seed l.stated) l.book.lines;
 }

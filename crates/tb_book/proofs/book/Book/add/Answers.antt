@@ -1,17 +1,12 @@
 -- The line and its part of the sums go in, for which there is room.
 use Rattle.std.proofs.Common.{◌+◌, ap, subst, is_some, is_none, arith}
 use Rattle.tb_units.proofs.SumLemmas.{cond-le}
-use Rattle.tb_book.specs.Indexes.{IsRaised, rank_of}
-use Rattle.tb_book.proofs.KeyLemmas.{earlier-lines}
-use Rattle.tb_book.proofs.IndexLemmas.{HasBid-line_key, competitive-le, noncompetitive-le, noncompetitive_in-le, IsIndexed-added, HasOneMore-inserted, IsPermutation-inserted}
+use Rattle.tb_book.specs.Indexes.{IsRaised}
+use Rattle.tb_book.proofs.IndexLemmas.{competitive-le, noncompetitive-le, noncompetitive_in-le, IsIndexed-added}
 use Rattle.tb_book.proofs.book.Book.add.Goals as goal
 
 pub insert-requires-clause-new : goal.insert-requires-clause-new
-insert-requires-clause-new c =
-    let line = c.args.line in
-    let new = rw (← c.self.view_is) at c.requires.new in
-    λ has. new (HasBid-line_key (rank_of line.rate) line.bidder line.number c.self.inside.lines.elements
-    (has.0, has.1.within, has.1.same))
+insert-requires-clause-new c = rw (← c.self.view_is) at c.requires.new
 
 pub raise-requires-clause-competitive : goal.raise-requires-clause-competitive
 raise-requires-clause-competitive c =
@@ -22,7 +17,7 @@ raise-requires-clause-competitive c =
       c.competitive.ensures,
       cond-le (is_some line.rate) line.amount.value,
       c.self.invariant.0.competitive_are line.bidder,
-      competitive-le line.bidder c.self.inside.lines.elements,
+      competitive-le line.bidder c.self.inside.lines.lines,
       fits,
     )
 
@@ -35,7 +30,7 @@ raise-requires-clause-noncompetitive c =
       c.noncompetitive.ensures,
       cond-le (is_none line.rate) line.amount.value,
       c.self.invariant.0.noncompetitive_are line.bidder,
-      noncompetitive-le line.bidder c.self.inside.lines.elements,
+      noncompetitive-le line.bidder c.self.inside.lines.lines,
       fits,
     )
 
@@ -48,7 +43,7 @@ overflow_add-self c =
       c.noncompetitive-2.ensures,
       cond-le (is_none line.rate) line.amount.value,
       c.self.invariant.0.noncompetitive_is,
-      noncompetitive_in-le c.self.inside.lines.elements,
+      noncompetitive_in-le c.self.inside.lines.lines,
       fits,
     )
 
@@ -58,13 +53,14 @@ invariant_of-self c =
     let bidders = c.self.inside.bidders.elements in
     let raised = c.raise.new.bidders.elements in
     let noncompetitive = c.self.inside.noncompetitive in
-    let more = c.insert.new.self.elements in (
-      IsIndexed-added line c.self.inside.lines.elements more bidders raised noncompetitive
+    let more = c.insert.new.self.lines in (
+      IsIndexed-added c.self.inside.lines.opened c.insert.new.self.opened line c.self.inside.lines.lines more bidders
+          raised noncompetitive
           (noncompetitive + c.noncompetitive-2.result) c.self.invariant.0
           (record {
-            line_in = c.insert.ensures.inserted;
-            order = earlier-lines more c.insert.ensures.ordered;
-            new = rw (← c.self.view_is) at c.requires.new;
+            elements = c.insert.ensures.elements;
+            order = c.insert.ensures.order;
+            apart_lines = c.insert.ensures.apart;
             fits = rw (← c.self.view_is) at c.requires.fits;
             apart = c.raise.ensures.apart;
             competitive = subst (λ amount. IsRaised (λ entry. entry.competitive) line.bidder amount bidders raised)
@@ -81,18 +77,10 @@ invariant_of-self c =
     )
 
 pub returns-clause-lines : goal.returns-clause-lines
-returns-clause-lines c =
-    let lines = c.self.inside.lines.elements in
-    rw (← c.self.view_is) (record {
-      among = HasOneMore-inserted c.args.line lines c.insert.new.self.elements c.insert.ensures.inserted;
-      order = earlier-lines c.insert.new.self.elements c.insert.ensures.ordered;
-    })
+returns-clause-lines c = rw (← c.self.view_is) c.insert.ensures.inserted
 
 pub returns-clause-elements : goal.returns-clause-elements
-returns-clause-elements c =
-    let lines = c.self.inside.lines.elements in
-    rw (← c.self.view_is)
-    (IsPermutation-inserted c.args.line lines c.insert.new.self.elements c.insert.ensures.inserted)
+returns-clause-elements c = rw (← c.self.view_is) c.insert.ensures.elements
 
 pub returns-clause-kept : goal.returns-clause-kept
 returns-clause-kept c = (invariant_of-self c).0.kept

@@ -10,7 +10,7 @@ invariant_of-result c =
       in_range = omega (
         arith,
         indexed.noncompetitive_is,
-        noncompetitive_in-le c.self.inside.lines.elements,
+        noncompetitive_in-le c.self.inside.lines.lines,
         indexed.kept.limited,
       );
     }
@@ -18,4 +18,4 @@ invariant_of-result c =
 pub returns-clause-limited : goal.returns-clause-limited
 returns-clause-limited c =
     let indexed = c.self.invariant.0 in
-    omega (arith, indexed.noncompetitive_is, noncompetitive_in-le c.self.inside.lines.elements, indexed.kept.limited)
+    omega (arith, indexed.noncompetitive_is, noncompetitive_in-le c.self.inside.lines.lines, indexed.kept.limited)

@@ -2,52 +2,42 @@
 use Rattle.std.proofs.Common.{◌-◌, is_some, refl, sym, subst, ap, arith}
 use Rattle.tb_book.specs.Books.{competitive_of, noncompetitive_of}
 use Rattle.tb_book.specs.Indexes.{IsRaised}
-use Rattle.tb_book.proofs.IndexLemmas.{HasBidAt-line_key, line_key-HasBidAt, IsOf-key, competitive-part-le, noncompetitive-part-le, noncompetitive_in-part-le, IsIndexed-gone, IsTakenOut-removed, IsPermutation-removed}
+use Rattle.tb_book.proofs.IndexLemmas.{competitive-part-le, noncompetitive-part-le, noncompetitive_in-part-le, IsIndexed-gone}
 use Rattle.tb_book.proofs.book.Book.take_out_at.Goals as goal
 
 pub returns-in_err-line-clause-none : goal.returns-in_err-line-clause-none
-returns-in_err-line-clause-none c =
-    let none = c.in_err-line.ensures.none.0 refl in (
-      λ _ has.
-          let key = line_key-HasBidAt c.args.rate c.args.bidder c.args.number c.self.inside.lines.elements
-          (rw (← c.self.view_is) at has) in
-          none (key.0, record { within = key.1; same = rw c.rank.ensures key.2 }),
-      λ _. ap is_some c.from_residual.ensures,
-    )
+returns-in_err-line-clause-none c = (
+  λ _. rw (← c.self.view_is) (c.in_err-line.ensures.none.0 refl),
+  λ _. ap is_some c.from_residual.ensures,
+)
 
 pub returns-clause-none : goal.returns-clause-none
-returns-clause-none c = (
-  λ wrong. absurd cc,
-  λ lacks. c.in_ok-line.ensures.none.1
-      (λ has. (rw (← c.self.view_is) at lacks)
-      (HasBidAt-line_key c.args.rate c.args.bidder c.args.number c.self.inside.lines.elements
-      (has.0, has.1.within, rw c.rank.ensures at has.1.same))),
-)
+returns-clause-none c = (λ wrong. absurd cc, λ lacks. c.in_ok-line.ensures.none.1 (rw (← c.self.view_is) at lacks))
 
 pub lower-requires-clause-competitive : goal.lower-requires-clause-competitive
 lower-requires-clause-competitive c =
-    let lines = c.self.inside.lines.elements in
-    let rest = c.remove.new.self.elements in
+    let lines = c.self.inside.lines.lines in
+    let rest = c.remove.new.self.lines in
     let line = c.in_ok-line.line in
-    let is = IsOf-key c.args.rate c.args.bidder c.args.number line (rw c.rank.ensures at c.in_ok-line.ensures.key) in
+    let is = c.in_ok-line.ensures.own in
     omega (
       arith,
       c.competitive.ensures,
-      competitive-part-le line lines rest c.in_ok-line.ensures.removed,
+      competitive-part-le line lines rest c.in_ok-line.ensures.elements,
       ap (λ bidder. competitive_of bidder lines) is.1,
       c.self.invariant.0.competitive_are c.args.bidder,
     )
 
 pub lower-requires-clause-noncompetitive : goal.lower-requires-clause-noncompetitive
 lower-requires-clause-noncompetitive c =
-    let lines = c.self.inside.lines.elements in
-    let rest = c.remove.new.self.elements in
+    let lines = c.self.inside.lines.lines in
+    let rest = c.remove.new.self.lines in
     let line = c.in_ok-line.line in
-    let is = IsOf-key c.args.rate c.args.bidder c.args.number line (rw c.rank.ensures at c.in_ok-line.ensures.key) in
+    let is = c.in_ok-line.ensures.own in
     omega (
       arith,
       c.noncompetitive.ensures,
-      noncompetitive-part-le line lines rest c.in_ok-line.ensures.removed,
+      noncompetitive-part-le line lines rest c.in_ok-line.ensures.elements,
       ap (λ bidder. noncompetitive_of bidder lines) is.1,
       c.self.invariant.0.noncompetitive_are c.args.bidder,
     )
@@ -57,25 +47,28 @@ overflow_sub-self c =
     omega (
       arith,
       c.noncompetitive-2.ensures,
-      noncompetitive_in-part-le c.in_ok-line.line c.self.inside.lines.elements c.remove.new.self.elements
-          c.in_ok-line.ensures.removed,
+      noncompetitive_in-part-le c.in_ok-line.line c.self.inside.lines.lines c.remove.new.self.lines
+          c.in_ok-line.ensures.elements,
       c.self.invariant.0.noncompetitive_is,
     )
 
 pub invariant_of-self-2 : goal.invariant_of-self-2
 invariant_of-self-2 c =
-    let lines = c.self.inside.lines.elements in
-    let rest = c.remove.new.self.elements in
+    let lines = c.self.inside.lines.lines in
+    let rest = c.remove.new.self.lines in
     let line = c.in_ok-line.line in
-    let is = IsOf-key c.args.rate c.args.bidder c.args.number line (rw c.rank.ensures at c.in_ok-line.ensures.key) in
+    let is = c.in_ok-line.ensures.own in
     let bidders = c.self.inside.bidders.elements in
     let lowered = c.lower.new.bidders.elements in
     let noncompetitive = c.self.inside.noncompetitive in
-    let within = noncompetitive_in-part-le line lines rest c.in_ok-line.ensures.removed in (
-      IsIndexed-gone line lines rest bidders lowered noncompetitive (noncompetitive - c.noncompetitive-2.result)
+    let within = noncompetitive_in-part-le line lines rest c.in_ok-line.ensures.elements in (
+      IsIndexed-gone c.self.inside.lines.opened c.remove.new.self.opened line lines rest bidders lowered noncompetitive
+          (noncompetitive - c.noncompetitive-2.result)
           c.self.invariant.0
           (record {
-            line_out = c.in_ok-line.ensures.removed;
+            elements = c.in_ok-line.ensures.elements;
+            order = c.remove.ensures.order;
+            apart_lines = c.remove.ensures.apart;
             apart = c.lower.ensures.apart;
             competitive = subst (λ amount. IsRaised (λ entry. entry.competitive) line.bidder amount lowered bidders)
                 c.competitive.ensures
@@ -95,21 +88,10 @@ invariant_of-self-2 c =
     )
 
 pub returns-clause-taken : goal.returns-clause-taken
-returns-clause-taken c =
-    let line = c.in_ok-line.line in
-    let is = IsOf-key c.args.rate c.args.bidder c.args.number line (rw c.rank.ensures at c.in_ok-line.ensures.key) in
-    rw (← c.self.view_is) (
-      is.0,
-      is.1,
-      is.2,
-      IsTakenOut-removed line c.self.inside.lines.elements c.remove.new.self.elements c.in_ok-line.ensures.removed,
-    )
+returns-clause-taken c = rw (← c.self.view_is) c.in_ok-line.ensures.taken
 
 pub returns-clause-elements : goal.returns-clause-elements
-returns-clause-elements c =
-    rw (← c.self.view_is)
-    (IsPermutation-removed c.in_ok-line.line c.self.inside.lines.elements c.remove.new.self.elements
-    c.in_ok-line.ensures.removed)
+returns-clause-elements c = rw (← c.self.view_is) c.in_ok-line.ensures.elements
 
 pub returns-clause-kept : goal.returns-clause-kept
 returns-clause-kept c = (invariant_of-self-2 c).0.kept

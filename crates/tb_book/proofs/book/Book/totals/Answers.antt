@@ -11,7 +11,7 @@ invariant_of-result c =
         arith,
         c.totals_of-competitive.ensures.competitive,
         indexed.competitive_are c.args.bidder,
-        competitive-le c.args.bidder c.self.inside.lines.elements,
+        competitive-le c.args.bidder c.self.inside.lines.lines,
         indexed.kept.limited,
       );
     }
@@ -24,7 +24,7 @@ invariant_of-result-2 c =
         arith,
         c.totals_of-competitive.ensures.noncompetitive,
         indexed.noncompetitive_are c.args.bidder,
-        noncompetitive-le c.args.bidder c.self.inside.lines.elements,
+        noncompetitive-le c.args.bidder c.self.inside.lines.lines,
         indexed.kept.limited,
       );
     }
@@ -38,6 +38,6 @@ returns-clause-limited c =
       c.totals_of-competitive.ensures.noncompetitive,
       indexed.competitive_are c.args.bidder,
       indexed.noncompetitive_are c.args.bidder,
-      both_kinds-le c.args.bidder c.self.inside.lines.elements,
+      both_kinds-le c.args.bidder c.self.inside.lines.lines,
       indexed.kept.limited,
     )

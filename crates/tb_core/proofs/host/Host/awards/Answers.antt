@@ -5,14 +5,14 @@ use Rattle.tb_core.specs.Bidden.{IsAuctionOf}
 use Rattle.tb_core.specs.House.{House, AreTied}
 use Rattle.tb_core.proofs.host.Host.awards.Goals as goal
 
-pub awards_reading-requires : goal.awards_reading-requires
-awards_reading-requires c = (
+pub awards_reading-requires-clause-auction : goal.awards_reading-requires-clause-auction
+awards_reading-requires-clause-auction c = (
   c.args.self.now.history,
   record {
     tied = subst (λ (h : House). AreTied h.history c.self.inside.tables) c.self.view_is c.self.invariant.tied;
     name = c.args.auction.now;
     announced = c.announced-terms.ensures;
-    booked = c.book.ensures c.announced-terms.result.announcement c.announced-terms.ensures;
+    booked = c.book.ensures.booked c.announced-terms.result.announcement c.announced-terms.ensures;
   },
 )
 
@@ -24,7 +24,7 @@ returns c =
       tied = subst (λ (h : House). AreTied h.history c.self.inside.tables) c.self.view_is c.self.invariant.tied;
       name = c.args.auction.now;
       announced = c.announced-terms.ensures;
-      booked = c.book.ensures a c.announced-terms.ensures;
+      booked = c.book.ensures.booked a c.announced-terms.ensures;
     } in
     IfOk-weaker c.awards_reading.result _ _
     (λ lines are. (a, c.announced-terms.ensures, are c.args.self.now.history is)) c.awards_reading.ensures

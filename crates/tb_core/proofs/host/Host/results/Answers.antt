@@ -5,14 +5,14 @@ use Rattle.tb_core.specs.Bidden.{IsAuctionOf}
 use Rattle.tb_core.specs.House.{House, AreTied}
 use Rattle.tb_core.proofs.host.Host.results.Goals as goal
 
-pub results_reading-requires : goal.results_reading-requires
-results_reading-requires c = (
+pub results_reading-requires-clause-auction : goal.results_reading-requires-clause-auction
+results_reading-requires-clause-auction c = (
   c.args.self.now.history,
   record {
     tied = subst (λ (h : House). AreTied h.history c.self.inside.tables) c.self.view_is c.self.invariant.tied;
     name = c.args.auction.now;
     announced = c.announced-terms.ensures;
-    booked = c.book.ensures c.announced-terms.result.announcement c.announced-terms.ensures;
+    booked = c.book.ensures.booked c.announced-terms.result.announcement c.announced-terms.ensures;
   },
 )
 
@@ -24,7 +24,7 @@ returns c =
       tied = subst (λ (h : House). AreTied h.history c.self.inside.tables) c.self.view_is c.self.invariant.tied;
       name = c.args.auction.now;
       announced = c.announced-terms.ensures;
-      booked = c.book.ensures a c.announced-terms.ensures;
+      booked = c.book.ensures.booked a c.announced-terms.ensures;
     } in
     IfOk-weaker c.results_reading.result _ _
     (λ results are. (a, c.announced-terms.ensures, are c.args.self.now.history is)) c.results_reading.ensures

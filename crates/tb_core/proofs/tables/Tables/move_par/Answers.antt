@@ -4,10 +4,16 @@ use Rattle.tb_message.specs.declared.message.Message.{Message}
 use Rattle.tb_movements.specs.Movements.{Movement}
 use Rattle.tb_ledger.specs.Accounting.{TellsNext}
 use Rattle.tb_history.specs.Trades.{is_purchase}
+use Rattle.tb_shelving.specs.Shelving.{TakesMessage}
 use Rattle.tb_core.specs.Crediting.{movement_in}
 use Rattle.tb_tables.specs.Kinds.{settles}
 use Rattle.tb_core.proofs.EnterLemmas.{moves-plain}
 use Rattle.tb_core.proofs.tables.Tables.move_par.Goals as goal
+
+pub settle-requires-clause-opened : goal.settle-requires-clause-opened
+settle-requires-clause-opened c =
+    subst (λ (m : Message). TakesMessage c.args.self.now.bidders.list c.args.sender.now c.args.number m
+    c.args.self.now.shelf) c.in-Settle.is c.requires.takes
 
 pub returns-in-Settle-clause-told : goal.returns-in-Settle-clause-told
 returns-in-Settle-clause-told c =

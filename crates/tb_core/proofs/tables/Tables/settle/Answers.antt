@@ -1,7 +1,9 @@
 -- The terms are those of the auction.
-use Rattle.std.proofs.Common.{◌≡◌, Some, Option, List, sym, subst}
+use Rattle.std.proofs.Common.{◌≡◌, ℕ, true, Some, Option, List, sym, subst}
 use Rattle.tb_terms.specs.declared.announcement.Announcement.{Announcement}
+use Rattle.tb_shelf.specs.Shelves.{book_in, is_open}
 use Rattle.tb_history.specs.Roster.{announcement_of}
+use Rattle.tb_history.proofs.StableLemmas.{announced-name}
 use Rattle.tb_ledger.specs.Accounting.{TellsNext}
 use Rattle.tb_core.specs.Crediting.{settled_in}
 use Rattle.tb_core.proofs.SettleLemmas.{found-named}
@@ -16,6 +18,11 @@ settle_by-requires-clause-tied c = (
       c.requires.tied.1.auctions_are
       (found-named _ c.args.auction.now c.in-Some.terms.announcement (sym c.in-Some.ensures)),
 )
+
+pub settle_by-requires-clause-opened : goal.settle_by-requires-clause-opened
+settle_by-requires-clause-opened c =
+    subst (λ (name : List ℕ). is_open (book_in c.args.self.now.shelf.books name) ≡ true)
+    (sym (announced-name _ c.args.auction.now c.in-Some.terms.announcement (sym c.in-Some.ensures))) c.requires.opened
 
 pub returns-in-Some-clause-told : goal.returns-in-Some-clause-told
 returns-in-Some-clause-told c =

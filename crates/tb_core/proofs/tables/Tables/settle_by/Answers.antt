@@ -1,6 +1,8 @@
 -- The auction is cut by its book, and each bidder is credited its award.
-use Rattle.std.proofs.Common.{◌≡◌, Some, Option, List, refl, sym, ap, subst, length, arith}
+use Rattle.std.proofs.Common.{◌≡◌, true, Some, Option, List, refl, sym, ap, subst, length, arith}
 use Rattle.tb_movements.specs.Movements.{Movement, Settled}
+use Rattle.tb_book.specs.Books.{Bids}
+use Rattle.tb_shelf.specs.Shelves.{is_open}
 use Rattle.tb_history.specs.declared.roster.Enrolment.{Enrolment}
 use Rattle.tb_ledger.specs.Accounting.{TellsNext}
 use Rattle.tb_core.specs.Crediting.{bidding_on, settled_in}
@@ -15,6 +17,10 @@ cut_auction-outcome-requires-clause-bidding c = (
   book-on c.requires.tied.0 c.args.self.now c.args.terms.now c.in-Some.book.now c.requires.tied.1 c.requires.tied.2
       c.in-Some.ensures.some,
 )
+
+pub cut_auction-outcome-requires-clause-opened : goal.cut_auction-outcome-requires-clause-opened
+cut_auction-outcome-requires-clause-opened c =
+    subst (λ (found : Option Bids). is_open found ≡ true) c.in-Some.ensures.some c.requires.opened
 
 pub cut_auction-outcome-requires-clause-lines : goal.cut_auction-outcome-requires-clause-lines
 cut_auction-outcome-requires-clause-lines c =

@@ -1,7 +1,7 @@
 -- the lines so far are among those that were given, and there is room for the others
 use Rattle.std.proofs.Common.{◌+◌, ◌≤◌, length, take}
 use Rattle.tb_book.specs.Books.{par_in}
-use Rattle.tb_book_tests.proofs.tests.book_of.Given as goal
+use Rattle.tb_book_tests.proofs.tests.with_lines.Given as goal
 
 abbrev pub invariant-loop-line : goal.invariant-loop-line
 invariant-loop-line l = record {
