@@ -1,10 +1,11 @@
 -- What callers need: what a change of the lines means for sums over them, for what holds of each and for the bids that
 -- are there, and what the competitive lines are as lines of rates.
 use Rattle.std.proofs.Common.{◌≡◌, ℕ, ◌+◌, ◌≤◌, ◌==◌, ◌&&◌, Bool, true, false, cond, List, [], ◌∷◌, Option, Some, None, All, sum_by, refl, ap, ap₂, sym, ◌∙◌, subst, arith}
-use Rattle.std.specs.Prelude.{IfSome}
+use Rattle.std.specs.Prelude.{IfNone, IfSome, IsPermutation}
 use Rattle.std.proofs.lemmas.Bool.{cond-true}
 use Rattle.std.proofs.lemmas.List.{get_or_default}
 use Rattle.std.proofs.lemmas.List.Elements.{All-nil, All-cons, All-head, All-tail, All-append}
+use Rattle.std.proofs.lemmas.List.Sorted.{sum_by-IsPermutation}
 use Rattle.std.proofs.lemmas.List.Sums.{sum_by-cons, sum_by-append, sum_by-le-sum_by}
 use Rattle.tb_units.proofs.ListLemmas.{All-one, All-one_less, All-one_more}
 use Rattle.tb_units.proofs.SumLemmas.{sum_by-one_more}
@@ -25,6 +26,20 @@ pub sum_by-taken_out : (f : BookLine → ℕ) (line : BookLine) (old new : List 
     → IsTakenOut line old new
     → sum_by f new + f line ≡ sum_by f old
 sum_by-taken_out f line old new taken = sym (sum_by-one_more f line new old taken)
+
+-- what is left where a line is taken out, or none, has no more par
+pub par-left : (found : Option BookLine) (old new : Bids)
+    → IfSome found (λ line. IsPermutation old.lines (line ∷ new.lines))
+    → IfNone found (new ≡ old)
+    → par_in new.lines ≤ par_in old.lines
+par-left None old new some none = subst (λ (book : Bids). par_in book.lines ≤ par_in old.lines) (sym none) (omega arith)
+par-left (Some line) old new some none =
+    let amount : BookLine → ℕ = λ one. one.amount.value in
+    omega (
+      arith,
+      sum_by-IsPermutation amount old.lines (line ∷ new.lines) some,
+      sum_by-cons amount line new.lines,
+    )
 
 -- what holds of the line and of each old one holds of each new one
 pub All-inserted : (P : BookLine → Type 0) (line : BookLine) (old new : List BookLine)

@@ -5,3 +5,4 @@ pub mod BidderLemmas
 pub mod IndexLemmas
 pub mod ApartLemmas
 pub mod ListedLemmas
+pub mod StoredLemmas

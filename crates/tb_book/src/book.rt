@@ -5,6 +5,7 @@ ghost use Rattle.tb_book.specs.Books.{HasBid, HasBidAt, IsInserted, IsTakenOut, 
 use crate::bidder::{Bidder, lower, raise, totals_of};
 use crate::book_line::BookLine;
 use crate::line_list::LineList;
+use crate::stored_line::StoredLine;
 use std::alloc::Global;
 use std::marker::Model;
 use std::sync::ledger::Ledger;
@@ -113,7 +114,7 @@ impl Book {
         ensures room { self.old.spare ≤ self.new.spare + 1 }
         ensures opened { self.new.opened ≡ self.old.opened }
     {
-        self.lines.insert(line);
+        self.lines.insert(StoredLine::of(line));
         raise(
             &mut self.bidders,
             line.bidder,
@@ -136,8 +137,8 @@ impl Book {
         ensures room { self.old.spare ≤ self.new.spare }
         ensures opened { self.new.opened ≡ self.old.opened }
     {
-        let line = self.lines.find(bidder, number)?;
-        self.take_out_at(line.rate, bidder, number)
+        let stored = self.lines.find(bidder, number)?;
+        self.take_out_at(stored.line().rate, bidder, number)
     }
 
     /// Takes out the bidder's line of this rate, or of none, and of this number. `None` where there is no such line.
@@ -151,7 +152,8 @@ impl Book {
         ensures room { self.old.spare ≤ self.new.spare }
         ensures opened { self.new.opened ≡ self.old.opened }
     {
-        let line = self.lines.remove(rate, bidder, number)?;
+        let stored = self.lines.remove(rate, bidder, number)?;
+        let line = stored.line();
         lower(
             &mut self.bidders,
             bidder,
@@ -208,7 +210,8 @@ impl Lines for Book {
         ensures steps { steps.new ≡ steps.old + 1 }
     {
         steps.tick();
-        let line = self.lines.at(place as usize);
+        let stored = self.lines.at(place as usize);
+        let line = stored.line();
         RateLine {
             rate: line.rate.unwrap(),
             bidder: line.bidder,

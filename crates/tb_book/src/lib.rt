@@ -6,6 +6,7 @@ mod bidder;
 mod book;
 mod book_line;
 mod line_list;
+mod stored_line;
 mod waiting;
 
 pub use book::Book;

@@ -4,7 +4,7 @@ ghost use Rattle.std.specs.Prelude.{IfSome, IsNone, IsPermutation, OnOk};
 ghost use Rattle.std.specs.List.{AllPairs};
 ghost use Rattle.tb_book.specs.Books.{AreApart, AreRanked, HasBid, HasBidAt, IsInserted, IsTakenOut, open_lines};
 
-use crate::book_line::{BookLine, NO_RATE, find_line, rank};
+use crate::stored_line::{NO_RATE, StoredLine, rank};
 use crate::waiting::{find_waiting, has_waiting, settle, wait};
 use std::alloc::Global;
 use std::marker::Model;
@@ -16,15 +16,15 @@ const LONG: usize = 65_536;
 
 /// So many lines wait before they are put in order, each beside the one before it then, in memory that was just looked
 /// at. More of them would be put in order faster, and would need more room.
-const MOST_WAITING: usize = 16_384;
+const MOST_WAITING: usize = 32_768;
 
 /// The lines of a book. Once it is open they stand in order of rate, bidder and number.
 #[derive(Drop)]
 pub struct LineList {
     alloc: Global,
-    sorted: Ordered<BookLine>,
+    sorted: Ordered<StoredLine>,
     // Added since the others were put in order: none of an open book.
-    waiting: Vec<BookLine>,
+    waiting: Vec<StoredLine>,
     opened: bool,
 }
 
@@ -92,7 +92,7 @@ impl LineList {
     }
 
     /// Adds a line, which can't fail.
-    pub fn insert(&mut self, line: BookLine)
+    pub fn insert(&mut self, line: StoredLine)
         requires room { 0 < self.old.spare }
         requires new { ¬ (HasBid line.bidder line.number self.old.lines) }
         ensures elements { IsPermutation (line ∷ self.old.lines) self.new.lines }
@@ -110,7 +110,7 @@ impl LineList {
     }
 
     /// Takes out the bidder's line of this rate, or of none, and of this number. `None` where there is no such line.
-    pub fn remove(&mut self, rate: Option<Rate>, bidder: u32, number: u64) -> Option<BookLine>
+    pub fn remove(&mut self, rate: Option<Rate>, bidder: u32, number: u64) -> Option<StoredLine>
         ensures none { IsNone result ↔ (¬ (HasBidAt rate bidder number self.old.lines)) }
         ensures own { IfSome result (λ line. (line.rate ≡ rate) × (line.bidder ≡ bidder) × (line.number ≡ number)) }
         ensures elements { IfSome result (λ line. IsPermutation self.old.lines (line ∷ self.new.lines)) }
@@ -146,7 +146,7 @@ impl LineList {
     }
 
     /// The bidder's line of this number. It goes over the lines.
-    pub fn find(&self, bidder: u32, number: u64) -> Option<BookLine>
+    pub fn find(&self, bidder: u32, number: u64) -> Option<StoredLine>
         ensures found { IfSome result (λ line. HasBidAt line.rate bidder number self.now.lines) }
         ensures none { IfNone result (¬ (HasBid bidder number self.now.lines)) }
     {
@@ -167,11 +167,25 @@ impl LineList {
     }
 
     /// The line at the place, of a book that is open.
-    pub fn at(&self, place: usize) -> BookLine
+    pub fn at(&self, place: usize) -> StoredLine
         requires opened { self.now.opened ≡ true }
         requires within { place < length self.now.lines }
         ensures { result ≡ slice_index_or self.now.lines place result }
     {
         *self.sorted.at(place)
     }
+}
+
+// The bidder's line of this number, of lines in order. It goes over the lines.
+fn find_line(lines: &Ordered<StoredLine>, bidder: u32, number: u64) -> Option<StoredLine>
+    ensures found { IfSome result (λ line. HasBidAt line.rate bidder number lines.now.elements) }
+    ensures none { IfNone result (¬ (HasBid bidder number lines.now.elements)) }
+{
+    for place in 0..lines.len() {
+        let line = *lines.at(place);
+        if line.is_of(bidder, number) {
+            return Some(line);
+        }
+    }
+    None
 }

@@ -4,12 +4,12 @@ ghost use Rattle.std.specs.Prelude.{IsPermutation};
 ghost use Rattle.std.specs.List.{AllPairs};
 ghost use Rattle.tb_book.specs.Books.{AreApart, HasBid, HasBidAt, IsEarlier};
 
-use crate::book_line::{BookLine, rank};
+use crate::stored_line::{StoredLine, rank};
 use tb_blocks::{Keyed, Ordered};
 use tb_units::Rate;
 
 /// Puts those that wait among the others, which have the room. The last one goes first.
-pub fn settle(sorted: &mut Ordered<BookLine>, waiting: &mut Vec<BookLine>)
+pub fn settle(sorted: &mut Ordered<StoredLine>, waiting: &mut Vec<StoredLine>)
     requires room { length waiting.old.items ≤ sorted.old.spare }
     requires apart { AllPairs AreApart (sorted.old.elements ++ waiting.old.items) }
     requires order { AllPairs IsEarlier sorted.old.elements }
@@ -25,7 +25,7 @@ pub fn settle(sorted: &mut Ordered<BookLine>, waiting: &mut Vec<BookLine>)
 }
 
 /// Lets a line wait. Where there is no place to wait all are put in order.
-pub fn wait(sorted: &mut Ordered<BookLine>, waiting: &mut Vec<BookLine>, line: BookLine)
+pub fn wait(sorted: &mut Ordered<StoredLine>, waiting: &mut Vec<StoredLine>, line: StoredLine)
     requires room { length waiting.old.items < sorted.old.spare }
     requires apart { AllPairs AreApart (sorted.old.elements ++ waiting.old.items) }
     requires order { AllPairs IsEarlier sorted.old.elements }
@@ -44,12 +44,12 @@ pub fn wait(sorted: &mut Ordered<BookLine>, waiting: &mut Vec<BookLine>, line: B
 }
 
 /// The bidder's line of this number.
-pub fn find_waiting(waiting: &[BookLine], bidder: u32, number: u64) -> Option<BookLine>
+pub fn find_waiting(waiting: &[StoredLine], bidder: u32, number: u64) -> Option<StoredLine>
     ensures found { IfSome result (λ line. HasBidAt line.rate bidder number waiting.now) }
     ensures none { IfNone result (¬ (HasBid bidder number waiting.now)) }
 {
     for line in waiting {
-        if line.bidder == bidder && line.number == number {
+        if line.is_of(bidder, number) {
             return Some(*line);
         }
     }
@@ -57,13 +57,13 @@ pub fn find_waiting(waiting: &[BookLine], bidder: u32, number: u64) -> Option<Bo
 }
 
 /// Whether the bidder's line of this rate, or of none, and of this number is there.
-pub fn has_waiting(waiting: &[BookLine], rate: Option<Rate>, bidder: u32, number: u64) -> bool
+pub fn has_waiting(waiting: &[StoredLine], rate: Option<Rate>, bidder: u32, number: u64) -> bool
     ensures there { result ≡ true → HasBidAt rate bidder number waiting.now }
     ensures none { result ≡ false → ¬ (HasBidAt rate bidder number waiting.now) }
 {
     let wanted = rank(rate);
     for line in waiting {
-        if line.bidder == bidder && line.number == number && rank(line.rate) == wanted {
+        if line.is_of(bidder, number) && line.rank() == wanted {
             return true;
         }
     }

@@ -10,13 +10,13 @@ returns-then-rank-wanted-clause-there c _ =
     let line = c.line-item.result in
     let place = c.loop-line.line-index in
     let within : place < length c.args.waiting.now = omega arith in
+    let own = c.is_of.ensures.0 c.if-is_of.true in
     let rates = rank-equal line.rate c.args.rate
     (sym c.rank.ensures ∙ c.if-rank-wanted.true ∙ c.rank-wanted.ensures) in (
       place,
       within,
       λ d.
-          rw (get_or_default c.args.waiting.now place d line within, ← c.line-item.is)
-          (rates, c.if-line-bidder.true, c.if-line-number.true),
+          rw (get_or_default c.args.waiting.now place d line within, ← c.line-item.is) (rates, own.0, own.1),
     )
 
 pub returns-clause-none : goal.returns-clause-none

@@ -3,7 +3,7 @@ use Rattle.std.proofs.Common.{ℕ, ◌∷◌, arith}
 use Rattle.std.proofs.lemmas.List.Sorted.{sum_by-IsPermutation}
 use Rattle.std.proofs.lemmas.List.Sums.{sum_by-cons}
 use Rattle.tb_book.specs.declared.book_line.BookLine.{BookLine}
-use Rattle.tb_book_tests.proofs.LeftLemmas.{left-par}
+use Rattle.tb_book.proofs.CallerLemmas.{par-left}
 use Rattle.tb_book_tests.proofs.tests.add_new.Goals as goal
 
 pub returns-then-is_none-clause-par : goal.returns-then-is_none-clause-par
@@ -12,7 +12,7 @@ returns-then-is_none-clause-par c =
     let left = c.take_out-there.new.self.lines in
     omega (
       arith,
-      left-par c.take_out-there.result c.args.book.now c.take_out-there.new.self c.take_out-there.ensures.elements
+      par-left c.take_out-there.result c.args.book.now c.take_out-there.new.self c.take_out-there.ensures.elements
           c.take_out-there.ensures.unchanged,
       sum_by-IsPermutation amount (c.args.line ∷ left) c.add.new.self.lines c.add.ensures.elements,
       sum_by-cons amount c.args.line left,
@@ -22,6 +22,6 @@ pub returns-else-is_none-clause-par : goal.returns-else-is_none-clause-par
 returns-else-is_none-clause-par c =
     omega (
       arith,
-      left-par c.take_out-there.result c.args.book.now c.take_out-there.new.self c.take_out-there.ensures.elements
+      par-left c.take_out-there.result c.args.book.now c.take_out-there.new.self c.take_out-there.ensures.elements
           c.take_out-there.ensures.unchanged,
     )

@@ -1,11 +1,12 @@
 -- The lines are those there were, but for one that may be taken out, and the new one.
-use Rattle.std.proofs.Common.{◌≡◌, ℕ, ◌≤◌, true, Option, Some, None, List, ◌∷◌, ap, sym, subst, arith}
+use Rattle.std.proofs.Common.{◌≡◌, ℕ, true, Option, Some, None, List, ◌∷◌, ap, sym, subst, arith}
 use Rattle.std.specs.Prelude.{All, IfNone, IfSome, IsPermutation}
 use Rattle.std.proofs.lemmas.List.Elements.{All-cons, All-tail}
 use Rattle.std.proofs.lemmas.List.Sorted.{All-permutation, sum_by-IsPermutation}
 use Rattle.std.proofs.lemmas.List.Sums.{sum_by-cons}
 use Rattle.tb_book.specs.declared.book_line.BookLine.{BookLine}
 use Rattle.tb_book.specs.Books.{Bids, par_in}
+use Rattle.tb_book.proofs.CallerLemmas.{par-left}
 use Rattle.tb_results.specs.Biddings.{is_sound_line}
 use Rattle.tb_results_tests.proofs.tests.add.Goals as goal
 
@@ -19,27 +20,13 @@ left-all P None old new some none all = subst (λ (book : Bids). All P book.line
 left-all P (Some line) old new some none all =
     All-tail P line new.lines (All-permutation P old.lines (line ∷ new.lines) some all)
 
--- and they have no more par
-left-par : (found : Option BookLine) (old new : Bids)
-    → IfSome found (λ line. IsPermutation old.lines (line ∷ new.lines))
-    → IfNone found (new ≡ old)
-    → par_in new.lines ≤ par_in old.lines
-left-par None old new some none = subst (λ (book : Bids). par_in book.lines ≤ par_in old.lines) (sym none) (omega arith)
-left-par (Some line) old new some none =
-    let amount : BookLine → ℕ = λ one. one.amount.value in
-    omega (
-      arith,
-      sum_by-IsPermutation amount old.lines (line ∷ new.lines) some,
-      sum_by-cons amount line new.lines,
-    )
-
 pub returns-clause-par : goal.returns-clause-par
 returns-clause-par g c =
     let amount : BookLine → ℕ = λ one. one.amount.value in
     let left = c.take_out-there.new.self.lines in
     omega (
       arith,
-      left-par c.take_out-there.result c.reserve.new.self c.take_out-there.new.self c.take_out-there.ensures.elements
+      par-left c.take_out-there.result c.reserve.new.self c.take_out-there.new.self c.take_out-there.ensures.elements
           c.take_out-there.ensures.unchanged,
       ap par_in c.reserve.ensures.lines,
       sum_by-IsPermutation amount (c.args.line ∷ left) c.add.new.self.lines c.add.ensures.elements,

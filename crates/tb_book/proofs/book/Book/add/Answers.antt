@@ -6,7 +6,7 @@ use Rattle.tb_book.proofs.IndexLemmas.{competitive-le, noncompetitive-le, noncom
 use Rattle.tb_book.proofs.book.Book.add.Goals as goal
 
 pub insert-requires-clause-new : goal.insert-requires-clause-new
-insert-requires-clause-new c = rw (← c.self.view_is) at c.requires.new
+insert-requires-clause-new c = rw c.of.ensures (rw (← c.self.view_is) at c.requires.new)
 
 pub raise-requires-clause-competitive : goal.raise-requires-clause-competitive
 raise-requires-clause-competitive c =
@@ -58,7 +58,7 @@ invariant_of-self c =
           raised noncompetitive
           (noncompetitive + c.noncompetitive-2.result) c.self.invariant.0
           (record {
-            elements = c.insert.ensures.elements;
+            elements = rw c.of.ensures at c.insert.ensures.elements;
             order = c.insert.ensures.order;
             apart_lines = c.insert.ensures.apart;
             fits = rw (← c.self.view_is) at c.requires.fits;
@@ -77,10 +77,10 @@ invariant_of-self c =
     )
 
 pub returns-clause-lines : goal.returns-clause-lines
-returns-clause-lines c = rw (← c.self.view_is) c.insert.ensures.inserted
+returns-clause-lines c = rw (← c.self.view_is) (rw c.of.ensures at c.insert.ensures.inserted)
 
 pub returns-clause-elements : goal.returns-clause-elements
-returns-clause-elements c = rw (← c.self.view_is) c.insert.ensures.elements
+returns-clause-elements c = rw (← c.self.view_is) (rw c.of.ensures at c.insert.ensures.elements)
 
 pub returns-clause-kept : goal.returns-clause-kept
 returns-clause-kept c = (invariant_of-self c).0.kept

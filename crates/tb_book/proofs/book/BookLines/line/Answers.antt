@@ -12,8 +12,8 @@ opened-shown : (opened : Bool) (lines : List RateLine) (place : ℕ)
 opened-shown true lines place short = refl
 opened-shown false lines place short = absurd (omega (arith, short))
 
-pub at-line-requires : goal.at-line-requires
-at-line-requires g c =
+pub at-stored-requires : goal.at-stored-requires
+at-stored-requires g c =
     let lines = c.self.inside.lines.lines in
     let shown = rw (← c.self.view_is) at c.requires in
     let opened = opened-shown c.self.inside.lines.opened (rate_lines lines) c.args.place shown in
@@ -23,22 +23,23 @@ at-line-requires g c =
 pub unwrap-requires : goal.unwrap-requires
 unwrap-requires g c =
     let lines = c.self.inside.lines.lines in
-    let line = c.at-line.result in
+    let line = c.at-stored.result in
     let shown = rw (← c.self.view_is) at c.requires in
     let opened = opened-shown c.self.inside.lines.opened (rate_lines lines) c.args.place shown in
     let short = rw opened at shown in
-    ap (λ found. is_some found.rate) c.at-line.ensures
+    ap (λ found. is_some found.rate) (c.line-line.ensures ∙ c.at-stored.ensures)
     ∙ is_some-at lines (c.self.invariant.0.kept.order opened) c.args.place line short
 
 pub returns-clause-line : goal.returns-clause-line
 returns-clause-line g c =
     let lines = c.self.inside.lines.lines in
-    let line = c.at-line.result in
+    let line = c.at-stored.result in
     let read : RateLine = record { rate = c.unwrap.result; bidder = line.bidder; amount = line.amount } in
     let shown = rw (← c.self.view_is) at c.requires in
     let opened = opened-shown c.self.inside.lines.opened (rate_lines lines) c.args.place shown in
     let short = rw opened at shown in
-    let from = subst (λ found. IsReadFrom found (get_or (rate_lines lines) c.args.place read)) (sym c.at-line.ensures)
+    let from = subst (λ found. IsReadFrom found (get_or (rate_lines lines) c.args.place read)) (sym c.at-stored.ensures)
     (rate_lines-at lines (c.self.invariant.0.kept.order opened) c.args.place line read short) in
-    rw (← c.self.view_is, opened)
-    (read-is line (get_or (rate_lines lines) c.args.place read) c.unwrap.result from c.unwrap.ensures)
+    rw (← c.self.view_is, opened, c.line-line.ensures)
+    (read-is line (get_or (rate_lines lines) c.args.place read) c.unwrap.result from
+    (rw c.line-line.ensures at c.unwrap.ensures))

@@ -1,7 +1,7 @@
 -- Where no line up to the last is the bidder's of this number, it has none.
 use Rattle.tb_book.proofs.CallerLemmas.{HasBid-none}
 use Rattle.std.proofs.Common.{arith}
-use Rattle.tb_book.proofs.book_line.find_line.Goals as goal
+use Rattle.tb_book.proofs.line_list.find_line.Goals as goal
 
 pub returns-clause-none : goal.returns-clause-none
 returns-clause-none c =

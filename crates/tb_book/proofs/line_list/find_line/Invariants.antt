@@ -2,7 +2,7 @@
 use Rattle.std.proofs.Common.{ℕ, ◌<◌, get_or}
 use Rattle.tb_book.specs.declared.book_line.BookLine.{BookLine}
 use Rattle.tb_book.proofs.CallerLemmas.{IsOther}
-use Rattle.tb_book.proofs.book_line.find_line.Given as goal
+use Rattle.tb_book.proofs.line_list.find_line.Given as goal
 
 abbrev pub invariant-loop-place : goal.invariant-loop-place
 invariant-loop-place l =
