@@ -1,13 +1,14 @@
 -- Rows and their bids.
-use Rattle.std.proofs.Common.{◌≡◌, ℕ, Bool, true, false, ◌==◌, ◌&&◌, map, Some, None, List, [], ◌∷◌, ◌++◌, inl, inr, refl, sym, ap, ◌∙◌, subst}
+use Rattle.std.proofs.Common.{◌≡◌, ℕ, Bool, true, false, ◌==◌, ◌&&◌, map, Option, Some, None, List, [], ◌∷◌, ◌++◌, inl, inr, refl, sym, ap, ◌∙◌, subst}
 use Rattle.std.specs.List.{All, filter, position}
+use Rattle.std.specs.Prelude.{IfSome}
 use Rattle.std.proofs.lemmas.Bool.{cases_Bool}
 use Rattle.std.proofs.lemmas.List.{append_assoc, map-append}
 use Rattle.std.proofs.lemmas.List.Elements.{All-head, All-tail, All-push}
 use Rattle.tb_history.specs.declared.bids.Bid.{Bid}
 use Rattle.tb_history.specs.Entries.{is_same}
 use Rattle.tb_entries.specs.declared.row.BidRow.{BidRow}
-use Rattle.tb_entries.specs.Rows.{name_at, bid_in, IsNumber, IsBidRow, Grown}
+use Rattle.tb_entries.specs.Rows.{name_at, bid_in, IsNumber, IsOwnNumber, IsBidRow, Grown}
 use Rattle.tb_entries.proofs.NumberLemmas.{name-stays, IsNumber-stays, same_number, no_number}
 
 -- those of a list that pass are made of those that pass a test that agrees
@@ -71,6 +72,15 @@ row-stays : (names more : List (List ℕ)) (name : List ℕ) (number : ℕ)
 row-stays names more name number is =
     subst (λ (n : List ℕ). IsNumber (names ++ more) n number) (sym (name-stays names more number is.within))
     (IsNumber-stays names more _ number is)
+
+-- so does a number that a name may have
+pub own-stays : (names now : List (List ℕ)) (near : Option ℕ)
+    → Grown names now
+    → IfSome near (IsOwnNumber names)
+    → IfSome near (IsOwnNumber now)
+own-stays names now None grown own = own
+own-stays names now (Some number) grown own =
+    subst (λ (all : List (List ℕ)). IsOwnNumber all number) (sym grown.1) (row-stays names grown.0 [] number own)
 
 module _ (names more : List (List ℕ)) where
   IsBidRow-stays : (row : BidRow) → IsBidRow names row → IsBidRow (names ++ more) row

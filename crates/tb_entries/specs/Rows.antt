@@ -57,6 +57,10 @@ pub record IsNumber (names : List (List ℕ)) (name : List ℕ) (number : ℕ) :
   pub named : name_at names number ≡ name
   pub first : position (λ other. is_same other name) names ≡ Some number
 
+-- the number is the first place of the name that stands there
+abbrev pub IsOwnNumber : List (List ℕ) → ℕ → Type 0
+IsOwnNumber names number = IsNumber names (name_at names number) number
+
 -- all numbers are of names, and a place is of a message
 abbrev pub IsSaid : List (List ℕ) → List Message → Said → Type 0
 IsSaid names others (said.Bid auction bidder rate amount) = (auction < length names) × (bidder < length names)
@@ -68,13 +72,13 @@ IsSaid names others (said.Release holder pledge amount) = holder < length names
 IsSaid names others (said.Whole place) = place < length others
 
 pub record IsRow (names : List (List ℕ)) (others : List Message) (row : Row) : Type 0 where
-  pub submitter : IsNumber names (name_at names row.submitter) row.submitter
+  pub submitter : IsOwnNumber names row.submitter
   pub said : IsSaid names others row.said
 
 pub record IsBidRow (names : List (List ℕ)) (row : BidRow) : Type 0 where
-  pub submitter : IsNumber names (name_at names row.submitter) row.submitter
-  pub auction : IsNumber names (name_at names row.auction) row.auction
-  pub bidder : IsNumber names (name_at names row.bidder) row.bidder
+  pub submitter : IsOwnNumber names row.submitter
+  pub auction : IsOwnNumber names row.auction
+  pub bidder : IsOwnNumber names row.bidder
 
 -- a list is longer by some
 abbrev pub Grown : {X : Type 0} → List X → List X → Type 0

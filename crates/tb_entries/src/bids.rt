@@ -1,13 +1,13 @@
 //! The accepted bids, in their order.
-ghost use Rattle.std.specs.Prelude.{◌≡◌, ◌+◌, ◌^◌, ◌<◌, ◌≤◌, ◌↔◌, ◌&&◌, [], ◌∷◌, ◌++◌, map, length, IsNone, IfOk, IfSome, OnOk};
+ghost use Rattle.std.specs.Prelude.{◌≡◌, ℕ, ◌+◌, ◌^◌, ◌<◌, ◌≤◌, ◌↔◌, ◌&&◌, List, [], ◌∷◌, ◌++◌, map, length, IsNone, IfOk, IfSome, OnOk};
 ghost use Rattle.std.specs.List.{filter, All};
 ghost use Rattle.tb_history.specs.declared.bids.Bid.{Bid};
 ghost use Rattle.tb_history.specs.Entries.{is_same};
 ghost use Rattle.tb_history.specs.LiveBids.{bids_of};
-ghost use Rattle.tb_entries.specs.Rows.{bid_in, IsBidRow};
+ghost use Rattle.tb_entries.specs.Rows.{bid_in, IsBidRow, IsOwnNumber};
 
 use crate::keys::{ByBidder, BySender};
-use crate::names::{self, Names, number_of, spare_of};
+use crate::names::{self, Names, find_near, number_near, number_of, spare_of};
 use crate::row::BidRow;
 use std::alloc::Global;
 use std::marker::Model;
@@ -83,7 +83,8 @@ impl Bids {
     pub fn count(&self, auction: &Ident, bidder: &Ident) -> usize
         ensures { result ≡ length (bids_of self.now.list auction.now bidder.now) }
     {
-        let Some(auction_place) = self.names.find(auction) else {
+        let (_, near) = last_numbers(self.rows.rows());
+        let Some(auction_place) = find_near(&self.names, auction, near) else {
             return 0;
         };
         let Some(bidder_place) = self.names.find(bidder) else {
@@ -122,8 +123,9 @@ impl Bids {
         ensures list { self.new.list ≡ self.old.list ++ bid.now ∷ [] }
         ensures spare { self.old.spare ≤ self.new.spare + 1 }
     {
-        let submitter = number_of(&mut self.names, &bid.submitter);
-        let auction = number_of(&mut self.names, &bid.auction);
+        let (near_submitter, near_auction) = last_numbers(self.rows.rows());
+        let submitter = number_near(&mut self.names, &bid.submitter, near_submitter);
+        let auction = number_near(&mut self.names, &bid.auction, near_auction);
         let bidder = number_of(&mut self.names, &bid.bidder);
         self.rows.push(BidRow {
             submitter,
@@ -146,6 +148,18 @@ impl Bids {
         let row = self.rows.pop()?;
         Some(bid_of_row(self.names.rows(), &row))
     }
+}
+
+// The numbers of the last bid's submitter and auction, which the next one often has too.
+fn last_numbers(rows: &[BidRow]) -> (Option<u32>, Option<u32>)
+    ensures submitter { (names : List (List ℕ)) → All (IsBidRow names) rows.now → IfSome result.0 (IsOwnNumber names) }
+    ensures auction { (names : List (List ℕ)) → All (IsBidRow names) rows.now → IfSome result.1 (IsOwnNumber names) }
+{
+    if rows.is_empty() {
+        return (None, None);
+    }
+    let last = &rows[rows.len() - 1];
+    (Some(last.submitter), Some(last.auction))
 }
 
 fn bid_of_row(names: &[Ident], row: &BidRow) -> Bid

@@ -1,10 +1,12 @@
 //! The accepted entries, in their order.
-ghost use Rattle.std.specs.Prelude.{◌≡◌, ◌+◌, ◌<◌, ◌≤◌, ◌↔◌, [], ◌∷◌, ◌++◌, length, slice_get, IsNone, IfSome, OnOk};
+ghost use Rattle.std.specs.Prelude.{◌≡◌, ℕ, ◌+◌, ◌<◌, ◌≤◌, ◌↔◌, List, [], ◌∷◌, ◌++◌, length, slice_get, IsNone, IfSome, OnOk};
+ghost use Rattle.std.specs.List.{All};
+ghost use Rattle.tb_message.specs.declared.message.Message.{Message};
 ghost use Rattle.tb_history.specs.Roster.{kept, sent_by};
-ghost use Rattle.tb_entries.specs.Rows.{entry_of, IsRow};
+ghost use Rattle.tb_entries.specs.Rows.{entry_of, IsRow, IsOwnNumber};
 
 use crate::keys::{ByNumber, BySubmitter};
-use crate::names::{self, Names, number_of, spare_of};
+use crate::names::{self, Names, find_near, number_near, spare_of};
 use crate::row::Row;
 use crate::said::{message_in, said_of};
 use std::alloc::Global;
@@ -97,7 +99,8 @@ impl Entries {
     pub fn find(&self, submitter: &Ident, number: u64) -> Option<Entry>
         ensures { result ≡ kept self.now.list submitter.now number }
     {
-        let place = self.names.find(submitter)?;
+        let near = last_submitter(self.rows.rows());
+        let place = find_near(&self.names, submitter, near)?;
         let row = self.rows.keyed().get(&(number, place as u32))?;
         Some(entry_in(self.names.rows(), &self.others, row))
     }
@@ -106,7 +109,8 @@ impl Entries {
     pub fn count(&self, submitter: &Ident) -> usize
         ensures { result ≡ sent_by self.now.list submitter.now }
     {
-        match self.names.find(submitter) {
+        let near = last_submitter(self.rows.rows());
+        match find_near(&self.names, submitter, near) {
             Some(place) => self.rows.count(&(place as u32)),
             None => 0,
         }
@@ -118,7 +122,8 @@ impl Entries {
         ensures list { self.new.list ≡ self.old.list ++ entry.now ∷ [] }
         ensures spare { self.old.spare ≤ self.new.spare + 1 }
     {
-        let submitter = number_of(&mut self.names, &entry.submitter);
+        let near = last_submitter(self.rows.rows());
+        let submitter = number_near(&mut self.names, &entry.submitter, near);
         let said = said_of(&mut self.names, &mut self.others, &entry.message);
         self.rows.push(Row {
             submitter,
@@ -139,6 +144,17 @@ impl Entries {
         let row = self.rows.pop()?;
         Some(entry_in(self.names.rows(), &self.others, &row))
     }
+}
+
+// The number of the last entry's submitter, who often sent the next one too.
+fn last_submitter(rows: &[Row]) -> Option<u32>
+    ensures { (names : List (List ℕ)) (others : List Message) → All (IsRow names others) rows.now
+        → IfSome result (IsOwnNumber names) }
+{
+    if rows.is_empty() {
+        return None;
+    }
+    Some(rows[rows.len() - 1].submitter)
 }
 
 fn entry_in(names: &[Ident], others: &[Message], row: &Row) -> Entry

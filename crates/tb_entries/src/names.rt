@@ -1,6 +1,8 @@
 //! Names and their numbers.
-ghost use Rattle.std.specs.Prelude.{◌≡◌, ◌+◌, ◌<◌, ◌≤◌, ◌^◌, length, OnOk};
-ghost use Rattle.tb_entries.specs.Rows.{spare_in, IsNumber, Grown};
+ghost use Rattle.std.specs.Prelude.{◌≡◌, ◌+◌, ◌<◌, ◌≤◌, ◌^◌, length, IfSome, OnOk};
+ghost use Rattle.std.specs.List.{position};
+ghost use Rattle.tb_history.specs.Entries.{is_same};
+ghost use Rattle.tb_entries.specs.Rows.{spare_in, IsNumber, IsOwnNumber, Grown};
 
 use crate::keys::ByName;
 use tb_index::Named;
@@ -37,6 +39,39 @@ pub(crate) fn reserve(names: &mut Names, more: usize) -> Result<(), OutOfMemory>
     Ok(())
 }
 
+/// The place of the name, where it is there. The number that it may have is looked at first.
+pub(crate) fn find_near(names: &Names, name: &Ident, near: Option<u32>) -> Option<usize>
+    requires near { IfSome near (IsOwnNumber names.now.list) }
+    ensures { result ≡ position (λ other. is_same other name.now) names.now.list }
+{
+    if let Some(number) = near {
+        if names.rows()[number as usize] == *name {
+            return Some(number as usize);
+        }
+    }
+    names.find(name)
+}
+
+/// The number of the name, which is added where it isn't there yet. The number that it may have is looked at first.
+pub(crate) fn number_near(names: &mut Names, name: &Ident, near: Option<u32>) -> u32
+    requires room { 0 < names.old.spare }
+    requires few { length names.old.list < 2 ^ 32 }
+    requires near { IfSome near (IsOwnNumber names.old.list) }
+    ensures number { IsNumber names.new.list name.now result }
+    ensures grown { Grown names.old.list names.new.list }
+    ensures long { length names.new.list ≤ length names.old.list + 1 }
+    ensures spare { names.old.spare ≤ names.new.spare + 1 }
+{
+    match find_near(names, name, near) {
+        Some(place) => place as u32,
+        None => {
+            let place = names.len() as u32;
+            names.push(*name);
+            place
+        }
+    }
+}
+
 /// The number of the name, which is added where it isn't there yet.
 pub(crate) fn number_of(names: &mut Names, name: &Ident) -> u32
     requires room { 0 < names.old.spare }
@@ -46,12 +81,5 @@ pub(crate) fn number_of(names: &mut Names, name: &Ident) -> u32
     ensures long { length names.new.list ≤ length names.old.list + 1 }
     ensures spare { names.old.spare ≤ names.new.spare + 1 }
 {
-    match names.find(name) {
-        Some(place) => place as u32,
-        None => {
-            let place = names.len() as u32;
-            names.push(*name);
-            place
-        }
-    }
+    number_near(names, name, None)
 }

@@ -16,8 +16,8 @@ returns-in_default c =
     let auction = c.args.auction.now in
     let bidder = c.args.bidder.now in
     let none = filter-none (bid_in names) (is_of auction bidder) (IsBidRow names) c.self.inside.rows.list
-    (λ (row : BidRow) is. no_first names auction bidder row.auction row.bidder (sym c.find.ensures ∙ c.in_default.is)
-    is.auction) c.self.invariant.0 in
+    (λ (row : BidRow) is. no_first names auction bidder row.auction row.bidder
+    (sym c.find_near.ensures ∙ c.in_default.is) is.auction) c.self.invariant.0 in
     rw (← c.self.view_is) (sym (ap (λ (bids : List Bid). length bids) none))
 
 pub returns-in_default-find : goal.returns-in_default-find
@@ -27,7 +27,7 @@ returns-in_default-find c =
     let bidder = c.args.bidder.now in
     let none = filter-none (bid_in names) (is_of auction bidder) (IsBidRow names) c.self.inside.rows.list
     (λ (row : BidRow) is. no_second names auction bidder row.auction row.bidder
-    (sym c.find-2.ensures ∙ c.in_default-find.is) is.bidder) c.self.invariant.0 in
+    (sym c.find.ensures ∙ c.in_default-find.is) is.bidder) c.self.invariant.0 in
     rw (← c.self.view_is) (sym (ap (λ (bids : List Bid). length bids) none))
 
 pub returns : goal.returns
@@ -41,7 +41,7 @@ returns c =
     let has = λ (row : BidRow). (row.auction == number) && (row.bidder == place) in
     let made = filter-made (bid_in names) (is_of auction bidder) has (IsBidRow names) rows
     (λ (row : BidRow) is. two_numbers names auction bidder row.auction row.bidder number place
-    (sym c.find.ensures ∙ c.in-Some.is) (sym c.find-2.ensures ∙ c.in-Some-find.is) is.auction is.bidder)
+    (sym c.find_near.ensures ∙ c.in-Some.is) (sym c.find.ensures ∙ c.in-Some-find.is) is.auction is.bidder)
     c.self.invariant.0 in
     rw (← c.self.view_is) (c.count.ensures
     ∙ sym (length-filter has rows)

@@ -5,16 +5,22 @@ use Rattle.tb_index.specs.Listed.{Listed}
 use Rattle.tb_entries.proofs.RowLemmas.{Pushed, pushed}
 use Rattle.tb_entries.proofs.entries.Entries.push.Goals as goal
 
+pub number_near-submitter-requires-clause-near : goal.number_near-submitter-requires-clause-near
+number_near-submitter-requires-clause-near c =
+    c.last_submitter-near.ensures c.self.inside.names.list c.self.inside.others.items
+    (rw c.rows.ensures c.self.invariant.0)
+
 -- what the two numberings and the new row come to
 after : (c : goal.After-push)
     → Pushed c.self.inside.names.list c.said_of-said.new.names.list c.self.inside.others.items
     c.said_of-said.new.others.items c.self.inside.rows.list c.push.new.self.list c.args.entry.now
 after c =
     pushed c.self.inside.names.list c.self.inside.others.items c.self.inside.rows.list c.self.invariant.0
-    c.args.entry.now c.number_of-submitter.new.names.list c.said_of-said.new.names.list c.said_of-said.new.others.items
-    c.number_of-submitter.ensures.grown c.said_of-said.ensures.names c.said_of-said.ensures.others
-    c.number_of-submitter.result c.said_of-said.result c.number_of-submitter.ensures.number c.said_of-said.ensures.is
-    c.said_of-said.ensures.says c.push.new.self.list c.push.ensures.list
+    c.args.entry.now c.number_near-submitter.new.names.list c.said_of-said.new.names.list
+    c.said_of-said.new.others.items c.number_near-submitter.ensures.grown c.said_of-said.ensures.names
+    c.said_of-said.ensures.others c.number_near-submitter.result c.said_of-said.result
+    c.number_near-submitter.ensures.number c.said_of-said.ensures.is c.said_of-said.ensures.says
+    c.push.new.self.list c.push.ensures.list
 
 pub invariant_of-self : goal.invariant_of-self
 invariant_of-self c = (
@@ -23,7 +29,7 @@ invariant_of-self c = (
     arith,
     subst (λ (value : Listed Entry). 0 < value.spare) (sym c.self.view_is) c.requires,
     c.self.invariant.1,
-    c.number_of-submitter.ensures.long,
+    c.number_near-submitter.ensures.long,
     c.said_of-said.ensures.long,
   ),
 )
