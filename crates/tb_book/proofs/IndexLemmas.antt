@@ -1,6 +1,7 @@
 -- A book's lines after one is added or taken out, and what is kept beside them.
 use Rattle.std.proofs.Common.{◌≡◌, ℕ, suc, ◌+◌, ◌<◌, ◌≤◌, ◌==◌, ◌&&◌, Bool, true, false, cond, Option, Some, None, is_some, is_none, List, [], ◌∷◌, ◌++◌, length, get_or, take, drop, AllPairs, sum_by, refl, ap, sym, ◌∙◌, subst, eq-eqb, drop-cons, arith}
 use Rattle.std.specs.List.{insert, remove}
+use Rattle.std.specs.HashMap.{HashMap}
 use Rattle.std.specs.Prelude.{IsPermutation}
 use Rattle.std.specs.Ordering.{nat_cmp, ordering_then}
 use Rattle.std.specs.declared.cmp.Ordering.TheVariants.{Equal}
@@ -13,9 +14,9 @@ use Rattle.tb_units.proofs.SumLemmas.{cond-le}
 use Rattle.tb_units.specs.Places.{HasOneMore}
 use Rattle.tb_units.specs.declared.rate.Rate.{Rate}
 use Rattle.tb_book.specs.declared.book_line.BookLine.{BookLine}
-use Rattle.tb_book.specs.declared.bidder.Bidder.{Bidder}
+use Rattle.tb_book.specs.declared.bidder.Sums.{Sums}
 use Rattle.tb_book.specs.Books.{AreApart, AreRanked, HasBid, HasBidAt, IsTakenOut, par_in, most_bid, competitive_of, noncompetitive_of, noncompetitive_in}
-use Rattle.tb_book.specs.Indexes.{rank_of, AreOfBidders, IsRaised, IsIndexed, total_of}
+use Rattle.tb_book.specs.Indexes.{rank_of, IsRaised, IsIndexed, total_of}
 use Rattle.tb_units.proofs.OrderLemmas.{nat-equal, equal-nat}
 use Rattle.tb_book.proofs.KeyLemmas.{pair-equal, equal-pair, then-equal, equal-then, rank-equal}
 
@@ -173,19 +174,21 @@ sum-less : (line : BookLine) (lines rest : List BookLine)
 sum-less line lines rest out = λ part.
     omega (arith, sum_by-IsPermutation part lines (line ∷ rest) out, sum_by-cons part line rest)
 
--- the sums of a line's parts: one list of lines and of bidders has it, and the other hasn't
-record DifferBy (line : BookLine) (fewer more : List BookLine) (lower higher : List Bidder) : Type 0 where
+-- the sums of a line's parts: one list of lines and its bidders' sums have it, and the others haven't
+record DifferBy {S : Type 0} (line : BookLine) (fewer more : List BookLine)
+    (lower higher : HashMap ℕ Sums S) : Type 0 where
   lines : (part : BookLine → ℕ) → sum_by part fewer + part line ≡ sum_by part more
-  competitive : IsRaised (λ entry. entry.competitive) line.bidder
+  competitive : IsRaised (λ sums. sums.competitive) line.bidder
       (cond (is_some line.rate) line.amount.value 0) lower higher
-  noncompetitive : IsRaised (λ entry. entry.noncompetitive) line.bidder
+  noncompetitive : IsRaised (λ sums. sums.noncompetitive) line.bidder
       (cond (is_none line.rate) line.amount.value 0) lower higher
 
 -- what the bidders have of each kind is what the lines say with the line just where it is so without it
-competitive-more : (line : BookLine) (fewer more : List BookLine) (lower higher : List Bidder) (bidder : ℕ)
+competitive-more : {S : Type 0} (line : BookLine) (fewer more : List BookLine) (lower higher : HashMap ℕ Sums S)
+    (bidder : ℕ)
     → DifferBy line fewer more lower higher
-    → total_of (λ entry. entry.competitive) bidder lower + competitive_of bidder more
-    ≡ total_of (λ entry. entry.competitive) bidder higher + competitive_of bidder fewer
+    → total_of (λ sums. sums.competitive) bidder lower + competitive_of bidder more
+    ≡ total_of (λ sums. sums.competitive) bidder higher + competitive_of bidder fewer
 competitive-more line fewer more lower higher bidder differ =
     omega (
       arith,
@@ -195,10 +198,11 @@ competitive-more line fewer more lower higher bidder differ =
     )
 
 -- of the other kind too
-noncompetitive-more : (line : BookLine) (fewer more : List BookLine) (lower higher : List Bidder) (bidder : ℕ)
+noncompetitive-more : {S : Type 0} (line : BookLine) (fewer more : List BookLine) (lower higher : HashMap ℕ Sums S)
+    (bidder : ℕ)
     → DifferBy line fewer more lower higher
-    → total_of (λ entry. entry.noncompetitive) bidder lower + noncompetitive_of bidder more
-    ≡ total_of (λ entry. entry.noncompetitive) bidder higher + noncompetitive_of bidder fewer
+    → total_of (λ sums. sums.noncompetitive) bidder lower + noncompetitive_of bidder more
+    ≡ total_of (λ sums. sums.noncompetitive) bidder higher + noncompetitive_of bidder fewer
 noncompetitive-more line fewer more lower higher bidder differ =
     omega (
       arith,
@@ -208,21 +212,20 @@ noncompetitive-more line fewer more lower higher bidder differ =
     )
 
 -- a line that is added, and what is raised for it
-pub record IsAdded (opened : Bool) (line : BookLine) (lines more_lines : List BookLine)
-    (bidders raised : List Bidder) : Type 0 where
+pub record IsAdded {S : Type 0} (opened : Bool) (line : BookLine) (lines more_lines : List BookLine)
+    (bidders raised : HashMap ℕ Sums S) : Type 0 where
   pub elements : IsPermutation (line ∷ lines) more_lines
   pub order : AreRanked opened more_lines
   pub apart_lines : AllPairs AreApart more_lines
   pub fits : par_in lines + line.amount.value ≤ most_bid
-  pub apart : AreOfBidders raised
-  pub competitive : IsRaised (λ entry. entry.competitive) line.bidder
+  pub competitive : IsRaised (λ sums. sums.competitive) line.bidder
       (cond (is_some line.rate) line.amount.value 0) bidders raised
-  pub noncompetitive : IsRaised (λ entry. entry.noncompetitive) line.bidder
+  pub noncompetitive : IsRaised (λ sums. sums.noncompetitive) line.bidder
       (cond (is_none line.rate) line.amount.value 0) bidders raised
 
 -- all is kept with it
-pub IsIndexed-added : (was_opened opened : Bool) (line : BookLine) (lines more_lines : List BookLine)
-    (bidders raised : List Bidder) (noncompetitive more : ℕ)
+pub IsIndexed-added : {S : Type 0} (was_opened opened : Bool) (line : BookLine) (lines more_lines : List BookLine)
+    (bidders raised : HashMap ℕ Sums S) (noncompetitive more : ℕ)
     → IsIndexed was_opened lines bidders noncompetitive
     → IsAdded opened line lines more_lines bidders raised
     → more ≡ noncompetitive + cond (is_none line.rate) line.amount.value 0
@@ -237,7 +240,6 @@ IsIndexed-added was_opened opened line lines more_lines bidders raised noncompet
         apart = added.apart_lines;
         limited = omega (arith, sum_lines (λ (other : BookLine). other.amount.value), added.fits);
       };
-      apart = added.apart;
       competitive_are = λ bidder.
           omega (
             arith,
@@ -259,20 +261,19 @@ IsIndexed-added was_opened opened line lines more_lines bidders raised noncompet
     }
 
 -- a line that is taken out, and what is lowered for it
-pub record IsGone (opened : Bool) (line : BookLine) (lines rest : List BookLine)
-    (bidders lowered : List Bidder) : Type 0 where
+pub record IsGone {S : Type 0} (opened : Bool) (line : BookLine) (lines rest : List BookLine)
+    (bidders lowered : HashMap ℕ Sums S) : Type 0 where
   pub elements : IsPermutation lines (line ∷ rest)
   pub order : AreRanked opened rest
   pub apart_lines : AllPairs AreApart rest
-  pub apart : AreOfBidders lowered
-  pub competitive : IsRaised (λ entry. entry.competitive) line.bidder
+  pub competitive : IsRaised (λ sums. sums.competitive) line.bidder
       (cond (is_some line.rate) line.amount.value 0) lowered bidders
-  pub noncompetitive : IsRaised (λ entry. entry.noncompetitive) line.bidder
+  pub noncompetitive : IsRaised (λ sums. sums.noncompetitive) line.bidder
       (cond (is_none line.rate) line.amount.value 0) lowered bidders
 
 -- all is kept without it
-pub IsIndexed-gone : (was_opened opened : Bool) (line : BookLine) (lines rest : List BookLine)
-    (bidders lowered : List Bidder) (noncompetitive less : ℕ)
+pub IsIndexed-gone : {S : Type 0} (was_opened opened : Bool) (line : BookLine) (lines rest : List BookLine)
+    (bidders lowered : HashMap ℕ Sums S) (noncompetitive less : ℕ)
     → IsIndexed was_opened lines bidders noncompetitive
     → IsGone opened line lines rest bidders lowered
     → less + cond (is_none line.rate) line.amount.value 0 ≡ noncompetitive
@@ -287,7 +288,6 @@ IsIndexed-gone was_opened opened line lines rest bidders lowered noncompetitive 
         apart = gone.apart_lines;
         limited = omega (arith, sum_lines (λ (other : BookLine). other.amount.value), kept.kept.limited);
       };
-      apart = gone.apart;
       competitive_are = λ bidder.
           omega (arith, kept.competitive_are bidder, competitive-more line rest lines lowered bidders bidder differ);
       noncompetitive_are = λ bidder.
@@ -305,7 +305,7 @@ IsIndexed-gone was_opened opened line lines rest bidders lowered noncompetitive 
     }
 
 -- and all is kept where the lines go into another order
-pub IsIndexed-moved : (was_opened opened : Bool) (lines moved : List BookLine) (bidders : List Bidder)
+pub IsIndexed-moved : {S : Type 0} (was_opened opened : Bool) (lines moved : List BookLine) (bidders : HashMap ℕ Sums S)
     (noncompetitive : ℕ)
     → IsIndexed was_opened lines bidders noncompetitive
     → IsPermutation lines moved
@@ -321,7 +321,6 @@ IsIndexed-moved was_opened opened lines moved bidders noncompetitive kept same o
         apart = apart;
         limited = omega (arith, sums (λ (other : BookLine). other.amount.value), kept.kept.limited);
       };
-      apart = kept.apart;
       competitive_are = λ bidder. kept.competitive_are bidder ∙ sums (competitive_part bidder);
       noncompetitive_are = λ bidder. kept.noncompetitive_are bidder ∙ sums (noncompetitive_part bidder);
       noncompetitive_is = kept.noncompetitive_is ∙ sums (λ l. cond (is_none l.rate) l.amount.value 0);

@@ -1,4 +1,4 @@
--- What the order of keys says of lines and of bidders.
+-- What the order of keys says of lines.
 use Rattle.std.proofs.Common.{◌≡◌, ℕ, ◌<◌, ◌⊎◌, true, false, Option, Some, None, is_some, List, get_or, AllPairs, Ordering, inl, inr, refl, ap, sym, ◌∙◌, arith}
 use Rattle.std.specs.Ordering.{nat_cmp, ordering_then, is_lt, is_gt}
 use Rattle.std.specs.declared.cmp.Ordering.TheVariants.{Less, Equal, Greater}
@@ -8,9 +8,8 @@ use Rattle.tb_units.specs.Same.{same_rate}
 use Rattle.tb_units.proofs.OrderLemmas.{nat-less, nat-equal, less-nat, equal-nat}
 use Rattle.tb_units.specs.declared.rate.Rate.{Rate}
 use Rattle.tb_book.specs.declared.book_line.BookLine.{BookLine}
-use Rattle.tb_book.specs.declared.bidder.Bidder.{Bidder}
 use Rattle.tb_book.specs.Books.{IsLower, IsEarlier}
-use Rattle.tb_book.specs.Indexes.{rank_of, AreOfBidders}
+use Rattle.tb_book.specs.Indexes.{rank_of}
 
 -- the order of a line's key
 abbrev pub line_order : BookLine → BookLine → Ordering
@@ -92,12 +91,6 @@ pub earlier-lines : (lines : List BookLine) → AllPairs (λ one other. line_ord
     → AllPairs IsEarlier lines
 earlier-lines lines order = λ a b d earlier short.
     earlier-key (get_or lines a d) (get_or lines b d) (order a b d earlier short)
-
--- entries in the order of bidders are of different bidders
-pub apart-bidders : (bidders : List Bidder)
-    → AllPairs (λ (one other : Bidder). nat_cmp one.bidder other.bidder ≡ Less) bidders → AreOfBidders bidders
-apart-bidders bidders order = λ a b d earlier short same.
-    omega (arith, same, nat-less (get_or bidders a d).bidder (get_or bidders b d).bidder (order a b d earlier short))
 
 -- a rank below that of a line with no rate is a rate's
 pub some-below : (rate : Option Rate) (rest : Ordering)

@@ -1,7 +1,6 @@
 pub mod RateLineLemmas
 pub mod CallerLemmas
 pub mod KeyLemmas
-pub mod BidderLemmas
 pub mod IndexLemmas
 pub mod ApartLemmas
 pub mod ListedLemmas

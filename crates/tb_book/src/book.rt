@@ -2,14 +2,14 @@
 ghost use Rattle.std.specs.Prelude.{◌≡◌, ◌+◌, ◌<◌, ◌≤◌, ◌↔◌, [], ◌∷◌, true, false, length, slice_index_or, OnOk, IsOk, IfSome, IfNone, IsNone, IsPermutation};
 ghost use Rattle.tb_book.specs.Books.{HasBid, HasBidAt, IsInserted, IsTakenOut, IsKept, competitive_of, noncompetitive_of, noncompetitive_in, open_lines, par_in, most_bid};
 
-use crate::bidder::{Bidder, lower, raise, totals_of};
+use crate::bidder::{Bidders, lower, raise, totals_of};
 use crate::book_line::BookLine;
 use crate::line_list::LineList;
 use crate::stored_line::StoredLine;
 use std::alloc::Global;
+use std::collections::HashMap;
 use std::marker::Model;
 use std::sync::ledger::Ledger;
-use tb_blocks::Ordered;
 use tb_units::{Dollars, Lines, OutOfMemory, Rate, RateLine, Steps};
 
 /// The live bids of one auction. Contracts see the list of lines, the room for more, and whether the book is open. The
@@ -19,7 +19,7 @@ use tb_units::{Dollars, Lines, OutOfMemory, Rate, RateLine, Steps};
 pub struct Book {
     lines: LineList,
     // The sums of each bidder, and of all noncompetitive lines.
-    bidders: Ordered<Bidder>,
+    bidders: Bidders,
     noncompetitive: u128,
     // So many more lines, and bidders, may be added.
     spare: usize,
@@ -34,32 +34,34 @@ impl Model for Book {
     ghost view = { λ book. record { lines = book.lines.lines; spare = book.spare; opened = book.lines.opened } };
 
     ghost invariant = { λ book.
-        IsIndexed book.lines.opened book.lines.lines book.bidders.elements book.noncompetitive
-        × HasSpare book.spare book.lines.spare book.bidders.spare };
+        IsIndexed book.lines.opened book.lines.lines book.bidders book.noncompetitive
+        × HasSpare book.spare book.lines.spare book.bidders };
 }
 
 impl Book {
     /// An empty book, which is open: each line that is added goes to its place.
+    #[tactic(auto, unfolding(crate::specs::Indexes::total_of))]
     pub fn new(alloc: Global) -> Book
         ensures lines { result.lines ≡ [] }
         ensures opened { result.opened ≡ true }
     {
         Book {
             lines: LineList::new(alloc, true),
-            bidders: Ordered::new(alloc),
+            bidders: HashMap::new(alloc),
             noncompetitive: 0,
             spare: 0,
         }
     }
 
     /// An empty book, which is sealed: lines that are added are put in order many at a time.
+    #[tactic(auto, unfolding(crate::specs::Indexes::total_of))]
     pub fn sealed(alloc: Global) -> Book
         ensures lines { result.lines ≡ [] }
         ensures opened { result.opened ≡ false }
     {
         Book {
             lines: LineList::new(alloc, false),
-            bidders: Ordered::new(alloc),
+            bidders: HashMap::new(alloc),
             noncompetitive: 0,
             spare: 0,
         }
@@ -76,6 +78,7 @@ impl Book {
     }
 
     /// Takes the memory for so many more lines. No other call takes memory.
+    #[tactic(auto, unfolding(crate::specs::Indexes::total_of))]
     pub fn reserve(&mut self, more: u64) -> Result<(), OutOfMemory>
         ensures spare { OnOk result (more ≤ self.new.spare) }
         // Where the room is there already it succeeds.

@@ -50,8 +50,8 @@ overflow_add-self c =
 pub invariant_of-self : goal.invariant_of-self
 invariant_of-self c =
     let line = c.args.line in
-    let bidders = c.self.inside.bidders.elements in
-    let raised = c.raise.new.bidders.elements in
+    let bidders = c.self.inside.bidders in
+    let raised = c.raise.new.bidders in
     let noncompetitive = c.self.inside.noncompetitive in
     let more = c.insert.new.self.lines in (
       IsIndexed-added c.self.inside.lines.opened c.insert.new.self.opened line c.self.inside.lines.lines more bidders
@@ -62,11 +62,10 @@ invariant_of-self c =
             order = c.insert.ensures.order;
             apart_lines = c.insert.ensures.apart;
             fits = rw (← c.self.view_is) at c.requires.fits;
-            apart = c.raise.ensures.apart;
-            competitive = subst (λ amount. IsRaised (λ entry. entry.competitive) line.bidder amount bidders raised)
+            competitive = subst (λ amount. IsRaised (λ sums. sums.competitive) line.bidder amount bidders raised)
                 c.competitive.ensures c.raise.ensures.competitive;
             noncompetitive = subst
-                (λ amount. IsRaised (λ entry. entry.noncompetitive) line.bidder amount bidders raised)
+                (λ amount. IsRaised (λ sums. sums.noncompetitive) line.bidder amount bidders raised)
                 c.noncompetitive.ensures c.raise.ensures.noncompetitive;
           })
           (ap (λ part. noncompetitive + part) c.noncompetitive-2.ensures),

@@ -61,8 +61,8 @@ invariant_of-self-2 c =
     let line = c.line-line.result in
     let is = rw (← c.line-line.ensures) at c.in_ok-stored.ensures.own in
     let elements = rw (← c.line-line.ensures) at c.in_ok-stored.ensures.elements in
-    let bidders = c.self.inside.bidders.elements in
-    let lowered = c.lower.new.bidders.elements in
+    let bidders = c.self.inside.bidders in
+    let lowered = c.lower.new.bidders in
     let noncompetitive = c.self.inside.noncompetitive in
     let within = noncompetitive_in-part-le line lines rest elements in (
       IsIndexed-gone c.self.inside.lines.opened c.remove.new.self.opened line lines rest bidders lowered noncompetitive
@@ -72,15 +72,14 @@ invariant_of-self-2 c =
             elements = elements;
             order = c.remove.ensures.order;
             apart_lines = c.remove.ensures.apart;
-            apart = c.lower.ensures.apart;
-            competitive = subst (λ amount. IsRaised (λ entry. entry.competitive) line.bidder amount lowered bidders)
+            competitive = subst (λ amount. IsRaised (λ sums. sums.competitive) line.bidder amount lowered bidders)
                 c.competitive.ensures
-                (subst (λ own. IsRaised (λ entry. entry.competitive) own c.competitive.result lowered bidders)
+                (subst (λ own. IsRaised (λ sums. sums.competitive) own c.competitive.result lowered bidders)
                 (sym is.1) c.lower.ensures.competitive);
             noncompetitive = subst
-                (λ amount. IsRaised (λ entry. entry.noncompetitive) line.bidder amount lowered bidders)
+                (λ amount. IsRaised (λ sums. sums.noncompetitive) line.bidder amount lowered bidders)
                 c.noncompetitive.ensures
-                (subst (λ own. IsRaised (λ entry. entry.noncompetitive) own c.noncompetitive.result lowered bidders)
+                (subst (λ own. IsRaised (λ sums. sums.noncompetitive) own c.noncompetitive.result lowered bidders)
                 (sym is.1) c.lower.ensures.noncompetitive);
           })
           (omega (arith, c.noncompetitive-2.ensures, within, c.self.invariant.0.noncompetitive_is)),

@@ -6,7 +6,7 @@ use Rattle.tb_book.proofs.book.Book.unseal.Goals as goal
 pub invariant_of-self : goal.invariant_of-self
 invariant_of-self c = (
   IsIndexed-moved c.self.inside.lines.opened c.unseal.new.self.opened c.self.inside.lines.lines c.unseal.new.self.lines
-      c.self.inside.bidders.elements c.self.inside.noncompetitive c.self.invariant.0 c.unseal.ensures.elements
+      c.self.inside.bidders c.self.inside.noncompetitive c.self.invariant.0 c.unseal.ensures.elements
       c.unseal.ensures.order c.unseal.ensures.apart,
   record {
     of_lines = omega (arith, c.unseal.ensures.spare, c.self.invariant.1.of_lines);
