@@ -1,7 +1,7 @@
 -- What a change of the book at a place means for the books by name.
 use Rattle.std.proofs.Common.{◌≡◌, ℕ, ◌+◌, ◌<◌, ◌≤◌, suc, zero, Bool, true, false, cond, Option, Some, None, List, [], ◌∷◌, ◌++◌, refl, sym, ap, ◌∙◌, subst, length, get_or, inl, inr, take, drop, Result, Ok, Err, arith}
 use Rattle.std.specs.Prelude.{◌↔◌, IfNone, IfSome, IsNone, IsPermutation, OnOk}
-use Rattle.std.specs.List.{find, position, position_or_len}
+use Rattle.std.specs.List.{find, position}
 use Rattle.std.specs.Option.{option_map}
 use Rattle.std.specs.Str.{bytes_eq}
 use Rattle.std.proofs.Math.ListN.{set, length-set}
@@ -9,7 +9,6 @@ use Rattle.std.proofs.lemmas.Bool.{cases_Bool, le-leb}
 use Rattle.std.proofs.lemmas.List.{get_or_default, get_or-set_same, take_all, take-append-le}
 use Rattle.std.proofs.lemmas.List.Folds.{position_or_len-set}
 use Rattle.std.proofs.lemmas.List.Recursion.{found_set_other}
-use Rattle.std.proofs.lemmas.List.Sums.{passes_at_first}
 use Rattle.std.proofs.lemmas.Slice.Eq.{bytes_eq-Decides}
 use Rattle.tb_units.specs.declared.rate.Rate.{Rate}
 use Rattle.tb_book.specs.declared.book_line.BookLine.{BookLine}
@@ -17,6 +16,7 @@ use Rattle.tb_book.specs.Books.{Bids, HasBidAt, most_bid, par_in}
 use Rattle.tb_shelf.specs.declared.named.NamedBook.{NamedBook}
 use Rattle.tb_shelf.specs.Shelves.{IsChanged, IsChangedAt, IsLowered, IsOpened, Shelved, TakesLine, book_in, has_places, is_of, names_in}
 use Rattle.tb_shelf.proofs.FindLemmas.{position-place, found_at, found_none}
+use Rattle.tb_shelf.proofs.NameLemmas.{passes-at}
 
 -- the book of a first element or of the others
 one_more : (b : Bool) (named : NamedBook) (rest : Option NamedBook)
@@ -66,12 +66,7 @@ name-at : (books : List NamedBook) (auction : List ℕ) (place : ℕ) (d : Named
     → position (is_of auction) books ≡ Some place
     → (get_or books place d).auction ≡ auction
 name-at books auction place d placed =
-    let p = is_of auction in
-    let first = position-place p books place placed in
-    let inside : position_or_len p books < length books = subst (λ k. k < length books) (sym first.1) first.0 in
-    let passes : p (get_or books place d) ≡ true =
-    subst (λ k. p (get_or books k d) ≡ true) first.1 (passes_at_first p books d inside) in
-    (bytes_eq-Decides (get_or books place d).auction auction).0 passes
+    (bytes_eq-Decides (get_or books place d).auction auction).0 (passes-at (is_of auction) books place d placed)
 
 -- so a change at the place of a name is one of that name's book
 pub IsChanged-at : (auction : List ℕ) (place : ℕ) (Change : Bids → Bids → Type 0) (old new : List NamedBook)

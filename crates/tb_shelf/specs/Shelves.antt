@@ -1,6 +1,6 @@
 -- The sealed books of auctions, by name, and the empty books that stand ready for the next ones.
-use Rattle.std.specs.Prelude.{◌≡◌, ℕ, ◌+◌, ◌<◌, ◌≤◌, Bool, true, false, nat_le, Option, Some, None, List, [], ◌∷◌, ◌++◌, map, slice_index_or, slice_set, All, IsPermutation}
-use Rattle.std.specs.List.{find}
+use Rattle.std.specs.Prelude.{◌≡◌, ℕ, ◌+◌, ◌<◌, ◌≤◌, Bool, true, false, nat_le, Option, Some, None, List, [], ◌∷◌, ◌++◌, map, length, slice_index_or, slice_set, All, IsPermutation}
+use Rattle.std.specs.List.{find, position}
 use Rattle.std.specs.Option.{option_map, option_map_or}
 use Rattle.std.specs.Str.{bytes_eq}
 use Rattle.tb_units.specs.declared.rate.Rate.{Rate}
@@ -26,6 +26,11 @@ book_in books auction = option_map (λ (named : NamedBook). named.book) (find (i
 -- the names of the auctions
 abbrev pub names_in : List NamedBook → List (List ℕ)
 names_in books = map (λ (named : NamedBook). named.auction) books
+
+-- the place is the first of the name that stands there
+pub record IsOwnPlace (names : List (List ℕ)) (place : ℕ) : Type 0 where
+  pub within : place < length names
+  pub first : position (λ name. bytes_eq name (slice_index_or names place [])) names ≡ Some place
 
 -- the line can be added to the book
 pub record TakesLine (line : BookLine) (book : Bids) : Type 0 where

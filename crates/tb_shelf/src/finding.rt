@@ -2,26 +2,40 @@
 ghost use Rattle.std.specs.Prelude.{◌≡◌, ◌<◌, ◌≤◌, List, length, slice_index_or, Some, None, IfNone, IfSome, OnOk};
 ghost use Rattle.std.specs.List.{position};
 ghost use Rattle.tb_shelf.specs.declared.named.NamedBook.{NamedBook};
-ghost use Rattle.tb_shelf.specs.Shelves.{IsAdded, IsChangedAt, IsKeptBook, IsLowered, IsUnsealed, TakesLine, book_in, is_of, names_in};
+ghost use Rattle.tb_shelf.specs.Shelves.{IsAdded, IsChangedAt, IsKeptBook, IsLowered, IsOwnPlace, IsUnsealed, TakesLine, book_in, is_of, names_in};
 
 use crate::named::{NamedBook, Names};
 use tb_book::{Book, BookLine};
 use tb_units::{Ident, OutOfMemory, Rate};
 
-/// Where the book of the auction stands among books of these names.
-pub fn place_of(names: &Names, auction: &Ident) -> Option<usize>
-    ensures { (books : List NamedBook) → names.now.list ≡ names_in books → result ≡ position (is_of auction.now) books }
+/// Where the book of the auction stands among books of these names. The place that was found last is looked at first.
+pub fn place_of(names: &Names, auction: &Ident, last: Option<usize>) -> Option<usize>
+    requires { IfSome last (IsOwnPlace names.now.list) }
+    ensures book { (books : List NamedBook) → names.now.list ≡ names_in books
+        → result ≡ position (is_of auction.now) books }
+    ensures own { IfSome result (IsOwnPlace names.now.list) }
 {
+    if let Some(place) = last {
+        if names.rows()[place] == *auction {
+            return Some(place);
+        }
+    }
     names.find(auction)
 }
 
-/// The auction's book, of books of these names.
-pub fn find<'a>(names: &Names, books: &'a [NamedBook], auction: &Ident) -> Option<&'a Book>
-    requires { names.now.list ≡ names_in books.now }
+/// The auction's book, of books of these names. The place that was found last is looked at first.
+pub fn find<'a>(
+    names: &Names,
+    books: &'a [NamedBook],
+    auction: &Ident,
+    last: Option<usize>,
+) -> Option<&'a Book>
+    requires names { names.now.list ≡ names_in books.now }
+    requires last { IfSome last (IsOwnPlace names.now.list) }
     ensures some { IfSome result (λ book. book_in books.now auction.now ≡ Some book.now) }
     ensures none { IfNone result (book_in books.now auction.now ≡ None) }
 {
-    match place_of(names, auction) {
+    match place_of(names, auction, last) {
         Some(place) => Some(&books[place].book),
         None => None,
     }

@@ -19,13 +19,15 @@ pub struct Shelf {
     // The names of the books, by which these are found.
     names: Names,
     books: Vec<NamedBook>,
+    // The place of the book that a call found last, where the next call looks first.
+    last: Option<usize>,
     ready: Vec<Book>,
     places: u64,
 }
 
 impl Model for Shelf {
-    ghost use Rattle.std.specs.Prelude.{◌≡◌, ◌+◌, ◌≤◌, vec_len, vec_capacity};
-    ghost use Rattle.tb_shelf.specs.Shelves.{AreReady, Shelved, names_in};
+    ghost use Rattle.std.specs.Prelude.{◌≡◌, ◌+◌, ◌≤◌, vec_len, vec_capacity, IfSome};
+    ghost use Rattle.tb_shelf.specs.Shelves.{AreReady, IsOwnPlace, Shelved, names_in};
 
     ghost Value = { Shelved };
 
@@ -35,7 +37,8 @@ impl Model for Shelf {
     ghost invariant = { λ shelf. AreReady shelf.places shelf.ready.items
         × (vec_len shelf.books + vec_len shelf.ready ≤ vec_capacity shelf.books)
         × (shelf.names.list ≡ names_in shelf.books.items)
-        × (vec_len shelf.ready ≤ shelf.names.spare) };
+        × (vec_len shelf.ready ≤ shelf.names.spare)
+        × IfSome shelf.last (IsOwnPlace shelf.names.list) };
 }
 
 impl Shelf {
@@ -48,6 +51,7 @@ impl Shelf {
             alloc,
             names: Named::new(alloc),
             books: Vec::new(alloc),
+            last: None,
             ready: Vec::new(alloc),
             places: 0,
         }
@@ -78,8 +82,11 @@ impl Shelf {
         ensures books { IsChanged auction.now IsKeptBook self.old.books self.new.books }
         ensures ready { (self.new.ready ≡ self.old.ready) × (self.new.places ≡ self.old.places) }
     {
-        match place_of(&self.names, auction) {
-            Some(place) => reserve_at(&mut self.books, place, more),
+        match place_of(&self.names, auction, self.last) {
+            Some(place) => {
+                self.last = Some(place);
+                reserve_at(&mut self.books, place, more)
+            }
             None => Ok(()),
         }
     }
@@ -118,7 +125,8 @@ impl Shelf {
         ensures books { IsChanged auction.now (IsAdded line) self.old.books self.new.books }
         ensures ready { (self.new.ready ≡ self.old.ready) × (self.new.places ≡ self.old.places) }
     {
-        if let Some(place) = place_of(&self.names, auction) {
+        if let Some(place) = place_of(&self.names, auction, self.last) {
+            self.last = Some(place);
             add_at(&mut self.books, place, line);
         }
     }
@@ -128,7 +136,8 @@ impl Shelf {
         ensures books { IsChanged auction.now (IsLowered rate bidder number) self.old.books self.new.books }
         ensures ready { (self.new.ready ≡ self.old.ready) × (self.new.places ≡ self.old.places) }
     {
-        if let Some(place) = place_of(&self.names, auction) {
+        if let Some(place) = place_of(&self.names, auction, self.last) {
+            self.last = Some(place);
             take_at(&mut self.books, place, rate, bidder, number);
         }
     }
@@ -138,7 +147,8 @@ impl Shelf {
         ensures books { IsChanged auction.now IsUnsealed self.old.books self.new.books }
         ensures ready { (self.new.ready ≡ self.old.ready) × (self.new.places ≡ self.old.places) }
     {
-        if let Some(place) = place_of(&self.names, auction) {
+        if let Some(place) = place_of(&self.names, auction, self.last) {
+            self.last = Some(place);
             unseal_at(&mut self.books, place);
         }
     }
@@ -148,6 +158,6 @@ impl Shelf {
         ensures some { IfSome result (λ book. book_in self.now.books auction.now ≡ Some book.now) }
         ensures none { IfNone result (book_in self.now.books auction.now ≡ None) }
     {
-        find(&self.names, &self.books, auction)
+        find(&self.names, &self.books, auction, self.last)
     }
 }

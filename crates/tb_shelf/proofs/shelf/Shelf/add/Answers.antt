@@ -9,7 +9,7 @@ use Rattle.tb_shelf.proofs.shelf.Shelf.add.Goals as goal
 
 pub add_at-requires-clause-takes : goal.add_at-requires-clause-takes
 add_at-requires-clause-takes c d =
-    let placed = sym (c.place_of.ensures c.self.inside.books.items c.self.invariant.2) ∙ c.in-Some.is in
+    let placed = sym (c.place_of.ensures.book c.self.inside.books.items c.self.invariant.2) ∙ c.in-Some.is in
     at-place (TakesLine c.args.line) c.deref_mut.result.now c.args.auction.now c.in-Some.place d
     (subst (λ (books : List NamedBook). position (is_of c.args.auction.now) books ≡ Some c.in-Some.place)
     (sym c.deref_mut.ensures.value) placed)
@@ -18,15 +18,20 @@ add_at-requires-clause-takes c d =
 
 pub invariant_of-self : goal.invariant_of-self
 invariant_of-self c =
-    let placed = sym (c.place_of.ensures c.self.inside.books.items c.self.invariant.2) ∙ c.in-Some.is in
+    let placed = sym (c.place_of.ensures.book c.self.inside.books.items c.self.invariant.2) ∙ c.in-Some.is in
     let changed = changed-back c.args.auction.now c.in-Some.place (IsAdded c.args.line) c.self.inside.books.items
     c.deref_mut.result.now c.add_at.new.books c.self.inside.books.len c.deref_mut.ensures.value c.deref_mut.ensures.len
-    placed c.add_at.ensures in
-    (c.self.invariant.0, c.self.invariant.1, c.self.invariant.2 ∙ sym changed.names, c.self.invariant.3)
+    placed c.add_at.ensures in (
+      c.self.invariant.0,
+      c.self.invariant.1,
+      c.self.invariant.2 ∙ sym changed.names,
+      c.self.invariant.3,
+      c.in-Some.ensures.own,
+    )
 
 pub returns-in-Some-clause-books : goal.returns-in-Some-clause-books
 returns-in-Some-clause-books c =
-    let placed = sym (c.place_of.ensures c.self.inside.books.items c.self.invariant.2) ∙ c.in-Some.is in
+    let placed = sym (c.place_of.ensures.book c.self.inside.books.items c.self.invariant.2) ∙ c.in-Some.is in
     subst (λ (old : List NamedBook). IsChanged c.args.auction.now (IsAdded c.args.line) old
     (take c.self.inside.books.len (c.add_at.new.books ++ drop (length c.add_at.new.books) c.self.inside.books.items)))
     (ap (λ (s : Shelved). s.books) c.self.view_is)
@@ -36,7 +41,7 @@ returns-in-Some-clause-books c =
 
 pub returns-in_default-clause-books : goal.returns-in_default-clause-books
 returns-in_default-clause-books c =
-    let missing = sym (c.place_of.ensures c.self.inside.books.items c.self.invariant.2) ∙ c.in_default.is in
+    let missing = sym (c.place_of.ensures.book c.self.inside.books.items c.self.invariant.2) ∙ c.in_default.is in
     subst (λ (books : List NamedBook). IsChanged c.args.auction.now (IsAdded c.args.line) books books)
     (ap (λ (s : Shelved). s.books) c.self.view_is)
     (IsChanged-none c.args.auction.now (IsAdded c.args.line) c.self.inside.books.items missing)

@@ -4,6 +4,7 @@ use Rattle.std.proofs.lemmas.List.{map-append}
 use Rattle.std.proofs.lemmas.List.Elements.{All-pop}
 use Rattle.tb_shelf.specs.declared.named.NamedBook.{NamedBook}
 use Rattle.tb_shelf.specs.Shelves.{IsReady, Shelved, names_in}
+use Rattle.tb_shelf.proofs.NameLemmas.{last-more}
 use Rattle.tb_shelf.proofs.shelf.Shelf.open.Goals as goal
 
 pub invariant_of-self : goal.invariant_of-self
@@ -24,6 +25,8 @@ invariant_of-self c =
           ∙ (sym (map-append (λ (n : NamedBook). n.auction) c.self.inside.books.items (named ∷ []))
           ∙ ap names_in (sym c.push_reserved.ensures.items))),
       omega (arith, c.self.invariant.3, c.in-Some.ensures.len, c.push.ensures.spare),
+      last-more c.self.inside.names.list c.push.new.self.list c.args.auction c.self.inside.last c.push.ensures.list
+          c.self.invariant.4,
     )
 
 pub returns-in-Some : goal.returns-in-Some
