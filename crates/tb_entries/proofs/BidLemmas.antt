@@ -1,15 +1,14 @@
 -- Rows and their bids.
-use Rattle.std.proofs.Common.{◌≡◌, ℕ, Bool, true, false, ◌==◌, ◌&&◌, map, Option, Some, None, List, [], ◌∷◌, ◌++◌, inl, inr, refl, sym, ap, ◌∙◌, subst}
+use Rattle.std.proofs.Common.{◌≡◌, ℕ, Bool, true, false, ◌==◌, ◌&&◌, map, Some, None, List, [], ◌∷◌, ◌++◌, inl, inr, refl, sym, ap, ◌∙◌, subst}
 use Rattle.std.specs.List.{All, filter, position}
-use Rattle.std.specs.Prelude.{IfSome}
 use Rattle.std.proofs.lemmas.Bool.{cases_Bool}
 use Rattle.std.proofs.lemmas.List.{append_assoc, map-append}
 use Rattle.std.proofs.lemmas.List.Elements.{All-head, All-tail, All-push}
 use Rattle.tb_history.specs.declared.bids.Bid.{Bid}
 use Rattle.tb_history.specs.Entries.{is_same}
 use Rattle.tb_entries.specs.declared.row.BidRow.{BidRow}
-use Rattle.tb_entries.specs.Rows.{name_at, bid_in, IsNumber, IsOwnNumber, IsBidRow, Grown}
-use Rattle.tb_entries.proofs.NumberLemmas.{name-stays, IsNumber-stays, same_number, no_number}
+use Rattle.tb_entries.specs.Rows.{name_at, bid_in, IsNumber, IsBidRow, Grown}
+use Rattle.tb_entries.proofs.NumberLemmas.{name-stays, IsNumber-stays, IsOwnNumber-is, IsOwnNumber-stays, same_number, no_number}
 
 -- those of a list that pass are made of those that pass a test that agrees
 pub filter-made : {X Y : Type 0} (f : X → Y) (p : Y → Bool) (q : X → Bool) (P : X → Type 0) (xs : List X)
@@ -66,28 +65,12 @@ module _ (names : List (List ℕ)) (first second : List ℕ) (one other : ℕ) w
       and-fails (is_same (name_at names one) first) _ (no_number names _ second other so none)
 
 -- a row stays a row, and its bid stays, as names are added
-row-stays : (names more : List (List ℕ)) (name : List ℕ) (number : ℕ)
-    → IsNumber names (name_at names number) number
-    → IsNumber (names ++ more) (name_at (names ++ more) number) number
-row-stays names more name number is =
-    subst (λ (n : List ℕ). IsNumber (names ++ more) n number) (sym (name-stays names more number is.within))
-    (IsNumber-stays names more _ number is)
-
--- so does a number that a name may have
-pub own-stays : (names now : List (List ℕ)) (near : Option ℕ)
-    → Grown names now
-    → IfSome near (IsOwnNumber names)
-    → IfSome near (IsOwnNumber now)
-own-stays names now None grown own = own
-own-stays names now (Some number) grown own =
-    subst (λ (all : List (List ℕ)). IsOwnNumber all number) (sym grown.1) (row-stays names grown.0 [] number own)
-
 module _ (names more : List (List ℕ)) where
   IsBidRow-stays : (row : BidRow) → IsBidRow names row → IsBidRow (names ++ more) row
   IsBidRow-stays row is = record {
-    submitter = row-stays names more [] row.submitter is.submitter;
-    auction = row-stays names more [] row.auction is.auction;
-    bidder = row-stays names more [] row.bidder is.bidder;
+    submitter = IsOwnNumber-stays names more row.submitter is.submitter;
+    auction = IsOwnNumber-stays names more row.auction is.auction;
+    bidder = IsOwnNumber-stays names more row.bidder is.bidder;
   }
 
   bid-stays : (row : BidRow) → IsBidRow names row → bid_in (names ++ more) row ≡ bid_in names row
@@ -151,9 +134,9 @@ pushed names rows are bid one two now first second third submitter auction bidde
     let asked = subst (λ (list : List (List ℕ)). IsNumber list bid.auction auction) (sym third.1)
     (IsNumber-stays two third.0 bid.auction auction told) in
     let is_row : IsBidRow now row = record {
-      submitter = subst (λ (name : List ℕ). IsNumber now name submitter) (sym sent.named) sent;
-      auction = subst (λ (name : List ℕ). IsNumber now name auction) (sym asked.named) asked;
-      bidder = subst (λ (name : List ℕ). IsNumber now name bidder) (sym called.named) called;
+      submitter = IsOwnNumber-is now bid.submitter submitter sent;
+      auction = IsOwnNumber-is now bid.auction auction asked;
+      bidder = IsOwnNumber-is now bid.bidder bidder called;
     } in
     let same : bid_in now row ≡ bid = λ i. record {
       submitter = sent.named i;

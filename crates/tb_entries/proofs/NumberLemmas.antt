@@ -1,5 +1,6 @@
 -- Names and their numbers, as more names are added.
 use Rattle.std.proofs.Common.{◌≡◌, ℕ, ◌<◌, Bool, true, false, not, ◌==◌, nat_lt, Option, Some, None, List, [], ◌∷◌, ◌++◌, inl, inr, refl, sym, ap, ◌∙◌, subst, length, get_or, arith}
+use Rattle.std.specs.Prelude.{IfSome}
 use Rattle.std.specs.List.{position, position_or_len}
 use Rattle.std.proofs.Math.ListN.{get_or-append}
 use Rattle.std.proofs.Math.Seq.{get_or-append_seam}
@@ -10,7 +11,7 @@ use Rattle.std.proofs.lemmas.List.Sums.{prefix_len_stops}
 use Rattle.std.proofs.lemmas.Slice.Eq.{bytes_eq-Decides}
 use Rattle.tb_history.specs.Entries.{is_same}
 use Rattle.tb_index.proofs.PositionLemmas.{position-new, position-short, position-stays}
-use Rattle.tb_entries.specs.Rows.{name_at, IsNumber}
+use Rattle.tb_entries.specs.Rows.{name_at, IsNumber, IsOwnNumber, Grown}
 
 not-false : (b : Bool) → not b ≡ false → b ≡ true
 not-false true is = refl
@@ -54,6 +55,37 @@ IsNumber-stays names more name number is = record {
   named = name-stays names more number is.within ∙ is.named;
   first = stays _ names more number is.first;
 }
+
+-- the number of a name is that of the name that stands there
+pub IsOwnNumber-is : (names : List (List ℕ)) (name : List ℕ) (number : ℕ)
+    → IsNumber names name number
+    → IsOwnNumber names number
+IsOwnNumber-is names name number is = subst (λ (n : List ℕ). IsNumber names n number) (sym is.named) is
+
+-- and stays that
+pub IsOwnNumber-stays : (names more : List (List ℕ)) (number : ℕ)
+    → IsOwnNumber names number
+    → IsOwnNumber (names ++ more) number
+IsOwnNumber-stays names more number own =
+    IsOwnNumber-is (names ++ more) _ number (IsNumber-stays names more _ number own)
+
+-- so does a number that a name may have
+pub own-stays : (names now : List (List ℕ)) (near : Option ℕ)
+    → Grown names now
+    → IfSome near (IsOwnNumber names)
+    → IfSome near (IsOwnNumber now)
+own-stays names now None grown own = own
+own-stays names now (Some number) grown own =
+    subst (λ (all : List (List ℕ)). IsOwnNumber all number) (sym grown.1)
+    (IsOwnNumber-stays names grown.0 number own)
+
+-- and the number of a name that was given before
+pub own-given : (names now : List (List ℕ)) (name : List ℕ) (number : ℕ)
+    → Grown names now
+    → IsNumber names name number
+    → IsOwnNumber now number
+own-given names now name number grown is =
+    own-stays names now (Some number) grown (IsOwnNumber-is names name number is)
 
 -- a name is the one that is sought just where it has the number of it
 pub same_number : (names : List (List ℕ)) (name sought : List ℕ) (number place : ℕ)

@@ -15,17 +15,17 @@ use Rattle.tb_entries.specs.declared.said.Said.{Said}
 use Rattle.tb_entries.specs.declared.said.Said.TheVariants as said
 use Rattle.tb_entries.specs.Rows.{message_of, entry_of, IsNumber, IsSaid, IsRow, Grown}
 use Rattle.tb_entries.proofs.CallerLemmas.{and-swap}
-use Rattle.tb_entries.proofs.NumberLemmas.{name-stays, IsNumber-stays, same_number, no_number}
+use Rattle.tb_entries.proofs.NumberLemmas.{name-stays, IsNumber-stays, IsOwnNumber-is, IsOwnNumber-stays, same_number, no_number}
 
 module _ (names more : List (List ℕ)) (others also : List Message) where
   -- what was said stays as names and messages are added
   pub message-stays : (what : Said) → IsSaid names others what
       → message_of (names ++ more) (others ++ also) what ≡ message_of names others what
   message-stays (said.Bid auction bidder rate amount) is =
-      λ i. message.Bid (name-stays names more auction is.0 i) (name-stays names more bidder is.1 i) rate amount
-  message-stays (said.Cancel auction bid) is = λ i. message.Cancel (name-stays names more auction is i) bid
+      λ i. message.Bid (name-stays names more auction is.0.within i) (name-stays names more bidder is.1 i) rate amount
+  message-stays (said.Cancel auction bid) is = λ i. message.Cancel (name-stays names more auction is.within i) bid
   message-stays (said.Position auction bidder position) is =
-      λ i. message.Position (name-stays names more auction is.0 i) (name-stays names more bidder is.1 i) position
+      λ i. message.Position (name-stays names more auction is.0.within i) (name-stays names more bidder is.1 i) position
   message-stays (said.Transfer cusip to amount) is = λ i. message.Transfer cusip (name-stays names more to is i) amount
   message-stays (said.Pledge cusip to amount) is = λ i. message.Pledge cusip (name-stays names more to is i) amount
   message-stays (said.Release holder pledge amount) is =
@@ -34,10 +34,10 @@ module _ (names more : List (List ℕ)) (others also : List Message) where
 
   pub IsSaid-stays : (what : Said) → IsSaid names others what → IsSaid (names ++ more) (others ++ also) what
   IsSaid-stays (said.Bid auction bidder rate amount) is =
-      (omega (arith, length-append names more, is.0), omega (arith, length-append names more, is.1))
-  IsSaid-stays (said.Cancel auction bid) is = omega (arith, length-append names more, is)
+      (IsOwnNumber-stays names more auction is.0, omega (arith, length-append names more, is.1))
+  IsSaid-stays (said.Cancel auction bid) is = IsOwnNumber-stays names more auction is
   IsSaid-stays (said.Position auction bidder position) is =
-      (omega (arith, length-append names more, is.0), omega (arith, length-append names more, is.1))
+      (IsOwnNumber-stays names more auction is.0, omega (arith, length-append names more, is.1))
   IsSaid-stays (said.Transfer cusip to amount) is = omega (arith, length-append names more, is)
   IsSaid-stays (said.Pledge cusip to amount) is = omega (arith, length-append names more, is)
   IsSaid-stays (said.Release holder pledge amount) is = omega (arith, length-append names more, is)
@@ -55,9 +55,7 @@ module _ (names more : List (List ℕ)) (others also : List Message) where
 
   IsRow-stays : (row : Row) → IsRow names others row → IsRow (names ++ more) (others ++ also) row
   IsRow-stays row is = record {
-    submitter = subst (λ (name : List ℕ). IsNumber (names ++ more) name row.submitter)
-        (sym (name-stays names more row.submitter is.submitter.within))
-        (IsNumber-stays names more _ row.submitter is.submitter);
+    submitter = IsOwnNumber-stays names more row.submitter is.submitter;
     said = IsSaid-stays row.said is.said;
   }
 
@@ -116,7 +114,7 @@ pushed names others rows are entry between now also first second third submitter
     let number = subst (λ (list : List (List ℕ)). IsNumber list entry.submitter submitter) (sym second.1)
     (IsNumber-stays between second.0 entry.submitter submitter numbered) in
     let is_row : IsRow now also row = record {
-      submitter = subst (λ (name : List ℕ). IsNumber now name submitter) (sym number.named) number;
+      submitter = IsOwnNumber-is now entry.submitter submitter number;
       said = is;
     } in
     let same : entry_of now also row ≡ entry =

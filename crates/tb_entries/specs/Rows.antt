@@ -61,11 +61,11 @@ pub record IsNumber (names : List (List ℕ)) (name : List ℕ) (number : ℕ) :
 abbrev pub IsOwnNumber : List (List ℕ) → ℕ → Type 0
 IsOwnNumber names number = IsNumber names (name_at names number) number
 
--- all numbers are of names, and a place is of a message
+-- all numbers are of names, an auction's is the first place of its name, and a place is of a message
 abbrev pub IsSaid : List (List ℕ) → List Message → Said → Type 0
-IsSaid names others (said.Bid auction bidder rate amount) = (auction < length names) × (bidder < length names)
-IsSaid names others (said.Cancel auction bid) = auction < length names
-IsSaid names others (said.Position auction bidder position) = (auction < length names) × (bidder < length names)
+IsSaid names others (said.Bid auction bidder rate amount) = IsOwnNumber names auction × (bidder < length names)
+IsSaid names others (said.Cancel auction bid) = IsOwnNumber names auction
+IsSaid names others (said.Position auction bidder position) = IsOwnNumber names auction × (bidder < length names)
 IsSaid names others (said.Transfer cusip to amount) = to < length names
 IsSaid names others (said.Pledge cusip to amount) = to < length names
 IsSaid names others (said.Release holder pledge amount) = holder < length names

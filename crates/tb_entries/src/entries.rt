@@ -8,7 +8,7 @@ ghost use Rattle.tb_entries.specs.Rows.{entry_of, IsRow, IsOwnNumber};
 use crate::keys::{ByNumber, BySubmitter};
 use crate::names::{self, Names, find_near, number_near, spare_of};
 use crate::row::Row;
-use crate::said::{message_in, said_of};
+use crate::said::{auction_in, message_in, said_of};
 use std::alloc::Global;
 use std::marker::Model;
 use tb_index::{Counted, Named};
@@ -122,9 +122,15 @@ impl Entries {
         ensures list { self.new.list ≡ self.old.list ++ entry.now ∷ [] }
         ensures spare { self.old.spare ≤ self.new.spare + 1 }
     {
-        let near = last_submitter(self.rows.rows());
-        let submitter = number_near(&mut self.names, &entry.submitter, near);
-        let said = said_of(&mut self.names, &mut self.others, &entry.message);
+        let near_submitter = last_submitter(self.rows.rows());
+        let near_auction = last_auction(self.rows.rows());
+        let submitter = number_near(&mut self.names, &entry.submitter, near_submitter);
+        let said = said_of(
+            &mut self.names,
+            &mut self.others,
+            &entry.message,
+            near_auction,
+        );
         self.rows.push(Row {
             submitter,
             number: entry.number,
@@ -155,6 +161,17 @@ fn last_submitter(rows: &[Row]) -> Option<u32>
         return None;
     }
     Some(rows[rows.len() - 1].submitter)
+}
+
+// The number of the auction that the last entry tells, which the next one often tells too.
+fn last_auction(rows: &[Row]) -> Option<u32>
+    ensures { (names : List (List ℕ)) (others : List Message) → All (IsRow names others) rows.now
+        → IfSome result (IsOwnNumber names) }
+{
+    if rows.is_empty() {
+        return None;
+    }
+    auction_in(&rows[rows.len() - 1].said)
 }
 
 fn entry_in(names: &[Ident], others: &[Message], row: &Row) -> Entry

@@ -1,8 +1,9 @@
 //! What an entry says, in few bytes where it is sent often.
-ghost use Rattle.std.specs.Prelude.{◌≡◌, ◌+◌, ◌-◌, ◌<◌, ◌≤◌, ◌^◌, length, vec_len, vec_capacity};
-ghost use Rattle.tb_entries.specs.Rows.{message_of, IsSaid, Grown};
+ghost use Rattle.std.specs.Prelude.{◌≡◌, ◌+◌, ◌-◌, ◌<◌, ◌≤◌, ◌^◌, ℕ, List, length, vec_len, vec_capacity, IfSome};
+ghost use Rattle.tb_message.specs.declared.message.Message.{Message};
+ghost use Rattle.tb_entries.specs.Rows.{message_of, IsSaid, IsOwnNumber, Grown};
 
-use crate::names::{Names, number_of};
+use crate::names::{Names, number_near, number_of};
 use tb_message::Message;
 use tb_terms::Cusip;
 use tb_units::{Dollars, Ident, Rate};
@@ -98,11 +99,31 @@ pub(crate) fn message_in(names: &[Ident], others: &[Message], said: &Said) -> Me
     }
 }
 
-/// What the message says, its names numbered, or kept whole among the others.
-pub(crate) fn said_of(names: &mut Names, others: &mut Vec<Message>, message: &Message) -> Said
+/// The number of the auction that a bid, a cancel or a position was said of.
+pub(crate) fn auction_in(said: &Said) -> Option<u32>
+    ensures { (names : List (List ℕ)) (others : List Message) → IsSaid names others said.now
+        → IfSome result (IsOwnNumber names) }
+{
+    match said {
+        Said::Bid { auction, .. } => Some(*auction),
+        Said::Cancel { auction, .. } => Some(*auction),
+        Said::Position { auction, .. } => Some(*auction),
+        _ => None,
+    }
+}
+
+/// What the message says, its names numbered, or kept whole among the others. The number that its auction may have is
+/// looked at first.
+pub(crate) fn said_of(
+    names: &mut Names,
+    others: &mut Vec<Message>,
+    message: &Message,
+    near: Option<u32>,
+) -> Said
     requires room { 2 ≤ names.old.spare }
     requires few { length names.old.list + 2 ≤ 2 ^ 32 }
     requires other { vec_len others.old < vec_capacity others.old }
+    requires near { IfSome near (IsOwnNumber names.old.list) }
     ensures says { message_of names.new.list others.new.items result ≡ message.now }
     ensures is { IsSaid names.new.list others.new.items result }
     ensures names { Grown names.old.list names.new.list }
@@ -118,7 +139,7 @@ pub(crate) fn said_of(names: &mut Names, others: &mut Vec<Message>, message: &Me
             rate,
             amount,
         } => {
-            let auction = number_of(names, auction);
+            let auction = number_near(names, auction, near);
             let bidder = number_of(names, bidder);
             Said::Bid {
                 auction,
@@ -128,7 +149,7 @@ pub(crate) fn said_of(names: &mut Names, others: &mut Vec<Message>, message: &Me
             }
         }
         Message::Cancel { auction, bid } => Said::Cancel {
-            auction: number_of(names, auction),
+            auction: number_near(names, auction, near),
             bid: *bid,
         },
         Message::Position {
@@ -136,7 +157,7 @@ pub(crate) fn said_of(names: &mut Names, others: &mut Vec<Message>, message: &Me
             bidder,
             position,
         } => {
-            let auction = number_of(names, auction);
+            let auction = number_near(names, auction, near);
             let bidder = number_of(names, bidder);
             Said::Position {
                 auction,

@@ -2,7 +2,8 @@
 use Rattle.std.proofs.Common.{◌<◌, ◌∷◌, ◌++◌, [], sym, ap, subst, ◌∙◌, arith}
 use Rattle.tb_index.specs.Listed.{Listed}
 use Rattle.tb_history.specs.declared.bids.Bid.{Bid}
-use Rattle.tb_entries.proofs.BidLemmas.{Pushed, pushed, own-stays}
+use Rattle.tb_entries.proofs.BidLemmas.{Pushed, pushed}
+use Rattle.tb_entries.proofs.NumberLemmas.{own-stays}
 use Rattle.tb_entries.proofs.bids.Bids.push.Goals as goal
 
 pub number_near-auction-requires-clause-near : goal.number_near-auction-requires-clause-near

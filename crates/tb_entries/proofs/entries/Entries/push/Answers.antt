@@ -2,13 +2,21 @@
 use Rattle.std.proofs.Common.{◌<◌, ◌∷◌, ◌++◌, [], sym, ap, subst, ◌∙◌, arith}
 use Rattle.tb_message.specs.declared.message.Entry.{Entry}
 use Rattle.tb_index.specs.Listed.{Listed}
+use Rattle.tb_entries.proofs.NumberLemmas.{own-stays}
 use Rattle.tb_entries.proofs.RowLemmas.{Pushed, pushed}
 use Rattle.tb_entries.proofs.entries.Entries.push.Goals as goal
 
 pub number_near-submitter-requires-clause-near : goal.number_near-submitter-requires-clause-near
 number_near-submitter-requires-clause-near c =
-    c.last_submitter-near.ensures c.self.inside.names.list c.self.inside.others.items
+    c.last_submitter-near_submitter.ensures c.self.inside.names.list c.self.inside.others.items
     (rw c.rows.ensures c.self.invariant.0)
+
+pub said_of-said-requires-clause-near : goal.said_of-said-requires-clause-near
+said_of-said-requires-clause-near c =
+    own-stays c.self.inside.names.list c.number_near-submitter.new.names.list c.last_auction-near_auction.result
+    c.number_near-submitter.ensures.grown
+    (c.last_auction-near_auction.ensures c.self.inside.names.list c.self.inside.others.items
+    (rw c.rows-2.ensures c.self.invariant.0))
 
 -- what the two numberings and the new row come to
 after : (c : goal.After-push)
