@@ -1,5 +1,5 @@
 //! The host machine.
-ghost use Rattle.std.specs.Prelude.{◌≡◌, ℕ, ℤ, List, ◌+◌, ◌*◌, ◌≤◌, ◌↔◌, true, false, is_some, Some, [], ◌∷◌, ◌++◌, length, slice_get, IfOk, OnOk};
+ghost use Rattle.std.specs.Prelude.{◌≡◌, ℕ, ℤ, List, ◌+◌, ◌*◌, ◌≤◌, ◌↔◌, true, false, is_some, Some, [], ◌∷◌, ◌++◌, length, nat_le, slice_get, IfOk, OnOk};
 ghost use Rattle.std.specs.Option.{option_map};
 ghost use Rattle.tb_units.specs.declared.moment.Moment.{Moment};
 ghost use Rattle.tb_message.specs.declared.message.Entry.{Entry};
@@ -8,7 +8,7 @@ ghost use Rattle.tb_message.specs.declared.query.Query.TheVariants as query;
 ghost use Rattle.tb_terms.specs.Rows.{refusal_in};
 ghost use Rattle.tb_terms.specs.declared.announcement.Announcement.{Announcement};
 ghost use Rattle.tb_history.specs.Roster.{add_on_of, add_ons, announcement_of, announcements, publications, registrations};
-ghost use Rattle.tb_history.specs.Roster.{is_caller, is_published, is_registered};
+ghost use Rattle.tb_history.specs.Roster.{is_caller, is_published, is_registered, sent_by};
 ghost use Rattle.tb_history.specs.Roster as roster;
 ghost use Rattle.tb_history.specs.Tables.{par_rows, rows_of};
 ghost use Rattle.tb_history.specs.Verdict.{is_permitted, verdict_on};
@@ -53,7 +53,8 @@ use tb_refusals::{
 };
 use tb_tables::{
     bill_terms, find_add_on, find_bid, find_submitter, has_bill, has_cancel, has_name,
-    has_submitter, is_enrolled, is_operator, is_same, terms_at, terms_of, unsettled_terms,
+    has_submitter, is_enrolled, is_operator, is_same, number_under, terms_at, terms_of,
+    unsettled_terms,
 };
 use tb_terms::{Announcement, Cusip, EasternDays, Refusal, Terms};
 use tb_units::{Cents, Dollars, Ident, Moment, OutOfMemory, Rate};
@@ -516,13 +517,21 @@ impl Host {
         if let Some(entry) = self.entries.find(submitter, number) {
             return repeated(&entry, message);
         }
-        if self.entries.count(submitter) >= Host::MOST_MESSAGES {
+        if self.has_sent_all(submitter) {
             return Verdict::Refused(Refusal::MessageQuota);
         }
         match self.refusal(submitter, moment, message) {
             Some(refusal) => Verdict::Refused(refusal),
             None => Verdict::Accepted { number, moment },
         }
+    }
+
+    // Whether the submitter has sent as many messages as it may. Nobody has where there are fewer entries.
+    fn has_sent_all(&self, submitter: &Ident) -> bool
+        ensures { result ≡ nat_le 1048576 (sent_by self.now.history submitter.now) }
+    {
+        self.entries.len() >= Host::MOST_MESSAGES
+            && self.entries.count(submitter) >= Host::MOST_MESSAGES
     }
 
     fn is_caller(&self, submitter: &Ident) -> bool
@@ -614,8 +623,8 @@ impl Host {
             (rows_of self.now.history sender.now moment (message.Bid auction.now bidder.now rate amount)) }
     {
         let terms = terms_of(&self.tables.auctions, auction);
-        let enrolled = is_enrolled(&self.tables.bidders, bidder, sender);
-        let own = own_of(&self.tables, auction, bidder);
+        let (number, enrolled) = number_under(&self.tables.bidders, bidder, sender);
+        let own = own_of(&self.tables, auction, bidder, number);
         bid_refusal(terms, enrolled, &own, moment, rate, amount)
     }
 

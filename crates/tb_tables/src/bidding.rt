@@ -83,7 +83,8 @@ pub fn few_bids(bids: &Bids, auction: &Ident, bidder: &Ident) -> u32
 pub fn has_report(reports: &Reports, auction: &Ident, bidder: &Ident) -> bool
     ensures { result ≡ standing.has_report reports.now.list auction.now bidder.now }
 {
-    reports.has(&(*bidder, *auction))
+    // Often nobody has reported, and then no names are hashed.
+    !reports.rows().is_empty() && reports.has(&(*bidder, *auction))
 }
 
 /// The bidder's reported position in the auction, in whole dollars: that of its last report, and 0 where there is none.

@@ -26,5 +26,5 @@ pub use keys::{ByBidder, ByBill, ByDay, ByKey, ByName, ByNumber};
 pub use names::{Names, has_name, is_operator, is_same};
 pub use roster::{
     Bidders, Bills, Holidays, Submitters, find_enrolment, find_submitter, has_bill, has_holiday,
-    has_name_or_key, has_submitter, is_enrolled, number_of, place_of_bidder,
+    has_name_or_key, has_submitter, is_enrolled, number_of, number_under, place_of_bidder,
 };

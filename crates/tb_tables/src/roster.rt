@@ -85,6 +85,21 @@ pub fn is_enrolled(bidders: &Bidders, bidder: &Ident, submitter: &Ident) -> bool
     }
 }
 
+/// The bidder's number, and whether it bids through this submitter, by one look-up.
+pub fn number_under(bidders: &Bidders, bidder: &Ident, submitter: &Ident) -> (u32, bool)
+    requires { length bidders.now.list < 2 ^ 32 }
+    ensures number { result.0 ≡ place_of bidders.now.list bidder.now }
+    ensures under { result.1 ≡ is_under submitter.now (enrolment_of bidders.now.list bidder.now) }
+{
+    match place_of_bidder(bidders, bidder) {
+        Some(place) => {
+            let found = bidders.rows()[place];
+            (place as u32, is_same(&found.submitter, submitter))
+        }
+        None => (bidders.rows().len() as u32, false),
+    }
+}
+
 /// Whether the day is entered as a holiday.
 pub fn has_holiday(holidays: &Holidays, day: Day) -> bool
     ensures { result ≡ is_entered holidays.now.list day }
