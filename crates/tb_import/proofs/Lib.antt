@@ -4,4 +4,5 @@ pub mod FieldLemmas
 pub mod OneTableLemmas
 pub mod ReadLemmas
 pub mod RowLemmas
+pub mod SentLemmas
 pub mod TableLemmas

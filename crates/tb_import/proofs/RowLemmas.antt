@@ -1,12 +1,9 @@
 -- One row more.
-use Rattle.std.proofs.Common.{◌≡◌, ℕ, List, [], ◌∷◌, ◌++◌, true, false, Some, refl, ◌∙◌, sym, map}
+use Rattle.std.proofs.Common.{◌≡◌, List, [], ◌∷◌, ◌++◌, refl}
 use Rattle.std.specs.Prelude.{fold}
-use Rattle.std.specs.List.{list_any}
-use Rattle.std.proofs.lemmas.List.{map-append}
 use Rattle.indexmap.specs.IndexSet.{insert_key}
-use Rattle.tb_message.specs.declared.message.Message.{Message}
 use Rattle.tb_import.specs.declared.row.Row.{Row}
-use Rattle.tb_import.specs.Rows.{Fields, AreRowsOf, IsRowOf, first_seen, row_of, same_row}
+use Rattle.tb_import.specs.Rows.{Fields, AreRowsOf, IsRowOf, first_seen, same_row}
 
 -- the rows of one record more
 pub AreRowsOf-append : (records : List Fields) (rows : List Row) (fields : Fields) (row : Row)
@@ -29,20 +26,3 @@ kept-append kept (r ∷ rows) row = kept-append (insert_key same_row kept r) row
 pub first_seen-append : (rows : List Row) (row : Row)
     → first_seen (rows ++ row ∷ []) ≡ insert_key same_row (first_seen rows) row
 first_seen-append rows row = kept-append [] rows row
-
--- a row that was seen leaves what is kept
-pub in_step-seen : (keys : List Row) (sent : List (ℕ × Message)) (row : Row)
-    → map row_of sent ≡ map Some keys
-    → list_any (same_row row) keys ≡ true
-    → map row_of sent ≡ map Some (insert_key same_row keys row)
-in_step-seen keys sent row step seen = rw (seen) step
-
--- a row that wasn't seen is kept with its message
-pub in_step-new : (keys : List Row) (sent : List (ℕ × Message)) (row : Row) (message : Message)
-    → map row_of sent ≡ map Some keys
-    → list_any (same_row row) keys ≡ false
-    → row_of (row.number, message) ≡ Some row
-    → map row_of (sent ++ (row.number, message) ∷ []) ≡ map Some (insert_key same_row keys row)
-in_step-new keys sent row message step new is =
-    rw (new) (map-append row_of sent ((row.number, message) ∷ [])
-    ∙ rw (step, is) (sym (map-append Some keys (row ∷ []))))

@@ -2,29 +2,31 @@
 use Rattle.std.proofs.Common.{Bor, ◌≡◌, ◌≢◌, ℕ, ◌+◌, ◌≤◌, List, [], ◌∷◌, ◌++◌, length}
 use Rattle.std.proofs.Common.{map, Some, refl, ap, ◌∙◌, sym, inl, inr, arith}
 use Rattle.std.specs.Prelude.{◌⊎◌}
+use Rattle.std.specs.List.{All}
 use Rattle.csv.specs.declared.reader.Reader.{Reader}
-use Rattle.tb_message.specs.declared.message.Message.{Message}
 use Rattle.tb_import.specs.declared.row.Row.{Row}
-use Rattle.tb_import.specs.Rows.{Fields, AreRowsOf, IsRowOf, first_seen, row_of}
+use Rattle.tb_import.specs.Rows.{Fields, AreRowsOf, IsRowOf, first_seen}
+use Rattle.tb_import.specs.Sent.{IsInRange, sent_of}
 use Rattle.tb_import.specs.Tables.{AreRecordsOf, HasRead, IsFirstBad, IsTable, header, most_bytes}
+use Rattle.tb_import.proofs.SentLemmas.{row_of-bids}
 
--- where the records end, the messages kept are those of the table
-pub table_ends : (bytes : List ℕ) (records : List Fields) (rows keys : List Row) (sent : List (ℕ × Message))
+-- where the records end, the bids of the rows kept are those of the table
+pub table_ends : (bytes : List ℕ) (records : List Fields) (rows keys : List Row)
     → length bytes ≤ most_bytes
     → length records + 2 ≤ 1000001
     → AreRecordsOf bytes (header ∷ records)
     → AreRowsOf records rows
     → keys ≡ first_seen rows
-    → map row_of sent ≡ map Some keys
-    → IsTable bytes sent
-table_ends bytes records rows keys sent few small all read kept step = record {
+    → All IsInRange keys
+    → IsTable bytes (map sent_of keys)
+table_ends bytes records rows keys few small all read kept within = record {
   records = records;
   rows = rows;
   few_bytes = few;
   few_rows = omega (arith, small);
   all = all;
   read = read;
-  distinct = step ∙ ap (λ (k : List Row). map Some k) kept;
+  distinct = row_of-bids keys within ∙ ap (λ (k : List Row). map Some k) kept;
 }
 
 -- the record that was read last is the first bad one, where it is no row or one too many

@@ -1,17 +1,24 @@
 //! The call that reads a table.
-ghost use Rattle.std.specs.Prelude.{◌≡◌, ◌≤◌, [], ◌∷◌, length, map, Some, IfOk, IfErr, OnOk};
+ghost use Rattle.std.specs.Prelude.{◌≡◌, ◌≤◌, [], ◌∷◌, length, IfOk, OnOk};
 ghost use Rattle.indexmap.specs.IndexSet.{insert_key};
-ghost use Rattle.tb_import.specs.Rows.{first_seen, row_of, same_row};
-ghost use Rattle.tb_import.specs.Tables.{HasRead, IsFirstBad, IsTable, header, most_bytes};
-ghost use Rattle.tb_import.specs.Answers.{AnswersTable, AreInStep};
+ghost use Rattle.tb_import.specs.Rows.{same_row};
+ghost use Rattle.tb_import.specs.Tables.{HasRead, header, most_bytes, most_rows};
+ghost use Rattle.tb_import.specs.Answers.{AnswersBids, AnswersTable};
 
 use crate::records::{is_header, next, open};
 use crate::row::{Row, read_row};
+use crate::table::BidTable;
 use csv::{ByteRecord, Reader};
 use indexmap::IndexSet;
 use std::alloc::Global;
 use tb_message::Message;
 use tb_units::OutOfMemory;
+
+// Rows of a table, at most.
+const MOST_ROWS: usize = 999_999;
+
+// Bytes of a text whose lines are counted.
+const FRONT: usize = 65_536;
 
 /// Why a table isn't read.
 #[derive(Clone, Copy, Debug, PartialEq, Eq)]
@@ -33,33 +40,11 @@ impl From<OutOfMemory> for ImportFault {
     }
 }
 
-// The rows that were seen, and the messages of them.
-#[derive(Drop)]
-struct Rows {
-    seen: IndexSet<Row>,
-    sent: Vec<(u64, Message)>,
-}
-
-impl Rows {
-    // Keeps a row where it is the first of its kind.
-    fn add(&mut self, row: Row, message: Message) -> Result<(), OutOfMemory>
-        ensures { OnOk result (AreInStep self.old → row_of (row.number, message) ≡ Some row
-            → AreInStep self.new × (self.new.seen.keys ≡ insert_key same_row self.old.seen.keys row)) }
-    {
-        let number = row.number;
-        let (_, is_new) = self.seen.insert_full(row)?;
-        if is_new {
-            self.sent.push((number, message))?;
-        }
-        Ok(())
-    }
-}
-
-/// The messages of a table of bids, with their senders' numbers, in the order of its rows; equal rows count once.
+/// The bids of a table of bids, under their senders' numbers, in the order of its rows; equal rows count once.
 ///
 /// A table has at most 134,217,728 bytes and 999,999 rows, of five fields each.
-pub fn read_bids(alloc: Global, bytes: &[u8]) -> Result<Vec<(u64, Message)>, ImportFault>
-    ensures { AnswersTable bytes.now result }
+pub fn read_table(alloc: Global, bytes: &[u8]) -> Result<BidTable, ImportFault>
+    ensures { AnswersBids bytes.now result }
 {
     if bytes.len() > 134_217_728 {
         return Err(ImportFault::BadRecord(1));
@@ -76,34 +61,67 @@ pub fn read_bids(alloc: Global, bytes: &[u8]) -> Result<Vec<(u64, Message)>, Imp
     read_rows(alloc, bytes, reader, fields)
 }
 
+/// The bids of such a table as a vector, which takes nearly twice the memory of the table.
+pub fn read_bids(alloc: Global, bytes: &[u8]) -> Result<Vec<(u64, Message)>, ImportFault>
+    ensures { AnswersTable bytes.now result }
+{
+    let table = read_table(alloc, bytes)?;
+    let bids = table.bids(alloc)?;
+    Ok(bids)
+}
+
 // The rows behind the header.
 fn read_rows(
     alloc: Global,
     bytes: &[u8],
     mut reader: Reader<&[u8]>,
     mut fields: ByteRecord,
-) -> Result<Vec<(u64, Message)>, ImportFault>
+) -> Result<BidTable, ImportFault>
     requires few { length bytes.now ≤ most_bytes }
     requires begun { HasRead bytes.now (header ∷ []) reader }
-    ensures { AnswersTable bytes.now result }
+    ensures { AnswersBids bytes.now result }
 {
-    let mut rows = Rows {
-        seen: IndexSet::new(alloc),
-        sent: Vec::new(alloc),
-    };
+    let mut rows = no_rows(alloc, bytes)?;
     for place in 2..1_000_001u64 {
         let found = next(&mut reader, &mut fields)?;
         if !found {
-            return Ok(rows.sent);
+            return Ok(BidTable::of(rows));
         }
-        let Some((row, message)) = read_row(&fields) else {
+        let Some(row) = read_row(&fields) else {
             return Err(ImportFault::BadRecord(place));
         };
-        rows.add(row, message)?;
+        add(&mut rows, row)?;
     }
     let more = next(&mut reader, &mut fields)?;
     if more {
         return Err(ImportFault::BadRecord(1_000_001));
     }
-    Ok(rows.sent)
+    Ok(BidTable::of(rows))
+}
+
+// No rows, with room for those that the text seems to have, so that the set isn't moved again and again as it grows.
+fn no_rows(alloc: Global, bytes: &[u8]) -> Result<IndexSet<Row>, OutOfMemory>
+    requires { length bytes.now ≤ most_bytes }
+    ensures { IfOk result (λ rows. rows.keys ≡ []) }
+{
+    let rows = IndexSet::with_capacity(alloc, likely_rows(bytes))?;
+    Ok(rows)
+}
+
+// How many rows a text has whose lines are as long as those of its front; at most as many as a table may have.
+fn likely_rows(bytes: &[u8]) -> usize
+    requires { length bytes.now ≤ most_bytes }
+    ensures { result ≤ most_rows }
+{
+    let front = &bytes[..bytes.len().min(FRONT)];
+    let lines = front.iter().filter(|byte| **byte == b'\n').count();
+    (lines * (bytes.len() / FRONT + 1)).min(MOST_ROWS)
+}
+
+// Keeps a row where it is the first of its kind.
+fn add(rows: &mut IndexSet<Row>, row: Row) -> Result<(), OutOfMemory>
+    ensures { OnOk result (rows.new.keys ≡ insert_key same_row rows.old.keys row) }
+{
+    rows.insert(row)?;
+    Ok(())
 }

@@ -3,7 +3,7 @@ use std::alloc::{AllocError, Global};
 use std::process::Abort;
 use std::test::Fail;
 use tb_history::{AddOnLine, AwardLine, Awards, HoldingLine, Holdings, Listing};
-use tb_import::{ImportFault, export_awards, export_holdings, read_bids};
+use tb_import::{BidTable, ImportFault, export_awards, export_holdings, read_bids, read_table};
 use tb_message::Message;
 use tb_terms::Cusip;
 use tb_units::{Cents, Dollars, Ident, Rate};
@@ -47,6 +47,41 @@ fn equal_rows_count_once(rt: HostRuntime) {
     let table =
         b"number,auction,bidder,rate,amount\n7,bill13,fund1,4.300,100\n7,bill13,fund1,4.3,100\n8,bill13,fund1,,100\n";
     assert!(rt; has_both(&rt, table));
+}
+
+// So many bids of a table from a place on, in a buffer that had others.
+fn run_of<R: AllocGlobal + Abort>(
+    rt: &R,
+    table: &BidTable,
+    place: usize,
+    most: usize,
+) -> Vec<(u64, Message)> {
+    let mut run = Vec::with_capacity(rt.alloc(), most).expect(rt, "memory");
+    table.put_run(0, most, &mut run);
+    table.put_run(place.min(table.len()), most, &mut run);
+    run
+}
+
+#[test]
+fn a_table_gives_its_bids_run_by_run(rt: HostRuntime) {
+    let text =
+        b"number,auction,bidder,rate,amount\n7,bill13,fund1,4.300,100\n7,bill13,fund1,4.3,100\n8,bill13,fund1,,100\n";
+    let table = read_table(rt.alloc(), text).expect(&rt, "a table");
+    assert!(rt; table.len() == 2);
+    let both = [
+        (7, bid(&rt, Some(Rate { steps: 860 }))),
+        (8, bid(&rt, None)),
+    ];
+    let whole = run_of(&rt, &table, 0, 64);
+    assert!(rt; whole.as_slice() == both.as_slice());
+    let first = [(7, bid(&rt, Some(Rate { steps: 860 })))];
+    let front = run_of(&rt, &table, 0, 1);
+    assert!(rt; front.as_slice() == first.as_slice());
+    let second = [(8, bid(&rt, None))];
+    let rest = run_of(&rt, &table, 1, 64);
+    assert!(rt; rest.as_slice() == second.as_slice());
+    let none = run_of(&rt, &table, 2, 64);
+    assert!(rt; none.is_empty());
 }
 
 #[test]

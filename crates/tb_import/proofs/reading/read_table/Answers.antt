@@ -1,7 +1,7 @@
 use Rattle.std.proofs.Common.{[]}
 use Rattle.csv.specs.Records.{fields_of}
 use Rattle.tb_import.proofs.TableLemmas.{bad_header, no_record}
-use Rattle.tb_import.proofs.reading.read_bids.Goals as goal
+use Rattle.tb_import.proofs.reading.read_table.Goals as goal
 
 pub returns-then-not-found : goal.returns-then-not-found
 returns-then-not-found c =
