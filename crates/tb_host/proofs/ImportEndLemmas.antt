@@ -1,7 +1,6 @@
 -- How an import ends.
-use Rattle.std.proofs.Common.{◌≡◌, ℕ, List, [], ◌∷◌, ◌++◌, take, Some, inl, inr, refl, subst, sym}
+use Rattle.std.proofs.Common.{◌≡◌, ℕ, List, [], ◌∷◌, ◌++◌, take, Some, inl, inr, refl, subst}
 use Rattle.std.specs.Prelude.{Result, Ok, Err}
-use Rattle.std.specs.Global.{Vec}
 use Rattle.tb_link.specs.Sources.{SourceState}
 use Rattle.tb_link.specs.Sinks.{SinkState}
 use Rattle.tb_gates.specs.Clocks.{ClockState}
@@ -27,15 +26,12 @@ use Rattle.tb_host.proofs.GrownLemmas.{HasGrown-both}
 use Rattle.tb_host.proofs.ImportLemmas.{import-grown}
 use Rattle.tb_import.proofs.OneTableLemmas.{never_both}
 
--- the rows that were read, as a list that is theirs
-pub rows-read : (input input' : SourceState) (result : Result (Vec SentRow) TextEnding) (rows : Vec SentRow)
-    (items : List SentRow)
+-- the rows that were read
+pub rows-read : (input input' : SourceState) (result : Result (List SentRow) TextEnding) (rows : List SentRow)
     → result ≡ Ok rows
-    → items ≡ rows.items
     → AnswersInput input input' result
-    → HasRows input input' items
-rows-read input input' result rows items is same answers =
-    subst (HasRows input input') (sym same) (subst (AnswersInput input input') is answers)
+    → HasRows input input' rows
+rows-read input input' result rows is answers = subst (AnswersInput input input') is answers
 
 module _ (sender : Sender) (clock clock' : ClockState) (input input' : SourceState) (out out' : SinkState)
     (first last : Standing) where

@@ -1,7 +1,7 @@
 -- Rows that are sent run by run.
-use Rattle.std.proofs.Common.{◌≡◌, ◌≢◌, ℕ, ◌≤◌, List, [], ◌∷◌, ◌++◌, length, take, drop, Option, Some, None, Bool, true, false, true≢false, eqb-true, inl, inr, sym, subst, ap, ◌∙◌, refl, arith, append_assoc, append-nil}
-use Rattle.std.specs.Prelude.{◌==◌, min}
-use Rattle.std.proofs.lemmas.List.{drop_min, nil_from_length, take_min}
+use Rattle.std.proofs.Common.{◌≡◌, ◌≢◌, ℕ, ◌+◌, ◌<◌, ◌≤◌, List, [], ◌∷◌, ◌++◌, length, take, drop, Option, Some, None, inl, inr, sym, subst, ap, ◌∙◌, refl, arith, append_assoc, append-nil, length-drop}
+use Rattle.std.specs.Prelude.{min}
+use Rattle.std.proofs.lemmas.List.{drop-drop, drop_min, length-take}
 use Rattle.std.proofs.lemmas.List.Elements.{All-drop, All-take}
 use Rattle.tb_link.specs.Counts.{NeverFalls, Rose}
 use Rattle.tb_link.specs.Sinks.{SinkState, Takes, after_taken}
@@ -171,50 +171,45 @@ AreSent-caller caller name clock clock' moment run old new text replies is reads
     subst (λ (who : Option (List ℕ)). AreSent who clock clock' run old text new) (sym is)
     (moment, reads, replies, turn, lines)
 
--- where the rows that are left aren't empty there is one
-pub some-left : (rest : List SentRow) (empty : Bool)
-    → empty ≡ (length rest == 0)
-    → empty ≡ false
-    → 1 ≤ length rest
-some-left [] empty is some = absurd (true≢false (sym is ∙ some))
-some-left (row ∷ rows) empty is some = omega arith
+-- before the end of the rows one is left
+pub some-left : (rows : List SentRow) (place : ℕ) → place < length rows → 1 ≤ length (drop place rows)
+some-left rows place within = omega (arith, length-drop place rows)
 
--- else there is none
-pub none-left : (rest : List SentRow) (empty : Bool) → empty ≡ (length rest == 0) → empty ≡ true → rest ≡ []
-none-left rest empty is none = nil_from_length rest (eqb-true (length rest) 0 (sym is ∙ none))
+-- a run is taken, and behind it are the rows that are left
+pub behind-run : (rows run : List SentRow) (place : ℕ)
+    → run ≡ take longest_run (drop place rows)
+    → drop longest_run (drop place rows) ≡ drop (place + length run) rows
+behind-run rows run place is =
+    let rest = drop place rows in
+    let size : length run ≡ min longest_run (length rest) =
+    ap length is ∙ length-take longest_run rest in
+    sym (drop_min longest_run rest)
+    ∙ (ap (λ (n : ℕ). drop n rest) (sym size) ∙ drop-drop (length run) place rows)
 
--- a run is split off
-pub split-run : (rest run others : List SentRow) (most : ℕ)
-    → most ≡ min longest_run (length rest)
-    → run ≡ take most rest
-    → others ≡ drop most rest
-    → (run ≡ take longest_run rest) × (others ≡ drop longest_run rest)
-split-run rest run others most is front back = (
-  front ∙ (ap (λ (n : ℕ). take n rest) is ∙ take_min longest_run rest),
-  back ∙ (ap (λ (n : ℕ). drop n rest) is ∙ drop_min longest_run rest),
-)
+-- which has no more rows than there are, and one at least
+pub run-size : (rows run : List SentRow) (place : ℕ)
+    → place < length rows
+    → run ≡ take longest_run (drop place rows)
+    → (1 ≤ length run) × (length run ≤ longest_run) × (place + length run ≤ length rows)
+run-size rows run place within is =
+    let size : length run ≡ min longest_run (length (drop place rows)) =
+    ap length is ∙ length-take longest_run (drop place rows) in
+    let left = length-drop place rows in
+    (omega (arith, within, size, left), omega (arith, size), omega (arith, within, size, left))
 
--- the rows that are left can be sent as those before them
-pub left-sendable : (rest others : List SentRow)
-    → others ≡ drop longest_run rest
-    → AreBids rest × AreNumbered rest
-    → AreBids others × AreNumbered others
-left-sendable rest others is sendable = (
-  subst AreBids (sym is) (All-drop (λ (asked : SentRow). IsBid asked.1) longest_run rest sendable.0),
-  subst AreNumbered (sym is)
-      (All-drop (λ (asked : SentRow). IsNumbered asked.0 asked.1) longest_run rest sendable.1),
-)
-
--- and so can those of the run
-pub run-sendable : (rest run : List SentRow)
-    → run ≡ take longest_run rest
-    → AreBids rest × AreNumbered rest
+-- and whose rows can be sent as all of them
+pub run-sendable : (rows run : List SentRow) (place : ℕ)
+    → run ≡ take longest_run (drop place rows)
+    → AreBids rows × AreNumbered rows
     → AreBids run × AreNumbered run
-run-sendable rest run is sendable = (
-  subst AreBids (sym is) (All-take (λ (asked : SentRow). IsBid asked.1) longest_run rest sendable.0),
-  subst AreNumbered (sym is)
-      (All-take (λ (asked : SentRow). IsNumbered asked.0 asked.1) longest_run rest sendable.1),
-)
+run-sendable rows run place is sendable =
+    let IsSent : SentRow → Type 0 = λ asked. IsBid asked.1 in
+    let Numbered : SentRow → Type 0 = λ asked. IsNumbered asked.0 asked.1 in (
+      subst AreBids (sym is)
+          (All-take IsSent longest_run (drop place rows) (All-drop IsSent place rows sendable.0)),
+      subst AreNumbered (sym is)
+          (All-take Numbered longest_run (drop place rows) (All-drop Numbered place rows sendable.1)),
+    )
 
 -- Rows of which the first were sent, and their text was taken.
 module _ (sender : Sender) (clock : ClockState) (rows : List SentRow) (first : Standing) (out : SinkState) where

@@ -1,6 +1,5 @@
 -- A table of bids that is read from the input.
 use Rattle.std.specs.Prelude.{◌≡◌, ◌⊎◌, ℕ, ◌<◌, List, [], ◌++◌, length, Some, Result, Ok, Err, ⊤}
-use Rattle.std.specs.Global.{Vec}
 use Rattle.tb_link.specs.Counts.{Rose}
 use Rattle.tb_link.specs.Sources.{SourceState}
 use Rattle.tb_message.specs.declared.message.Message.{Message}
@@ -25,8 +24,8 @@ pub record HasRows (input input' : SourceState) (rows : List (ℕ × Message)) :
   pub numbered : AreNumbered rows
 
 -- the rows of the input, or how the command ends without them
-abbrev pub AnswersInput : SourceState → SourceState → Result (Vec (ℕ × Message)) TextEnding → Type 0
-AnswersInput input input' (Ok rows) = HasRows input input' rows.items
+abbrev pub AnswersInput : SourceState → SourceState → Result (List (ℕ × Message)) TextEnding → Type 0
+AnswersInput input input' (Ok rows) = HasRows input input' rows
 AnswersInput input input' (Err (ending.BadInput number)) =
     ReadsWithoutFault input input' (λ bytes. IsFirstBad bytes number)
 AnswersInput input input' (Err ending.ReadFault) = Rose input.faults input'.faults

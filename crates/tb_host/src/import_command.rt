@@ -26,6 +26,7 @@ use std::alloc::Global;
 use tb_desk::{Desk, GroupReply};
 use tb_disk::Disk;
 use tb_gates::Clock;
+use tb_import::BidTable;
 use tb_link::{Sink, Source};
 use tb_message::{Message, Verdict, verdict_line};
 use tb_terms::Refusal;
@@ -85,7 +86,7 @@ fn import_table<D: Disk, C: Clock, I: Source, O: Sink>(
         × ((O.sink out.new).faults ≡ (O.sink out.old).faults) }
 {
     match read_table(alloc, input) {
-        Ok(rows) => send_rows(alloc, desk, sender, &rows, out, clock),
+        Ok(table) => send_rows(alloc, desk, sender, &table, out, clock),
         Err(ending) => ending,
     }
 }
@@ -95,28 +96,31 @@ fn send_rows<D: Disk, C: Clock, O: Sink>(
     alloc: Global,
     desk: &mut Desk<D>,
     sender: &Sender,
-    rows: &[(u64, Message)],
+    table: &BidTable,
     out: &mut O,
     clock: &mut C,
 ) -> TextEnding
-    requires bids { AreBids rows.now }
-    requires numbered { AreNumbered rows.now }
-    ensures ends { RowsEnd sender.now (C.clock clock.old) (C.clock clock.new) rows.now result
+    requires bids { AreBids table.now }
+    requires numbered { AreNumbered table.now }
+    ensures ends { RowsEnd sender.now (C.clock clock.old) (C.clock clock.new) table.now result
         (O.sink out.old) (O.sink out.new)
         (standing (D.disk desk.old.disk) desk.old) (standing (D.disk desk.new.disk) desk.new) }
     ensures grown { HasGrown (standing (D.disk desk.old.disk) desk.old) (standing (D.disk desk.new.disk) desk.new) }
     ensures kept { (desk.new.opened ≡ desk.old.opened) × (desk.new.recovered ≡ desk.old.recovered) }
 {
+    let Ok(mut run) = Vec::with_capacity(alloc, LONGEST_RUN) else {
+        return TextEnding::OutOfMemory;
+    };
     let Ok(mut text) = Vec::with_capacity(alloc, LONGEST_TEXT) else {
         return TextEnding::OutOfMemory;
     };
-    let mut rest = rows;
-    while !rest.is_empty() {
-        let (run, others) = rest.split_at(rest.len().min(LONGEST_RUN));
-        if let Some(ending) = send_run(desk, sender, run, &mut text, out, clock) {
+    let mut place = 0;
+    while place < table.len() {
+        table.put_run(place, LONGEST_RUN, &mut run);
+        if let Some(ending) = send_run(desk, sender, &run, &mut text, out, clock) {
             return ending;
         }
-        rest = others;
+        place += run.len();
     }
     TextEnding::Done
 }

@@ -9,34 +9,34 @@ use Rattle.tb_host.proofs.import_command.import_table.Goals as goal
 pub send_rows-requires-clause-bids : goal.send_rows-requires-clause-bids
 send_rows-requires-clause-bids g c =
     let has = rows-read (g.I.Source.source c.args.input.now) (g.I.Source.source c.read_table.new.input)
-    c.read_table.result c.in-Ok.rows c.deref.result.now c.in-Ok.is c.deref.ensures.value c.read_table.ensures.answers in
+    c.read_table.result c.in-Ok.table c.in-Ok.is c.read_table.ensures.answers in
     has.bids
 
 pub send_rows-requires-clause-numbered : goal.send_rows-requires-clause-numbered
 send_rows-requires-clause-numbered g c =
     let has = rows-read (g.I.Source.source c.args.input.now) (g.I.Source.source c.read_table.new.input)
-    c.read_table.result c.in-Ok.rows c.deref.result.now c.in-Ok.is c.deref.ensures.value c.read_table.ensures.answers in
+    c.read_table.result c.in-Ok.table c.in-Ok.is c.read_table.ensures.answers in
     has.numbered
 
 pub returns-in-Ok-clause-ends : goal.returns-in-Ok-clause-ends
 returns-in-Ok-clause-ends g c =
     let has = rows-read (g.I.Source.source c.args.input.now) (g.I.Source.source c.read_table.new.input)
-    c.read_table.result c.in-Ok.rows c.deref.result.now c.in-Ok.is c.deref.ensures.value c.read_table.ensures.answers in
+    c.read_table.result c.in-Ok.table c.in-Ok.is c.read_table.ensures.answers in
     TableEnds-rows c.args.sender.now (g.C.Clock.clock c.args.clock.now) (g.C.Clock.clock c.send_rows.new.clock)
     (g.I.Source.source c.args.input.now) (g.I.Source.source c.read_table.new.input) (g.O.Sink.sink c.args.out.now)
     (g.O.Sink.sink c.send_rows.new.out)
     (standing (g.D.Disk.disk c.args.desk.now.disk) c.args.desk.now)
-    (standing (g.D.Disk.disk c.send_rows.new.desk.disk) c.send_rows.new.desk) c.send_rows.result c.deref.result.now has
+    (standing (g.D.Disk.disk c.send_rows.new.desk.disk) c.send_rows.new.desk) c.send_rows.result c.in-Ok.table has
     c.send_rows.ensures.ends
 
 pub returns-in-Ok-clause-no_fault : goal.returns-in-Ok-clause-no_fault
 returns-in-Ok-clause-no_fault g c = λ is.
     let has = rows-read (g.I.Source.source c.args.input.now) (g.I.Source.source c.read_table.new.input)
-    c.read_table.result c.in-Ok.rows c.deref.result.now c.in-Ok.is c.deref.ensures.value
+    c.read_table.result c.in-Ok.table c.in-Ok.is
     c.read_table.ensures.answers in (
       has.table.no_fault,
       rows-no_fault c.args.sender.now (g.C.Clock.clock c.args.clock.now) (g.C.Clock.clock c.send_rows.new.clock)
-          c.deref.result.now c.send_rows.result (g.O.Sink.sink c.args.out.now) (g.O.Sink.sink c.send_rows.new.out)
+          c.in-Ok.table c.send_rows.result (g.O.Sink.sink c.args.out.now) (g.O.Sink.sink c.send_rows.new.out)
           (standing (g.D.Disk.disk c.args.desk.now.disk) c.args.desk.now)
           (standing (g.D.Disk.disk c.send_rows.new.desk.disk) c.send_rows.new.desk) c.send_rows.ensures.ends is,
     )
