@@ -11,6 +11,7 @@ pub mod NameLemmas
 pub mod SameLemmas
 pub mod BookLemmas
 pub mod ReadLemmas
+pub mod TextLineLemmas
 pub mod TallyLemmas
 pub mod NumberingLemmas
 pub mod AwardLemmas

@@ -11,6 +11,7 @@ pub mod Reads
 pub mod BookFaults
 pub mod Bids
 pub mod SoundLines
+pub mod TextLines
 pub mod Tallies
 pub mod BookRun
 pub mod AwardTexts

@@ -33,17 +33,17 @@ use Rattle.tb_host.specs.declared.text_book.TextBook.{TextBook}
 abbrev pub is_competitive_way : Way → Bool
 is_competitive_way way.Open = false
 is_competitive_way way.Competitive = true
-is_competitive_way (way.Noncompetitive sum) = false
+is_competitive_way (way.Noncompetitive dollars) = false
 
 abbrev pub is_noncompetitive_way : Way → Bool
 is_noncompetitive_way way.Open = false
 is_noncompetitive_way way.Competitive = false
-is_noncompetitive_way (way.Noncompetitive sum) = true
+is_noncompetitive_way (way.Noncompetitive dollars) = true
 
 abbrev pub sum_of_way : Way → ℕ
 sum_of_way way.Open = 0
 sum_of_way way.Competitive = 0
-sum_of_way (way.Noncompetitive sum) = sum.value
+sum_of_way (way.Noncompetitive dollars) = dollars
 
 -- the way says how the bidder bids in these entries
 pub record IsWayOf (entries : List Numbered) (bidder : ℕ) (way : Way) : Type 0 where

@@ -39,11 +39,12 @@ ghost use Rattle.tb_host.specs.Tallies.{IsKept, sum_of_way};
 ghost use Rattle.tb_host.specs.AwardTexts.{HasCutText, HasNothingText, HasAmounts};
 
 use crate::text_book::TextBook;
+use crate::text_line::{OrderedLines, TextLine};
 use crate::way::Way;
 use std::alloc::Global;
-use tb_award::{Cut, Outcome, Recognised, SortedLines, award, cut, recognise_uncounted, sought};
+use tb_award::{Cut, Outcome, Recognised, award, cut, recognise_uncounted, sought};
 use tb_price::payment;
-use tb_units::{Cents, Dollars, Ident, OutOfMemory, Price, RateLine};
+use tb_units::{Cents, Dollars, Ident, OutOfMemory, Price};
 
 /// The lines `high`, `allotted` and `price` of the book's auction, or `no awards`, and where it is asked for in full a
 /// line for each bidder.
@@ -70,7 +71,7 @@ pub fn award_text(alloc: Global, book: TextBook, full: bool) -> Result<Vec<u8>, 
 // What is recognised of the competitive bids.
 fn recognise_lines(
     alloc: Global,
-    lines: Vec<RateLine>,
+    lines: Vec<TextLine>,
     positions: &[i64],
     offering: Dollars,
 ) -> Result<Recognised, OutOfMemory>
@@ -80,8 +81,8 @@ fn recognise_lines(
         recognised.lines) }
     ensures within { IfOk result (λ recognised. total_of recognised.lines ≤ total_of lines.items) }
 {
-    let sorted = SortedLines::new(lines);
-    recognise_uncounted(alloc, &sorted, positions, offering)
+    let ordered = OrderedLines::new(lines);
+    recognise_uncounted(alloc, &ordered, positions, offering)
 }
 
 // The text of an auction with a cut.

@@ -33,6 +33,7 @@ mod sender;
 mod serve_command;
 mod table_input;
 mod text_book;
+mod text_line;
 mod trial_command;
 mod way;
 mod word;

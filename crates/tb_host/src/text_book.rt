@@ -10,6 +10,7 @@ ghost use Rattle.tb_host.specs.declared.book_line.Entry.TheVariants as entry;
 ghost use Rattle.tb_host.specs.declared.text_book.AddFault.TheVariants as fault;
 
 use crate::book_line::{Bid, Entry, Offering, Report};
+use crate::text_line::TextLine;
 use crate::way::Way;
 use indexmap::IndexSet;
 use std::alloc::Global;
@@ -26,7 +27,7 @@ pub struct TextBook {
     /// The way in which each bidder bids.
     pub ways: Vec<Way>,
     /// The competitive bids, in the order of the book.
-    pub lines: Vec<RateLine>,
+    pub lines: Vec<TextLine>,
     /// The sum of all noncompetitive bids.
     pub noncompetitive: Dollars,
 }
@@ -155,9 +156,10 @@ fn has_price(rate: Option<Rate>, offering: &Offering) -> bool
     }
 }
 
-fn push_line(lines: &mut Vec<RateLine>, line: RateLine) -> Result<(), OutOfMemory>
+fn push_line(lines: &mut Vec<TextLine>, line: RateLine) -> Result<(), OutOfMemory>
+    requires { line.amount.value ≤ 10 ^ 12 }
     ensures { OnOk result (lines.new.items ≡ lines.old.items ++ line ∷ []) }
 {
-    lines.push(line)?;
+    lines.push(TextLine::of(line))?;
     Ok(())
 }

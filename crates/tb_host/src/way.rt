@@ -7,18 +7,18 @@ ghost use Rattle.tb_host.specs.declared.book_line.Entry.TheVariants as entry;
 use crate::book_line::Bid;
 use tb_units::Dollars;
 
-/// How a bidder bids in a book: not yet, with rates, or without rates and with so much in all.
+/// How a bidder bids in a book: not yet, with rates, or without rates and with so many whole dollars in all.
 #[derive(Clone, Copy, Debug, PartialEq, Eq)]
 pub enum Way {
     Open,
     Competitive,
-    Noncompetitive(Dollars),
+    Noncompetitive { dollars: u64 },
 }
 
 impl Way {
     /// The way with a bid more. `None` where the bidder would bid both ways.
     pub fn with_bid(self, bid: &Bid) -> Option<Way>
-        requires { sum_of_way self + bid.now.amount.value ≤ 10 ^ 27 }
+        requires { sum_of_way self + bid.now.amount.value ≤ 10 ^ 19 }
         ensures { (entries : List Numbered) (bidder : ℕ) → IsWayOf entries bidder self → MatchOption result
             (¬ (IsOneWay entries bidder bid.now.rate))
             (λ way. IsOneWay entries bidder bid.now.rate
@@ -26,11 +26,13 @@ impl Way {
     {
         match (self, bid.rate) {
             (Way::Open | Way::Competitive, Some(_)) => Some(Way::Competitive),
-            (Way::Open, None) => Some(Way::Noncompetitive(bid.amount)),
-            (Way::Noncompetitive(sum), None) => Some(Way::Noncompetitive(Dollars {
-                value: sum.value + bid.amount.value,
-            })),
-            (Way::Competitive, None) | (Way::Noncompetitive(_), Some(_)) => None,
+            (Way::Open, None) => Some(Way::Noncompetitive {
+                dollars: bid.amount.value as u64,
+            }),
+            (Way::Noncompetitive { dollars }, None) => Some(Way::Noncompetitive {
+                dollars: dollars + bid.amount.value as u64,
+            }),
+            (Way::Competitive, None) | (Way::Noncompetitive { .. }, Some(_)) => None,
         }
     }
 
@@ -40,7 +42,9 @@ impl Way {
     {
         match self {
             Way::Open | Way::Competitive => Dollars { value: 0 },
-            Way::Noncompetitive(sum) => sum,
+            Way::Noncompetitive { dollars } => Dollars {
+                value: dollars as u128,
+            },
         }
     }
 }

@@ -12,16 +12,16 @@ use Rattle.tb_host.proofs.auction_text.recognise_lines.Goals as goal
 pub recognise_uncounted-requires-clause-known : goal.recognise_uncounted-requires-clause-known
 recognise_uncounted-requires-clause-known c =
     All-permutation (λ (l : RateLine). l.bidder < length c.args.positions.now) c.args.lines.items
-    c.new-sorted.result c.new-sorted.ensures c.requires.known
+    c.new-ordered.result c.new-ordered.ensures c.requires.known
 
 pub returns-clause-recognised : goal.returns-clause-recognised
 returns-clause-recognised c =
     let limits = limits_by c.args.offering.value c.args.positions.now in
     let bidders = length c.args.positions.now in
     IfOk-weaker c.recognise_uncounted.result _ _
-    (λ r are. AreRecognised-same (bid_in c.new-sorted.result) (bid_in c.args.lines.items)
+    (λ r are. AreRecognised-same (bid_in c.new-ordered.result) (bid_in c.args.lines.items)
     (cap_of c.args.offering.value) limits limits bidders r.lines
-    (λ b steps. sum_by-IsPermutation (bid_of b steps) c.args.lines.items c.new-sorted.result c.new-sorted.ensures)
+    (λ b steps. sum_by-IsPermutation (bid_of b steps) c.args.lines.items c.new-ordered.result c.new-ordered.ensures)
     (λ b below. refl) are) c.recognise_uncounted.ensures.recognised
 
 pub returns-clause-within : goal.returns-clause-within
@@ -30,5 +30,5 @@ returns-clause-within c =
     (λ r within. omega (
       arith,
       within,
-      sum_by-IsPermutation amount_of c.args.lines.items c.new-sorted.result c.new-sorted.ensures,
+      sum_by-IsPermutation amount_of c.args.lines.items c.new-ordered.result c.new-ordered.ensures,
     )) c.recognise_uncounted.ensures.within
