@@ -18,6 +18,7 @@ ghost use Rattle.std.specs.Prelude.{
   All,
   Bool,
   true,
+  false,
   IfOk,
   OnOk,
 };
@@ -52,6 +53,18 @@ pub fn award_text(alloc: Global, book: TextBook, full: bool) -> Result<Vec<u8>, 
     requires { (kept : Book) × IsKept kept book }
     ensures { IfOk result (λ text. (kept : Book) → IsKept kept book → IsAwardText full book.offering kept text.items) }
 {
+    if full {
+        full_text(alloc, book)
+    } else {
+        short_text(alloc, book)
+    }
+}
+
+// The text with a line for each bidder.
+fn full_text(alloc: Global, book: TextBook) -> Result<Vec<u8>, OutOfMemory>
+    requires { (kept : Book) × IsKept kept book }
+    ensures { IfOk result (λ text. (kept : Book) → IsKept kept book → IsAwardText true book.offering kept text.items) }
+{
     let TextBook {
         offering,
         bidders,
@@ -63,8 +76,32 @@ pub fn award_text(alloc: Global, book: TextBook, full: bool) -> Result<Vec<u8>, 
     let recognised = recognise_lines(alloc, lines, &positions, offering.amount)?;
     let sought = sought(offering.amount, noncompetitive, offering.floor);
     match cut(&recognised, sought, offering.days) {
-        Outcome::NoAwards => nothing_text(alloc, bidders.as_slice(), full),
-        Outcome::Cut(cut) => cut_text(alloc, &cut, &recognised, bidders.as_slice(), &ways, full),
+        Outcome::NoAwards => nothing_text(alloc, bidders.as_slice()),
+        Outcome::Cut(cut) => cut_text(alloc, &cut, &recognised, bidders.as_slice(), &ways),
+    }
+}
+
+// The text without such lines.
+fn short_text(alloc: Global, book: TextBook) -> Result<Vec<u8>, OutOfMemory>
+    requires { (kept : Book) × IsKept kept book }
+    ensures { IfOk result (λ text. (kept : Book) → IsKept kept book → IsAwardText false book.offering kept text.items) }
+{
+    let TextBook {
+        offering,
+        bidders,
+        positions,
+        ways,
+        lines,
+        noncompetitive,
+    } = book;
+    // No bidder is named, so their memory is free for what is recognised.
+    drop(bidders);
+    drop(ways);
+    let recognised = recognise_lines(alloc, lines, &positions, offering.amount)?;
+    let sought = sought(offering.amount, noncompetitive, offering.floor);
+    match cut(&recognised, sought, offering.days) {
+        Outcome::NoAwards => nothing_line(alloc),
+        Outcome::Cut(cut) => cut_lines(alloc, &cut),
     }
 }
 
@@ -85,38 +122,41 @@ fn recognise_lines(
     recognise_uncounted(alloc, &ordered, positions, offering)
 }
 
-// The text of an auction with a cut.
+// The full text of an auction with a cut.
 fn cut_text(
     alloc: Global,
     cut: &Cut,
     recognised: &Recognised,
     bidders: &[Ident],
     ways: &[Way],
-    full: bool,
 ) -> Result<Vec<u8>, OutOfMemory>
     requires sizes { length bidders.now ≡ length ways.now }
     requires known { All (λ line. line.bidder < length ways.now) recognised.now.lines }
     requires fits { total_of recognised.now.lines ≤ 10 ^ 19 }
     requires amounts { All (λ way. sum_of_way way ≤ 10 ^ 19) ways.now }
-    ensures { IfOk result (λ text. HasCutText full cut.now recognised.now.lines bidders.now ways.now text.items) }
+    ensures { IfOk result (λ text. HasCutText true cut.now recognised.now.lines bidders.now ways.now text.items) }
 {
     let mut text = cut_lines(alloc, cut)?;
-    if full {
-        let amounts = amounts(alloc, cut, recognised, ways)?;
-        push_award_lines(&mut text, bidders, &amounts, cut.price)?;
-    }
+    let amounts = amounts(alloc, cut, recognised, ways)?;
+    push_award_lines(&mut text, bidders, &amounts, cut.price)?;
     Ok(text)
 }
 
-// The text of an auction in which nobody gets an award.
-fn nothing_text(alloc: Global, bidders: &[Ident], full: bool) -> Result<Vec<u8>, OutOfMemory>
-    ensures { IfOk result (λ text. HasNothingText full bidders.now text.items) }
+// The full text of an auction in which nobody gets an award.
+fn nothing_text(alloc: Global, bidders: &[Ident]) -> Result<Vec<u8>, OutOfMemory>
+    ensures { IfOk result (λ text. HasNothingText true bidders.now text.items) }
+{
+    let mut text = nothing_line(alloc)?;
+    push_nothing_lines(&mut text, bidders)?;
+    Ok(text)
+}
+
+// The line `no awards`.
+fn nothing_line(alloc: Global) -> Result<Vec<u8>, OutOfMemory>
+    ensures { IfOk result (λ text. text.items ≡ no_awards_text) }
 {
     let mut text = Vec::new(alloc);
     text.extend_from_slice(b"no awards\n")?;
-    if full {
-        push_nothing_lines(&mut text, bidders)?;
-    }
     Ok(text)
 }
 

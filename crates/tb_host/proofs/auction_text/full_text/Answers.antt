@@ -1,10 +1,10 @@
-use Rattle.std.proofs.Common.{◌≤◌, ◌^◌, List, refl, subst, sym, arith}
+use Rattle.std.proofs.Common.{◌≤◌, ◌^◌, List, true, refl, subst, sym, arith}
 use Rattle.std.specs.Prelude.{All}
 use Rattle.std.proofs.lemmas.Result.{IfOk-weaker}
 use Rattle.tb_host.specs.Tallies.{sum_of_way}
 use Rattle.tb_host.specs.declared.way.Way.{Way}
 use Rattle.tb_host.proofs.TextLemmas.{cut-text, lines-fit, lines-priced, nothing-text, ways-fit}
-use Rattle.tb_host.proofs.auction_text.award_text.Goals as goal
+use Rattle.tb_host.proofs.auction_text.full_text.Goals as goal
 
 pub cut-requires-clause-priced : goal.cut-requires-clause-priced
 cut-requires-clause-priced c =
@@ -17,7 +17,7 @@ cut-requires-clause-fits c =
 
 pub returns-in-NoAwards : goal.returns-in-NoAwards
 returns-in-NoAwards c = IfOk-weaker c.nothing_text.result _ _ (λ text has kept is.
-    nothing-text c.args.full kept c.args.book c.as_slice.result.now c.in_ok-recognised.recognised.lines text.items
+    nothing-text true kept c.args.book c.as_slice.result.now c.in_ok-recognised.recognised.lines text.items
     record {
       tally = is.tally;
       names_are = c.as_slice.ensures.keys;
@@ -37,7 +37,7 @@ cut_text-requires-clause-amounts c =
 
 pub returns : goal.returns
 returns c = IfOk-weaker c.cut_text.result _ _ (λ text has kept is.
-    cut-text c.args.full kept c.args.book c.as_slice-in-Cut.result.now c.in_ok-recognised.recognised.lines
+    cut-text true kept c.args.book c.as_slice-in-Cut.result.now c.in_ok-recognised.recognised.lines
     c.in-Cut.cut text.items
     record {
       tally = is.tally;
