@@ -145,7 +145,9 @@ impl LineReader {
         &self.text[self.at..]
     }
 
-    // Reads a piece of the source, unless its end was found: true where it gave some bytes, false at its end.
+    // Reads a piece of the source, unless its end was found: true where it gave some bytes, false at its end. It is not
+    // put in line, so that a line which is there already needs no room for a piece.
+    #[inline(never)]
     fn fill<I: Source>(&mut self, alloc: Global, input: &mut I) -> Result<bool, InputFault>
         ensures same { OnOk result (ahead self.new (I.source input.new) ≡ ahead self.old (I.source input.old)) }
         ensures more { result ≡ Ok true → (length (unread self.old) < length (unread self.new))
