@@ -4,7 +4,6 @@ ghost use Rattle.tb_journal.specs.Places.{StandsAt, StandsAtIn};
 
 use std::alloc::Global;
 use std::process::Abort;
-use std::test::Fail;
 use tb_disk::{Disk, MemoryDisk};
 use tb_journal::*;
 
@@ -16,25 +15,25 @@ const ROOM: u64 = 1000;
 const LOG_ROOM: u64 = 10_000;
 
 // A disk in memory whose calls with these numbers fail.
-fn disk_of(
-    rt: &impl Abort,
-    alloc: Global,
-    contents: &[u8],
-    fails: Vec<u64>,
-    torn: u8,
-) -> Result<MemoryDisk, Fail> {
+fn disk_of(rt: &impl Abort, alloc: Global, contents: &[u8], fails: &[u64], torn: u8) -> MemoryDisk {
     assert!(rt; contents.len() < 1000);
-    Ok(MemoryDisk::new(alloc, contents, ROOM, LOG_ROOM, fails, torn)?)
+    let fails = fails.to_vec(alloc).expect(rt, "memory");
+    MemoryDisk::new(alloc, contents, ROOM, LOG_ROOM, fails, torn).expect(rt, "memory")
 }
 
-fn add(
-    rt: &impl Abort,
-    journal: &mut Journal<MemoryDisk>,
-    payload: &[u8],
-) -> Result<(), DiskFault> {
+// The journal on a disk.
+fn open(rt: &impl Abort, alloc: Global, disk: MemoryDisk) -> Journal<MemoryDisk> {
+    match Journal::open(alloc, disk) {
+        Ok(journal) => journal,
+        Err((_disk, _fault)) => rt.panic("not opened"),
+    }
+}
+
+// The payload is added.
+fn adds(rt: &impl Abort, journal: &mut Journal<MemoryDisk>, payload: &[u8]) -> bool {
     assert!(rt; !journal.unsure() && journal.gate() < 70_000);
     assert!(rt; !payload.is_empty() && payload.len() <= 32_768);
-    journal.append(payload)
+    journal.append(payload).is_ok()
 }
 
 fn settle(rt: &impl Abort, journal: &mut Journal<MemoryDisk>) -> Result<bool, DiskFault> {
@@ -42,12 +41,17 @@ fn settle(rt: &impl Abort, journal: &mut Journal<MemoryDisk>) -> Result<bool, Di
     journal.resolve()
 }
 
+// The bytes of three slices, one behind the other.
+fn joined(rt: &impl Abort, alloc: Global, first: &[u8], second: &[u8], third: &[u8]) -> Vec<u8> {
+    let mut bytes = Vec::new(alloc);
+    assert!(rt; bytes.extend_from_slice(first).is_ok());
+    assert!(rt; bytes.extend_from_slice(second).is_ok());
+    assert!(rt; bytes.extend_from_slice(third).is_ok());
+    bytes
+}
+
 // The payloads of a journal, one after another, each with its place.
-fn payloads_of<D: Disk>(
-    rt: &impl Abort,
-    alloc: Global,
-    journal: &mut Journal<D>,
-) -> Result<Vec<u8>, Fail>
+fn payloads_of<D: Disk>(rt: &impl Abort, alloc: Global, journal: &mut Journal<D>) -> Vec<u8>
     requires sure { journal.old.doubt ≡ None }
     requires first { StandsAt (D.disk journal.old.disk) journal.old.gate 17 }
 {
@@ -56,18 +60,16 @@ fn payloads_of<D: Disk>(
     let mut place = 17;
     'frames: for _ in 0..10 {
         let Ok(found) = journal.next_frame(place, &mut window) else {
-            assert!(rt; false, "the disk failed");
-            return Ok(text);
+            rt.panic("the disk failed")
         };
         let Some((_size, behind)) = found else {
-            return Ok(text);
+            return text;
         };
-        text.push((place % 256) as u8)?;
-        text.extend_from_slice(window.payload())?;
+        assert!(rt; text.push((place % 256) as u8).is_ok());
+        assert!(rt; text.extend_from_slice(window.payload()).is_ok());
         place = behind;
     }
-    assert!(rt; false, "no end");
-    Ok(text)
+    rt.panic("no end")
 }
 
 // The same of a journal of the first form.
@@ -75,7 +77,7 @@ fn first_payloads_of<D: Disk>(
     rt: &impl Abort,
     alloc: Global,
     journal: &mut FirstJournal<'_, D>,
-) -> Result<Vec<u8>, Fail>
+) -> Vec<u8>
     requires first { StandsAtIn First (D.disk journal.old.disk.now) journal.old.gate 16 }
 {
     let mut text = Vec::new(alloc);
@@ -83,72 +85,58 @@ fn first_payloads_of<D: Disk>(
     let mut place = 16;
     'frames: for _ in 0..10 {
         let Ok(found) = journal.next_frame(place, &mut window) else {
-            assert!(rt; false, "the disk failed");
-            return Ok(text);
+            rt.panic("the disk failed")
         };
         let Some((_size, behind)) = found else {
-            return Ok(text);
+            return text;
         };
-        text.push((place % 256) as u8)?;
-        text.extend_from_slice(window.payload())?;
+        assert!(rt; text.push((place % 256) as u8).is_ok());
+        assert!(rt; text.extend_from_slice(window.payload()).is_ok());
         place = behind;
     }
-    assert!(rt; false, "no end");
-    Ok(text)
+    rt.panic("no end")
+}
+
+// The payloads of the journal on a disk.
+fn payloads_on(rt: &impl Abort, alloc: Global, disk: MemoryDisk) -> Vec<u8> {
+    match Journal::open(alloc, disk) {
+        Ok(mut journal) => payloads_of(rt, alloc, &mut journal),
+        Err((_disk, _fault)) => rt.panic("not opened"),
+    }
 }
 
 // The payloads that a file stands for.
-fn payloads_in(rt: &impl Abort, alloc: Global, file: &[u8]) -> Result<Vec<u8>, Fail> {
-    let disk = disk_of(rt, alloc, file, Vec::new(alloc), 0)?;
-    match Journal::open(alloc, disk) {
-        Ok(mut journal) => payloads_of(rt, alloc, &mut journal),
-        Err((_disk, _fault)) => {
-            assert!(rt; false, "not opened");
-            Ok(Vec::new(alloc))
-        }
-    }
+fn payloads_in(rt: &impl Abort, alloc: Global, file: &[u8]) -> Vec<u8> {
+    payloads_on(rt, alloc, disk_of(rt, alloc, file, &[], 0))
 }
 
 // A file is opened: the payloads that it stands for, and what the disk holds afterwards.
-fn opened(
-    rt: &impl Abort,
-    alloc: Global,
-    file: &[u8],
-    found: &[u8],
-    after: &[u8],
-) -> Result<bool, Fail> {
-    let disk = disk_of(rt, alloc, file, Vec::new(alloc), 0)?;
-    match Journal::open(alloc, disk) {
-        Ok(journal) => Ok(
+fn opened(rt: &impl Abort, alloc: Global, file: &[u8], found: &[u8], after: &[u8]) -> bool {
+    match Journal::open(alloc, disk_of(rt, alloc, file, &[], 0)) {
+        Ok(journal) => {
             journal.into_disk().contents() == after
-                && payloads_in(rt, alloc, file)?.as_slice() == found,
-        ),
-        Err((_disk, _fault)) => Ok(false),
+                && payloads_in(rt, alloc, file).as_slice() == found
+        }
+        Err((_disk, _fault)) => false,
     }
 }
 
 // A file is refused for this fault, and stays as it is.
-fn refused(
-    rt: &impl Abort,
-    alloc: Global,
-    file: &[u8],
-    wanted: JournalFault,
-) -> Result<bool, Fail> {
-    let disk = disk_of(rt, alloc, file, Vec::new(alloc), 0)?;
-    Ok(match Journal::open(alloc, disk) {
+fn refused(rt: &impl Abort, alloc: Global, file: &[u8], wanted: JournalFault) -> bool {
+    match Journal::open(alloc, disk_of(rt, alloc, file, &[], 0)) {
         Ok(_opened) => false,
         Err((disk, fault)) => fault == wanted && disk.contents() == file,
-    })
+    }
 }
 
 // A file of the first form is read: the payloads that it stands for. It stays as it is.
-fn first_opened(rt: &impl Abort, alloc: Global, file: &[u8], found: &[u8]) -> Result<bool, Fail> {
-    let mut disk = disk_of(rt, alloc, file, Vec::new(alloc), 0)?;
-    let payloads = match FirstJournal::open(alloc, &mut disk) {
-        Ok(mut journal) => first_payloads_of(rt, alloc, &mut journal)?,
-        Err((_disk, _fault)) => return Ok(false),
+fn first_opened(rt: &impl Abort, alloc: Global, file: &[u8], found: &[u8]) -> bool {
+    let mut disk = disk_of(rt, alloc, file, &[], 0);
+    let same = match FirstJournal::open(alloc, &mut disk) {
+        Ok(mut journal) => first_payloads_of(rt, alloc, &mut journal).as_slice() == found,
+        Err((_disk, _fault)) => false,
     };
-    Ok(payloads.as_slice() == found && disk.contents() == file)
+    same && disk.contents() == file
 }
 
 // It is refused for this fault on a disk of which these calls fail, and stays as it is.
@@ -156,15 +144,15 @@ fn first_refused(
     rt: &impl Abort,
     alloc: Global,
     file: &[u8],
-    fails: Vec<u64>,
+    fails: &[u64],
     wanted: JournalFault,
-) -> Result<bool, Fail> {
-    let mut disk = disk_of(rt, alloc, file, fails, 7)?;
+) -> bool {
+    let mut disk = disk_of(rt, alloc, file, fails, 7);
     let same = match FirstJournal::open(alloc, &mut disk) {
         Ok(_opened) => false,
         Err((_disk, fault)) => fault == wanted,
     };
-    Ok(same && disk.contents() == file)
+    same && disk.contents() == file
 }
 
 // Two payloads, "abc" and "d": the first stands at 17, the second 13 and 3 bytes behind.
@@ -177,32 +165,31 @@ const WHOLE: &[u8] = b"TBHOSTJOURNAL002\x01\
 const WHOLE_FIRST: &[u8] = b"TBHOSTJOURNAL001\x01\0\0\0\x03abc\x01\0\0\0\x01d\0rest";
 
 #[test]
-fn files_are_opened(rt: HostRuntime) -> Result<(), Fail> {
+fn files_are_opened(rt: HostRuntime) {
     let alloc = rt.alloc();
     let empty = b"TBHOSTJOURNAL002\x01\0";
     let other_gate = b"TBHOSTJOURNAL002\x01\x07x";
-    assert!(rt; opened(&rt, alloc, b"", b"", empty)?);
-    assert!(rt; opened(&rt, alloc, b"eighteen bytes....", b"", empty)?);
-    assert!(rt; opened(&rt, alloc, b"TBHOSTJOURNAL001\0", b"", empty)?);
-    assert!(rt; opened(&rt, alloc, other_gate, b"", other_gate)?);
-    assert!(rt; opened(&rt, alloc, WHOLE, b"\x11abc\x21d", WHOLE)?);
-    Ok(())
+    assert!(rt; opened(&rt, alloc, b"", b"", empty));
+    assert!(rt; opened(&rt, alloc, b"eighteen bytes....", b"", empty));
+    assert!(rt; opened(&rt, alloc, b"TBHOSTJOURNAL001\0", b"", empty));
+    assert!(rt; opened(&rt, alloc, other_gate, b"", other_gate));
+    assert!(rt; opened(&rt, alloc, WHOLE, b"\x11abc\x21d", WHOLE));
 }
 
 #[test]
-fn other_files_are_refused(rt: HostRuntime) -> Result<(), Fail> {
+fn other_files_are_refused(rt: HostRuntime) {
     let alloc = rt.alloc();
     let foreign = JournalFault::NotAJournal([b'a'; 16]);
     let first = JournalFault::NotAJournal(*b"TBHOSTJOURNAL001");
-    assert!(rt; refused(&rt, alloc, b"aaaaaaaaaaaaaaaaaaa", foreign)?);
-    assert!(rt; refused(&rt, alloc, WHOLE_FIRST, first)?);
+    assert!(rt; refused(&rt, alloc, b"aaaaaaaaaaaaaaaaaaa", foreign));
+    assert!(rt; refused(&rt, alloc, WHOLE_FIRST, first));
     assert!(rt;
         refused(
             &rt,
             alloc,
             b"TBHOSTJOURNAL002\0\0\0",
             JournalFault::Unsealed(0)
-        )?
+        )
     );
     assert!(rt;
         refused(
@@ -210,93 +197,90 @@ fn other_files_are_refused(rt: HostRuntime) -> Result<(), Fail> {
             alloc,
             b"TBHOSTJOURNAL002\x02\x01\x01",
             JournalFault::Unsealed(2)
-        )?
+        )
     );
-    Ok(())
 }
 
 // A file with the header and these bytes behind it is damaged at this place.
-fn damaged(rt: &impl Abort, alloc: Global, behind: &[u8], place: u64) -> Result<bool, Fail> {
-    let mut file = HEADER.to_vec(alloc)?;
-    file.extend_from_slice(behind)?;
+fn damaged(rt: &impl Abort, alloc: Global, behind: &[u8], place: u64) -> bool {
+    let file = joined(rt, alloc, HEADER, behind, b"");
     refused(rt, alloc, &file, JournalFault::Damaged(place))
 }
 
 #[test]
-fn damaged_files_are_refused(rt: HostRuntime) -> Result<(), Fail> {
+fn damaged_files_are_refused(rt: HostRuntime) {
     let alloc = rt.alloc();
     // It runs past the end, or its head does.
-    assert!(rt; damaged(&rt, alloc, b"\x01\0\0\0\x03\0\0\0\0\0\0\0\0ab", 17)?);
-    assert!(rt; damaged(&rt, alloc, b"\x01\0\0\0\x03\0\0\0\0\0\0\0", 17)?);
+    assert!(rt; damaged(&rt, alloc, b"\x01\0\0\0\x03\0\0\0\0\0\0\0\0ab", 17));
+    assert!(rt; damaged(&rt, alloc, b"\x01\0\0\0\x03\0\0\0\0\0\0\0", 17));
     // Its length is none of a payload.
-    assert!(rt; damaged(&rt, alloc, b"\x01\0\0\0\0\0\0\0\0\0\0\0\0\0", 17)?);
-    assert!(rt; damaged(&rt, alloc, b"\x01\0\0\x80\x01\0\0\0\0\0\0\0\0abc", 17)?);
+    assert!(rt; damaged(&rt, alloc, b"\x01\0\0\0\0\0\0\0\0\0\0\0\0\0", 17));
+    assert!(rt; damaged(&rt, alloc, b"\x01\0\0\x80\x01\0\0\0\0\0\0\0\0abc", 17));
     // Its ordinal is another.
-    assert!(rt; damaged(&rt, alloc, b"\x01\0\0\0\x01\0\0\0\0\0\0\0\x01a\0", 17)?);
-    assert!(rt; damaged(&rt, alloc, b"\x01\0\0\0\x01\x80\0\0\0\0\0\0\0a\0", 17)?);
+    assert!(rt; damaged(&rt, alloc, b"\x01\0\0\0\x01\0\0\0\0\0\0\0\x01a\0", 17));
+    assert!(rt; damaged(&rt, alloc, b"\x01\0\0\0\x01\x80\0\0\0\0\0\0\0a\0", 17));
     // No gate byte stands behind it, or an open one alone.
-    assert!(rt; damaged(&rt, alloc, b"\x01\0\0\0\x01\0\0\0\0\0\0\0\0a", 31)?);
-    assert!(rt; damaged(&rt, alloc, b"\x01\0\0\0\x01\0\0\0\0\0\0\0\0a\x01", 31)?);
-    Ok(())
+    assert!(rt; damaged(&rt, alloc, b"\x01\0\0\0\x01\0\0\0\0\0\0\0\0a", 31));
+    assert!(rt; damaged(&rt, alloc, b"\x01\0\0\0\x01\0\0\0\0\0\0\0\0a\x01", 31));
 }
 
 #[test]
-fn files_of_the_first_form_are_read(rt: HostRuntime) -> Result<(), Fail> {
+fn files_of_the_first_form_are_read(rt: HostRuntime) {
     let alloc = rt.alloc();
-    assert!(rt; first_opened(&rt, alloc, b"", b"")?);
-    assert!(rt; first_opened(&rt, alloc, b"seventeen bytes..", b"")?);
-    assert!(rt; first_opened(&rt, alloc, b"TBHOSTJOURNAL001\x07x", b"")?);
-    assert!(rt; first_opened(&rt, alloc, WHOLE_FIRST, b"\x10abc\x18d")?);
-    Ok(())
+    assert!(rt; first_opened(&rt, alloc, b"", b""));
+    assert!(rt; first_opened(&rt, alloc, b"seventeen bytes..", b""));
+    assert!(rt; first_opened(&rt, alloc, b"TBHOSTJOURNAL001\x07x", b""));
+    assert!(rt; first_opened(&rt, alloc, WHOLE_FIRST, b"\x10abc\x18d"));
 }
 
 #[test]
-fn other_files_are_not_of_the_first_form(rt: HostRuntime) -> Result<(), Fail> {
+fn other_files_are_not_of_the_first_form(rt: HostRuntime) {
     let alloc = rt.alloc();
     let second = JournalFault::NotAJournal(*b"TBHOSTJOURNAL002");
-    assert!(rt; first_refused(&rt, alloc, WHOLE, Vec::new(alloc), second)?);
+    assert!(rt; first_refused(&rt, alloc, WHOLE, &[], second));
     assert!(rt;
         first_refused(
             &rt,
             alloc,
             b"TBHOSTJOURNAL001\x01\0\0\0\x03ab",
-            Vec::new(alloc),
+            &[],
             JournalFault::Damaged(16)
-        )?
+        )
     );
     assert!(rt;
         first_refused(
             &rt,
             alloc,
             b"TBHOSTJOURNAL001\x01\0\0\0\x01a",
-            Vec::new(alloc),
+            &[],
             JournalFault::Damaged(22)
-        )?
+        )
     );
-    assert!(rt;
-        first_refused(
-            &rt,
-            alloc,
-            WHOLE_FIRST,
-            vec![in alloc; 0]?,
-            JournalFault::DiskFault
-        )?
-    );
-    assert!(rt;
-        first_refused(
-            &rt,
-            alloc,
-            WHOLE_FIRST,
-            vec![in alloc; 3]?,
-            JournalFault::DiskFault
-        )?
-    );
-    Ok(())
+    assert!(rt; first_refused(&rt, alloc, WHOLE_FIRST, &[0], JournalFault::DiskFault));
+    assert!(rt; first_refused(&rt, alloc, WHOLE_FIRST, &[3], JournalFault::DiskFault));
+}
+
+// A payload is added to what a disk holds, and this stands there then.
+fn leaves(rt: &impl Abort, alloc: Global, before: &[u8], payload: &[u8], after: &[u8]) -> bool {
+    let mut journal = open(rt, alloc, disk_of(rt, alloc, before, &[], 0));
+    adds(rt, &mut journal, payload) && journal.into_disk().contents() == after
+}
+
+// A file stands for this payload alone, which stands at 17.
+fn has_one(rt: &impl Abort, alloc: Global, file: &[u8], payload: &[u8]) -> bool {
+    payloads_in(rt, alloc, file) == joined(rt, alloc, &[17], payload, b"")
+}
+
+// The frame of a file with one payload, twice, is damaged at the gate behind the first.
+fn damaged_twice(rt: &impl Abort, alloc: Global, file: &[u8]) -> bool {
+    assert!(rt; 67 <= file.len());
+    let twice = joined(rt, alloc, &file[..67], &file[17..], b"");
+    refused(rt, alloc, &twice, JournalFault::Damaged(67))
 }
 
 // One payload of 37 bytes, byte by byte; the same file cut within its frame; and the frame twice.
 #[test]
-fn a_journal_has_the_bytes_of_its_format(rt: HostRuntime) -> Result<(), Fail> {
+fn a_journal_has_the_bytes_of_its_format(rt: HostRuntime) {
     let alloc = rt.alloc();
     let payload =
         b"\x08operator\0\0\0\0\0\0\0\x01\0\0\0\0\x67\x28\x62\xe0\x01\x07dealer1\x02k1".as_slice();
@@ -305,21 +289,11 @@ fn a_journal_has_the_bytes_of_its_format(rt: HostRuntime) -> Result<(), Fail> {
         \x08operator\0\0\0\0\0\0\0\x01\0\0\0\0\x67\x28\x62\xe0\x01\x07dealer1\x02k1\
         \0"
         .as_slice();
-    assert_eq!(rt; file.len(), 68);
-    let disk = disk_of(&rt, alloc, b"", Vec::new(alloc), 0)?;
-    let Ok(mut journal) = Journal::open(alloc, disk) else {
-        return Ok(assert!(rt; false, "not opened"));
-    };
-    assert!(rt; add(&rt, &mut journal, payload).is_ok());
-    assert_eq!(rt; journal.into_disk().contents(), file);
-    let mut found = vec![in alloc; 17]?;
-    found.extend_from_slice(payload)?;
-    assert_eq!(rt; payloads_in(&rt, alloc, file)?.as_slice(), found.as_slice());
-    assert!(rt; refused(&rt, alloc, &file[..40], JournalFault::Damaged(17))?);
-    let mut twice = file[..67].to_vec(alloc)?;
-    twice.extend_from_slice(&file[17..])?;
-    assert!(rt; refused(&rt, alloc, &twice, JournalFault::Damaged(67))?);
-    Ok(())
+    assert!(rt; file.len() == 68);
+    assert!(rt; leaves(&rt, alloc, b"", payload, file));
+    assert!(rt; has_one(&rt, alloc, file, payload));
+    assert!(rt; refused(&rt, alloc, &file[..40], JournalFault::Damaged(17)));
+    assert!(rt; damaged_twice(&rt, alloc, file));
 }
 
 // An append of "abc" fails on a disk of which these calls fail and that leaves this byte of a failed write, then
@@ -328,61 +302,43 @@ fn a_journal_has_the_bytes_of_its_format(rt: HostRuntime) -> Result<(), Fail> {
 fn settled(
     rt: &impl Abort,
     alloc: Global,
-    fails: Vec<u64>,
+    fails: &[u64],
     torn: u8,
     again: bool,
-) -> Result<(bool, Vec<u8>), Fail> {
-    let disk = disk_of(rt, alloc, b"", fails, torn)?;
-    let Ok(mut journal) = Journal::open(alloc, disk) else {
-        return Err(Fail::from("not opened"));
-    };
-    assert!(rt; add(rt, &mut journal, b"abc").is_err());
+) -> (bool, Vec<u8>) {
+    let mut journal = open(rt, alloc, disk_of(rt, alloc, b"", fails, torn));
+    assert!(rt; !adds(rt, &mut journal, b"abc"));
     assert!(rt; !again || settle(rt, &mut journal).is_err());
-    let Ok(counts) = settle(rt, &mut journal) else {
-        return Err(Fail::from("not settled"));
-    };
-    assert!(rt; add(rt, &mut journal, b"d").is_ok());
-    Ok((
+    let counts = settle(rt, &mut journal).expect(rt, "settled");
+    assert!(rt; adds(rt, &mut journal, b"d"));
+    (
         counts,
-        payloads_in(rt, alloc, journal.into_disk().contents())?,
-    ))
+        payloads_in(rt, alloc, journal.into_disk().contents()),
+    )
 }
 
-fn counts_at_last(
-    rt: &impl Abort,
-    alloc: Global,
-    fails: Vec<u64>,
-    torn: u8,
-    again: bool,
-) -> Result<bool, Fail> {
-    let (counts, found) = settled(rt, alloc, fails, torn, again)?;
-    Ok(counts && found.as_slice() == b"\x11abc\x21d".as_slice())
+fn counts_at_last(rt: &impl Abort, alloc: Global, fails: &[u64], torn: u8, again: bool) -> bool {
+    let (counts, found) = settled(rt, alloc, fails, torn, again);
+    counts && found.as_slice() == b"\x11abc\x21d".as_slice()
 }
 
-fn counts_never(
-    rt: &impl Abort,
-    alloc: Global,
-    fails: Vec<u64>,
-    torn: u8,
-    again: bool,
-) -> Result<bool, Fail> {
-    let (counts, found) = settled(rt, alloc, fails, torn, again)?;
-    Ok(!counts && found.as_slice() == b"\x11d".as_slice())
+fn counts_never(rt: &impl Abort, alloc: Global, fails: &[u64], torn: u8, again: bool) -> bool {
+    let (counts, found) = settled(rt, alloc, fails, torn, again);
+    !counts && found.as_slice() == b"\x11d".as_slice()
 }
 
 // Opening an empty disk takes the calls 0 to 3: a sync, the length, a write and a sync. Those of the first append are 4
 // to 7, and then come a sync and a read of `resolve`.
 #[test]
-fn a_payload_in_doubt_is_settled(rt: HostRuntime) -> Result<(), Fail> {
+fn a_payload_in_doubt_is_settled(rt: HostRuntime) {
     let alloc = rt.alloc();
-    assert!(rt; counts_at_last(&rt, alloc, vec![in alloc; 7]?, 0, false)?);
-    assert!(rt; counts_at_last(&rt, alloc, vec![in alloc; 7, 8]?, 0, true)?);
-    assert!(rt; counts_at_last(&rt, alloc, vec![in alloc; 6]?, 1, false)?);
-    assert!(rt; counts_never(&rt, alloc, vec![in alloc; 6]?, 7, false)?);
-    assert!(rt; counts_never(&rt, alloc, vec![in alloc; 6, 8]?, 7, true)?);
-    assert!(rt; counts_never(&rt, alloc, vec![in alloc; 5]?, 0, false)?);
-    assert!(rt; counts_never(&rt, alloc, vec![in alloc; 4]?, 0, false)?);
-    Ok(())
+    assert!(rt; counts_at_last(&rt, alloc, &[7], 0, false));
+    assert!(rt; counts_at_last(&rt, alloc, &[7, 8], 0, true));
+    assert!(rt; counts_at_last(&rt, alloc, &[6], 1, false));
+    assert!(rt; counts_never(&rt, alloc, &[6], 7, false));
+    assert!(rt; counts_never(&rt, alloc, &[6, 8], 7, true));
+    assert!(rt; counts_never(&rt, alloc, &[5], 0, false));
+    assert!(rt; counts_never(&rt, alloc, &[4], 0, false));
 }
 
 // Whether the payload is known to count.
@@ -390,7 +346,7 @@ fn counts(rt: &impl Abort, journal: &mut Journal<MemoryDisk>, payload: &[u8]) ->
     if journal.unsure() {
         return false;
     }
-    if add(rt, journal, payload).is_ok() {
+    if adds(rt, journal, payload) {
         return true;
     }
     match settle(rt, journal) {
@@ -399,106 +355,96 @@ fn counts(rt: &impl Abort, journal: &mut Journal<MemoryDisk>, payload: &[u8]) ->
     }
 }
 
-fn keeps_what_counts(rt: &impl Abort, alloc: Global, fails: Vec<u64>) -> Result<(), Fail> {
-    let disk = disk_of(rt, alloc, b"", fails, 7)?;
-    match Journal::open(alloc, disk) {
+// What counts on a disk of which these calls fail stands there afterwards, and nothing else does unless it is in doubt.
+fn keeps_what_counts(rt: &impl Abort, alloc: Global, fails: &[u64]) -> bool {
+    match Journal::open(alloc, disk_of(rt, alloc, b"", fails, 7)) {
         Ok(mut journal) => {
             let mut want = Vec::new(alloc);
             for payload in [b"abc".as_slice(), b"de"] {
                 let place = (journal.gate() % 256) as u8;
                 if counts(rt, &mut journal, payload) {
-                    want.push(place)?;
-                    want.extend_from_slice(payload)?;
+                    assert!(rt; want.push(place).is_ok());
+                    assert!(rt; want.extend_from_slice(payload).is_ok());
                 }
             }
             let unsure = journal.unsure();
-            let found = payloads_in(rt, alloc, journal.into_disk().contents())?;
-            assert!(rt; found.as_slice().starts_with(want.as_slice()));
-            assert!(rt; unsure || found.len() == want.len());
+            let found = payloads_in(rt, alloc, journal.into_disk().contents());
+            found.as_slice().starts_with(want.as_slice()) && (unsure || found.len() == want.len())
         }
         Err((disk, fault)) => {
-            assert_eq!(rt; fault, JournalFault::DiskFault);
-            assert_eq!(rt; payloads_in(rt, alloc, disk.contents())?.len(), 0);
+            fault == JournalFault::DiskFault && payloads_in(rt, alloc, disk.contents()).is_empty()
         }
     }
-    Ok(())
+}
+
+// The same where each call from this one on fails.
+fn keeps_what_counted(rt: &impl Abort, alloc: Global, call: u64) -> bool {
+    let mut rest = Vec::new(alloc);
+    for later in call..30 {
+        assert!(rt; rest.push(later).is_ok());
+    }
+    keeps_what_counts(rt, alloc, &rest)
 }
 
 #[test]
-fn any_call_may_fail(rt: HostRuntime) -> Result<(), Fail> {
+fn any_call_may_fail(rt: HostRuntime) {
     let alloc = rt.alloc();
     for call in 0..20 {
-        keeps_what_counts(&rt, alloc, vec![in alloc; call]?)?;
-        let mut rest = Vec::new(alloc);
-        for later in call..30 {
-            rest.push(later)?;
-        }
-        keeps_what_counts(&rt, alloc, rest)?;
+        assert!(rt; keeps_what_counts(&rt, alloc, &[call]));
+        assert!(rt; keeps_what_counted(&rt, alloc, call));
     }
-    Ok(())
 }
 
 // The block behind the gate: a length, an ordinal, two bytes of payload and a closed gate.
 const BLOCK: &[u8] = b"\0\0\0\x02\0\0\0\0\0\0\0\0ab\0";
 
+// A file with this gate and the block behind it stands for so many bytes.
+fn gate_stands(rt: &impl Abort, alloc: Global, gate: u8, size: usize) -> bool {
+    let file = joined(rt, alloc, HEADER, &[gate], BLOCK);
+    payloads_in(rt, alloc, &file).len() == size
+}
+
+// A file with a closed gate and so many of the digits 0, 1 and 2 of this number behind it.
+fn image_of(rt: &impl Abort, alloc: Global, size: usize, image: u32) -> Vec<u8> {
+    let mut file = joined(rt, alloc, HEADER, &[0], b"");
+    let mut digits = image;
+    for _ in 0..size {
+        assert!(rt; file.push((digits % 3) as u8).is_ok());
+        digits /= 3;
+    }
+    file
+}
+
 // A file with a closed gate and so many bytes behind it stands for no payload, whichever of 0, 1 and 2 these are: so
 // many images.
-fn none_stands(rt: &impl Abort, alloc: Global, size: usize, images: u32) -> Result<bool, Fail> {
+fn none_stands(rt: &impl Abort, alloc: Global, size: usize, images: u32) -> bool {
     for image in 0..images {
-        let mut file = HEADER.to_vec(alloc)?;
-        file.push(0)?;
-        let mut digits = image;
-        for _ in 0..size {
-            file.push((digits % 3) as u8)?;
-            digits /= 3;
-        }
-        if !payloads_in(rt, alloc, &file)?.is_empty() {
-            return Ok(false);
+        if !payloads_in(rt, alloc, &image_of(rt, alloc, size, image)).is_empty() {
+            return false;
         }
     }
-    Ok(true)
+    true
 }
 
 #[test]
-fn a_crash_leaves_the_old_list_or_the_new(rt: HostRuntime) -> Result<(), Fail> {
+fn a_crash_leaves_the_old_list_or_the_new(rt: HostRuntime) {
     let alloc = rt.alloc();
-    let disk = disk_of(&rt, alloc, HEADER, Vec::new(alloc), 0)?;
-    let Ok(mut journal) = Journal::open(alloc, disk) else {
-        return Ok(assert!(rt; false, "not opened"));
-    };
-    assert!(rt; add(&rt, &mut journal, b"ab").is_ok());
-    let after = journal.into_disk().contents().to_vec(alloc)?;
-    let mut file = HEADER.to_vec(alloc)?;
-    file.push(1)?;
-    file.extend_from_slice(BLOCK)?;
-    assert!(rt; after == file);
-    assert!(rt; payloads_in(&rt, alloc, &file)?.as_slice() == b"\x11ab".as_slice());
+    let file = joined(&rt, alloc, HEADER, &[1], BLOCK);
+    assert!(rt; leaves(&rt, alloc, HEADER, b"ab", &file));
+    assert!(rt; has_one(&rt, alloc, &file, b"ab"));
     // While the gate byte is written it may be any byte. 0 is what stands there after the second call.
     for gate in 0..=255 {
-        let mut file = HEADER.to_vec(alloc)?;
-        file.push(gate)?;
-        file.extend_from_slice(BLOCK)?;
-        let want = if gate == 1 { 3 } else { 0 };
-        assert!(rt; payloads_in(&rt, alloc, &file)?.len() == want);
+        assert!(rt; gate_stands(&rt, alloc, gate, if gate == 1 { 3 } else { 0 }));
     }
     // While the block is written, any bytes stand behind the closed gate: here the first seven of its 15.
-    assert!(rt; none_stands(&rt, alloc, 0, 1)?);
-    assert!(rt; none_stands(&rt, alloc, 1, 3)?);
-    assert!(rt; none_stands(&rt, alloc, 2, 9)?);
-    assert!(rt; none_stands(&rt, alloc, 3, 27)?);
-    assert!(rt; none_stands(&rt, alloc, 4, 81)?);
-    assert!(rt; none_stands(&rt, alloc, 5, 243)?);
-    assert!(rt; none_stands(&rt, alloc, 6, 729)?);
-    assert!(rt; none_stands(&rt, alloc, 7, 2187)?);
-    Ok(())
-}
-
-fn longest_payload(alloc: Global, byte: u8) -> Result<Vec<u8>, Fail> {
-    let mut payload = Vec::new(alloc);
-    for _ in 0..32_768 {
-        payload.push(byte)?;
-    }
-    Ok(payload)
+    assert!(rt; none_stands(&rt, alloc, 0, 1));
+    assert!(rt; none_stands(&rt, alloc, 1, 3));
+    assert!(rt; none_stands(&rt, alloc, 2, 9));
+    assert!(rt; none_stands(&rt, alloc, 3, 27));
+    assert!(rt; none_stands(&rt, alloc, 4, 81));
+    assert!(rt; none_stands(&rt, alloc, 5, 243));
+    assert!(rt; none_stands(&rt, alloc, 6, 729));
+    assert!(rt; none_stands(&rt, alloc, 7, 2187));
 }
 
 // A payload of 32,768 such bytes is added, and noted as one that stands at a place of which the last byte is this.
@@ -509,29 +455,23 @@ fn longest_added(
     noted: &mut Vec<u8>,
     byte: u8,
     place: u8,
-) -> Result<bool, Fail> {
-    let payload = longest_payload(alloc, byte)?;
-    noted.push(place)?;
-    noted.extend_from_slice(&payload)?;
-    Ok(add(rt, journal, &payload).is_ok())
+) -> bool {
+    let payload = vec![in alloc; byte; 32_768].expect(rt, "memory");
+    noted.push(place).is_ok()
+        && noted.extend_from_slice(&payload).is_ok()
+        && adds(rt, journal, &payload)
 }
 
 // Three of the longest payloads take more bytes than a window has: the second and the third frame don't stand whole in
 // what was read for the one before. They stand at 17, 32,798 and 65,579.
 #[test]
-fn the_longest_payloads_are_kept(rt: HostRuntime) -> Result<(), Fail> {
+fn the_longest_payloads_are_kept(rt: HostRuntime) {
     let alloc = rt.alloc();
-    let disk = MemoryDisk::new(alloc, b"", 120_000, 240_000, Vec::new(alloc), 0)?;
-    let Ok(mut journal) = Journal::open(alloc, disk) else {
-        return Ok(assert!(rt; false, "not opened"));
-    };
+    let disk = MemoryDisk::new(alloc, b"", 120_000, 240_000, Vec::new(alloc), 0);
+    let mut journal = open(&rt, alloc, disk.expect(&rt, "memory"));
     let mut want = Vec::new(alloc);
-    assert!(rt; longest_added(&rt, alloc, &mut journal, &mut want, b'p', 17)?);
-    assert!(rt; longest_added(&rt, alloc, &mut journal, &mut want, b'q', 30)?);
-    assert!(rt; longest_added(&rt, alloc, &mut journal, &mut want, b'r', 43)?);
-    let Ok(mut journal) = Journal::open(alloc, journal.into_disk()) else {
-        return Ok(assert!(rt; false, "not opened again"));
-    };
-    assert!(rt; payloads_of(&rt, alloc, &mut journal)? == want);
-    Ok(())
+    assert!(rt; longest_added(&rt, alloc, &mut journal, &mut want, b'p', 17));
+    assert!(rt; longest_added(&rt, alloc, &mut journal, &mut want, b'q', 30));
+    assert!(rt; longest_added(&rt, alloc, &mut journal, &mut want, b'r', 43));
+    assert!(rt; payloads_on(&rt, alloc, journal.into_disk()) == want);
 }

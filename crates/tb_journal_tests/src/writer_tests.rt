@@ -2,7 +2,6 @@ ghost use Rattle.std.specs.Prelude.{◌≤◌};
 
 use std::alloc::Global;
 use std::process::Abort;
-use std::test::Fail;
 use tb_disk::MemoryDisk;
 use tb_journal::*;
 
@@ -40,15 +39,10 @@ const ROOM: u64 = 1000;
 const LOG_ROOM: u64 = 10_000;
 
 // A disk in memory whose calls with these numbers fail, and whose failed writes leave this byte.
-fn disk_of(
-    rt: &impl Abort,
-    alloc: Global,
-    contents: &[u8],
-    fails: Vec<u64>,
-    torn: u8,
-) -> Result<MemoryDisk, Fail> {
+fn disk_of(rt: &impl Abort, alloc: Global, contents: &[u8], fails: &[u64], torn: u8) -> MemoryDisk {
     assert!(rt; contents.len() < 1000);
-    Ok(MemoryDisk::new(alloc, contents, ROOM, LOG_ROOM, fails, torn)?)
+    let fails = fails.to_vec(alloc).expect(rt, "memory");
+    MemoryDisk::new(alloc, contents, ROOM, LOG_ROOM, fails, torn).expect(rt, "memory")
 }
 
 // The record and `abc` are written over what a disk holds.
@@ -57,99 +51,98 @@ fn write(disk: &mut MemoryDisk) -> Result<(), DiskFault> {
 }
 
 // They are written over these bytes, and nothing else is left.
-fn anew(rt: &impl Abort, alloc: Global, spare: &[u8]) -> Result<bool, Fail> {
-    let mut disk = disk_of(rt, alloc, spare, Vec::new(alloc), 0)?;
-    Ok(write(&mut disk).is_ok() && disk.contents() == WRITTEN)
+fn anew(rt: &impl Abort, alloc: Global, spare: &[u8]) -> bool {
+    let mut disk = disk_of(rt, alloc, spare, &[], 0);
+    write(&mut disk).is_ok() && disk.contents() == WRITTEN
 }
 
 // Whether a file has at most 18 bytes, is no journal, or isn't sealed.
-fn is_blank(rt: &impl Abort, alloc: Global, file: &[u8]) -> Result<bool, Fail> {
-    let disk = disk_of(rt, alloc, file, Vec::new(alloc), 0)?;
-    Ok(match Journal::open(alloc, disk) {
+fn is_blank(rt: &impl Abort, alloc: Global, file: &[u8]) -> bool {
+    match Journal::open(alloc, disk_of(rt, alloc, file, &[], 0)) {
         Ok(_opened) => file.len() <= 18,
         Err((_disk, JournalFault::NotAJournal(_))) => true,
         Err((_disk, JournalFault::Unsealed(_))) => true,
         Err((_disk, _fault)) => false,
-    })
+    }
 }
 
 // Each device call fails in turn: the file is then what it was, or blank, or what was to be written.
-fn is_safe(rt: &impl Abort, alloc: Global, spare: &[u8], torn: u8) -> Result<bool, Fail> {
+fn is_safe(rt: &impl Abort, alloc: Global, spare: &[u8], torn: u8) -> bool {
     for call in 0..20 {
-        let mut disk = disk_of(rt, alloc, spare, vec![in alloc; call]?, torn)?;
+        let mut disk = disk_of(rt, alloc, spare, &[call], torn);
         let written = write(&mut disk);
         let file = disk.contents();
-        if file != WRITTEN && (written.is_ok() || file != spare && !is_blank(rt, alloc, file)?) {
-            return Ok(false);
+        if file != WRITTEN && (written.is_ok() || file != spare && !is_blank(rt, alloc, file)) {
+            return false;
         }
     }
-    Ok(true)
+    true
 }
 
 #[test]
-fn a_spare_is_written_anew(rt: HostRuntime) -> Result<(), Fail> {
+fn a_spare_is_written_anew(rt: HostRuntime) {
     let alloc = rt.alloc();
-    assert_eq!(rt; WRITTEN.len(), 84);
-    assert!(rt; anew(&rt, alloc, b"")?);
-    assert!(rt; anew(&rt, alloc, b"spare")?);
-    assert!(rt; anew(&rt, alloc, SEVENTEEN)?);
-    assert!(rt; anew(&rt, alloc, EIGHTEEN)?);
-    assert!(rt; anew(&rt, alloc, NINETEEN)?);
-    assert!(rt; anew(&rt, alloc, SEALED)?);
-    assert!(rt; anew(&rt, alloc, UNSEALED)?);
-    assert!(rt; anew(&rt, alloc, FIRST)?);
-    assert!(rt; anew(&rt, alloc, LONGER)?);
-    assert!(rt; anew(&rt, alloc, WRITTEN)?);
-    Ok(())
+    assert!(rt; WRITTEN.len() == 84);
+    assert!(rt; anew(&rt, alloc, b""));
+    assert!(rt; anew(&rt, alloc, b"spare"));
+    assert!(rt; anew(&rt, alloc, SEVENTEEN));
+    assert!(rt; anew(&rt, alloc, EIGHTEEN));
+    assert!(rt; anew(&rt, alloc, NINETEEN));
+    assert!(rt; anew(&rt, alloc, SEALED));
+    assert!(rt; anew(&rt, alloc, UNSEALED));
+    assert!(rt; anew(&rt, alloc, FIRST));
+    assert!(rt; anew(&rt, alloc, LONGER));
+    assert!(rt; anew(&rt, alloc, WRITTEN));
 }
 
 #[test]
-fn a_failed_call_leaves_no_half_journal(rt: HostRuntime) -> Result<(), Fail> {
+fn a_failed_call_leaves_no_half_journal(rt: HostRuntime) {
     let alloc = rt.alloc();
     for torn in 0..3 {
-        assert!(rt; is_safe(&rt, alloc, b"", torn)?);
-        assert!(rt; is_safe(&rt, alloc, b"spare", torn)?);
-        assert!(rt; is_safe(&rt, alloc, SEVENTEEN, torn)?);
-        assert!(rt; is_safe(&rt, alloc, EIGHTEEN, torn)?);
-        assert!(rt; is_safe(&rt, alloc, NINETEEN, torn)?);
-        assert!(rt; is_safe(&rt, alloc, SEALED, torn)?);
-        assert!(rt; is_safe(&rt, alloc, UNSEALED, torn)?);
-        assert!(rt; is_safe(&rt, alloc, FIRST, torn)?);
-        assert!(rt; is_safe(&rt, alloc, LONGER, torn)?);
-        assert!(rt; is_safe(&rt, alloc, WRITTEN, torn)?);
+        assert!(rt; is_safe(&rt, alloc, b"", torn));
+        assert!(rt; is_safe(&rt, alloc, b"spare", torn));
+        assert!(rt; is_safe(&rt, alloc, SEVENTEEN, torn));
+        assert!(rt; is_safe(&rt, alloc, EIGHTEEN, torn));
+        assert!(rt; is_safe(&rt, alloc, NINETEEN, torn));
+        assert!(rt; is_safe(&rt, alloc, SEALED, torn));
+        assert!(rt; is_safe(&rt, alloc, UNSEALED, torn));
+        assert!(rt; is_safe(&rt, alloc, FIRST, torn));
+        assert!(rt; is_safe(&rt, alloc, LONGER, torn));
+        assert!(rt; is_safe(&rt, alloc, WRITTEN, torn));
     }
-    Ok(())
 }
 
 // Whether a disk of which this call fails is handed back as it was.
-fn is_handed_back(rt: &impl Abort, alloc: Global, call: u64) -> Result<bool, Fail> {
-    let mut disk = disk_of(rt, alloc, LONGER, vec![in alloc; call]?, 7)?;
-    Ok(match Writer::begin(&mut disk) {
+fn is_handed_back(rt: &impl Abort, alloc: Global, call: u64) -> bool {
+    let mut disk = disk_of(rt, alloc, LONGER, &[call], 7);
+    match Writer::begin(&mut disk) {
         Ok(_begun) => false,
         Err((spare, DiskFault)) => spare.contents() == LONGER,
-    })
+    }
 }
 
 // Beginning over a sealed spare takes the calls 0 to 8: a sync, the length, the seal's byte, the byte 0 and a sync, a
 // cut and a sync, the title and a sync.
 #[test]
-fn a_spare_is_handed_back(rt: HostRuntime) -> Result<(), Fail> {
+fn a_spare_is_handed_back(rt: HostRuntime) {
     let alloc = rt.alloc();
-    assert!(rt; is_handed_back(&rt, alloc, 0)?);
-    assert!(rt; is_handed_back(&rt, alloc, 1)?);
-    assert!(rt; is_handed_back(&rt, alloc, 2)?);
-    Ok(())
+    assert!(rt; is_handed_back(&rt, alloc, 0));
+    assert!(rt; is_handed_back(&rt, alloc, 1));
+    assert!(rt; is_handed_back(&rt, alloc, 2));
 }
 
-// A journal without a payload is sealed.
+// A journal without a payload is sealed over a spare, and this stands there then.
+fn seals(rt: &impl Abort, alloc: Global, spare: &[u8], after: &[u8]) -> bool {
+    let mut disk = disk_of(rt, alloc, spare, &[], 0);
+    let sealed = match Writer::begin(&mut disk) {
+        Ok(writer) => writer.seal().is_ok(),
+        Err((_spare, DiskFault)) => false,
+    };
+    sealed && disk.contents() == after
+}
+
 #[test]
-fn an_empty_journal_is_written(rt: HostRuntime) -> Result<(), Fail> {
+fn an_empty_journal_is_written(rt: HostRuntime) {
     let alloc = rt.alloc();
-    let mut disk = disk_of(&rt, alloc, LONGER, Vec::new(alloc), 0)?;
-    match Writer::begin(&mut disk) {
-        Ok(writer) => assert!(rt; writer.seal().is_ok()),
-        Err((_spare, DiskFault)) => assert!(rt; false, "not begun"),
-    }
-    assert_eq!(rt; disk.contents(), b"TBHOSTJOURNAL002\x01\0".as_slice());
-    Ok(())
+    assert!(rt; seals(&rt, alloc, LONGER, b"TBHOSTJOURNAL002\x01\0"));
 }
