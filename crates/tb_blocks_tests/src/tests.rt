@@ -1,7 +1,6 @@
 //! Tests of the public calls.
 use std::alloc::Global;
 use std::process::Abort;
-use std::test::Fail;
 use tb_blocks::*;
 
 // The next number of a row of mixed ones.
@@ -41,20 +40,13 @@ fn has_same_runs(list: &Blocks<u64>, plain: &Vec<u64>) -> bool {
     true
 }
 
-fn insert(
-    list: &mut Blocks<u64>,
-    plain: &mut Vec<u64>,
-    seed: usize,
-    element: u64,
-) -> Result<bool, Fail> {
+fn insert(list: &mut Blocks<u64>, plain: &mut Vec<u64>, seed: usize, element: u64) -> bool {
     let place = place_below(seed, plain.len() + 1);
-    list.reserve(1)?;
-    if place > list.len() || place > plain.len() {
-        return Ok(false);
+    if list.reserve(1).is_err() || place > list.len() || place > plain.len() {
+        return false;
     }
     list.insert_at(Spot::at(place), element);
-    plain.insert(place, element)?;
-    Ok(true)
+    plain.insert(place, element).is_ok()
 }
 
 // Whether the element that is replaced is the same.
@@ -77,13 +69,13 @@ fn remove(list: &mut Blocks<u64>, plain: &mut Vec<u64>, seed: usize) -> bool {
 }
 
 #[test]
-fn a_list_in_blocks_is_as_a_vector(rt: HostRuntime) -> Result<(), Fail> {
+fn a_list_in_blocks_is_as_a_vector(rt: HostRuntime) {
     let mut list = Blocks::new(rt.alloc());
     let mut plain = Vec::new(rt.alloc());
     let mut seed = 1;
     for step in 0..6000u64 {
         seed = next(seed);
-        assert!(rt; insert(&mut list, &mut plain, seed, step)?);
+        assert!(rt; insert(&mut list, &mut plain, seed, step));
     }
     assert!(rt; has_same_elements(&list, &plain) && has_same_runs(&list, &plain));
     for step in 0..5000u64 {
@@ -95,7 +87,6 @@ fn a_list_in_blocks_is_as_a_vector(rt: HostRuntime) -> Result<(), Fail> {
         }
     }
     assert!(rt; has_same_elements(&list, &plain) && has_same_runs(&list, &plain));
-    Ok(())
 }
 
 #[derive(Clone, Copy, Debug, Drop, PartialEq, Eq)]
@@ -132,14 +123,16 @@ impl Keyed for Note {
 }
 
 // Adds the element, if no other has its key.
-fn add<T: Keyed + Copy + Drop>(list: &mut Ordered<T>, element: T) -> Result<bool, Fail> {
-    list.reserve(1)?;
+fn add<T: Keyed + Copy + Drop>(list: &mut Ordered<T>, element: T) -> bool {
+    if list.reserve(1).is_err() {
+        return false;
+    }
     let key = element.key();
     if list.find(&key).is_some() {
-        return Ok(false);
+        return false;
     }
     list.insert(element);
-    Ok(true)
+    true
 }
 
 fn loan_of(step: u32) -> Loan {
@@ -151,13 +144,13 @@ fn loan_of(step: u32) -> Loan {
 }
 
 // Whether the loan of a step is added, and no other of its number after it.
-fn comes_once(loans: &mut Ordered<Loan>, step: u32) -> Result<bool, Fail> {
+fn comes_once(loans: &mut Ordered<Loan>, step: u32) -> bool {
     let loan = loan_of(step);
     let again = Loan {
         number: loan.number,
         par: 0,
     };
-    Ok(add(loans, loan)? && !add(loans, again)?)
+    add(loans, loan) && !add(loans, again)
 }
 
 fn goes_once(loans: &mut Ordered<Loan>, step: u32) -> bool {
@@ -166,12 +159,12 @@ fn goes_once(loans: &mut Ordered<Loan>, step: u32) -> bool {
 }
 
 // The loans of 5,000 steps. Their numbers are remainders of 5,003, each once.
-fn five_thousand_loans<R: AllocGlobal + Abort>(rt: &R) -> Result<Ordered<Loan>, Fail> {
+fn five_thousand_loans<R: AllocGlobal + Abort>(rt: &R) -> Ordered<Loan> {
     let mut loans = Ordered::new(rt.alloc());
     for step in 0..5000u32 {
-        assert!(rt; comes_once(&mut loans, step)?);
+        assert!(rt; comes_once(&mut loans, step));
     }
-    Ok(loans)
+    loans
 }
 
 fn is_in_order(loans: &Ordered<Loan>) -> bool {
@@ -188,20 +181,19 @@ fn place_of_loan(loans: &Ordered<Loan>, number: u64) -> Option<usize> {
 }
 
 #[test]
-fn loans_stand_in_the_order_of_their_numbers(rt: HostRuntime) -> Result<(), Fail> {
-    let loans = five_thousand_loans(&rt)?;
+fn loans_stand_in_the_order_of_their_numbers(rt: HostRuntime) {
+    let loans = five_thousand_loans(&rt);
     assert!(rt; loans.len() == 5000 && is_in_order(&loans));
     // Of the numbers below 5,003 the remainders of 1,999 times 5,000, 5,001 and 5,002 are missing: 4,009, 1,005, 3,004.
     assert!(rt; place_of_loan(&loans, 1004) == Some(1004));
     assert!(rt; place_of_loan(&loans, 1005) == None);
     assert!(rt; place_of_loan(&loans, 3005) == Some(3003));
     assert!(rt; loans.place_of(&5003) == 5000);
-    Ok(())
 }
 
 #[test]
-fn loans_are_removed_by_their_numbers(rt: HostRuntime) -> Result<(), Fail> {
-    let mut loans = five_thousand_loans(&rt)?;
+fn loans_are_removed_by_their_numbers(rt: HostRuntime) {
+    let mut loans = five_thousand_loans(&rt);
     for step in 0..5000u32 {
         assert!(rt; goes_once(&mut loans, step));
     }
@@ -210,23 +202,22 @@ fn loans_are_removed_by_their_numbers(rt: HostRuntime) -> Result<(), Fail> {
         number: 5002,
         par: 4999,
     };
-    assert!(rt; add(&mut loans, old)?);
+    assert!(rt; add(&mut loans, old));
     assert!(rt; loans.remove(&5002) == Some(old));
-    Ok(())
 }
 
 // Five notes, added in another order than theirs.
-fn five_notes<R: AllocGlobal + Abort>(rt: &R) -> Result<Ordered<Note>, Fail> {
+fn five_notes<R: AllocGlobal + Abort>(rt: &R) -> Ordered<Note> {
     let mut notes = Ordered::new(rt.alloc());
-    assert!(rt; add_note(&mut notes, 2026, 1)?);
-    assert!(rt; add_note(&mut notes, 2025, 7)?);
-    assert!(rt; add_note(&mut notes, 2026, 3)?);
-    assert!(rt; add_note(&mut notes, 2025, 9)?);
-    assert!(rt; add_note(&mut notes, 2026, 2)?);
-    Ok(notes)
+    assert!(rt; add_note(&mut notes, 2026, 1));
+    assert!(rt; add_note(&mut notes, 2025, 7));
+    assert!(rt; add_note(&mut notes, 2026, 3));
+    assert!(rt; add_note(&mut notes, 2025, 9));
+    assert!(rt; add_note(&mut notes, 2026, 2));
+    notes
 }
 
-fn add_note(notes: &mut Ordered<Note>, year: u32, page: u32) -> Result<bool, Fail> {
+fn add_note(notes: &mut Ordered<Note>, year: u32, page: u32) -> bool {
     add(notes, Note { year, page })
 }
 
@@ -241,8 +232,8 @@ fn place_of(notes: &Ordered<Note>, year: u32, page: u32) -> Option<usize> {
 }
 
 #[test]
-fn notes_stand_by_year_and_last_page_first(rt: HostRuntime) -> Result<(), Fail> {
-    let notes = five_notes(&rt)?;
+fn notes_stand_by_year_and_last_page_first(rt: HostRuntime) {
+    let notes = five_notes(&rt);
     assert!(rt; notes.len() == 5);
     let run = notes.run_from(0);
     assert!(rt; run.len() == 5);
@@ -253,12 +244,11 @@ fn notes_stand_by_year_and_last_page_first(rt: HostRuntime) -> Result<(), Fail> 
     assert!(rt; stands_at(run, 4, 2026, 1));
     assert!(rt; place_of(&notes, 2026, 3) == Some(2));
     assert!(rt; place_of(&notes, 2026, 4) == None);
-    Ok(())
 }
 
 #[test]
-fn a_note_is_removed_from_between_others(rt: HostRuntime) -> Result<(), Fail> {
-    let mut notes = five_notes(&rt)?;
+fn a_note_is_removed_from_between_others(rt: HostRuntime) {
+    let mut notes = five_notes(&rt);
     let old = Note {
         year: 2025,
         page: 7,
@@ -270,14 +260,13 @@ fn a_note_is_removed_from_between_others(rt: HostRuntime) -> Result<(), Fail> {
     assert!(rt; stands_at(run, 0, 2026, 3));
     assert!(rt; stands_at(run, 1, 2026, 2));
     assert!(rt; stands_at(run, 2, 2026, 1));
-    Ok(())
 }
 
 #[test]
-fn want_of_memory_leaves_the_list(rt: HostRuntime) -> Result<(), Fail> {
+fn want_of_memory_leaves_the_list(rt: HostRuntime) {
     let mut list = Blocks::new(rt.alloc());
     for step in 0..1000u64 {
-        list.reserve(1)?;
+        assert!(rt; list.reserve(1).is_ok());
         list.insert_at(Spot::at(0), step);
     }
     assert!(rt; list.reserve(usize::MAX).is_err());
@@ -285,5 +274,4 @@ fn want_of_memory_leaves_the_list(rt: HostRuntime) -> Result<(), Fail> {
     let _ = list.reserve(5000);
     assert!(rt; list.len() == 1000 && *list.at(999) == 0);
     assert!(rt; list.remove_at(Spot::at(0)) == 999);
-    Ok(())
 }
