@@ -1,10 +1,9 @@
 //! Tests of the public calls. The bytes of parcels were spelled by hand from the table of formats.
-ghost use Rattle.std.specs.Prelude.{◌≡◌, [], IfOk};
+ghost use Rattle.std.specs.Prelude.{◌≡◌, []};
 ghost use Rattle.tb_message.specs.Spelling.{IsInRange};
 
 use std::alloc::Global;
 use std::process::Abort;
-use std::test::Fail;
 use tb_disk::MemoryDisk;
 use tb_parcel::{Parcel, ParcelFront, read_parcel};
 use tb_replica::{Follower, TakeFault, Taken};
@@ -38,25 +37,21 @@ struct Standby {
 }
 
 // A disk of which these calls fail.
-fn disk_of(
-    rt: &impl Abort,
-    alloc: Global,
-    contents: &[u8],
-    fails: Vec<u64>,
-) -> Result<MemoryDisk, Fail> {
+fn disk_of(rt: &impl Abort, alloc: Global, contents: &[u8], fails: &[u64]) -> MemoryDisk {
     assert!(rt; contents.len() < 10_000);
-    Ok(MemoryDisk::new(alloc, contents, ROOM, LOG_ROOM, fails, 0)?)
+    let fails = fails.to_vec(alloc).expect(rt, "memory");
+    MemoryDisk::new(alloc, contents, ROOM, LOG_ROOM, fails, 0).expect(rt, "memory")
 }
 
 // A follower on a disk of which no call fails.
-fn standby_on(rt: &impl Abort, alloc: Global, contents: &[u8]) -> Result<Option<Standby>, Fail> {
-    standby_of(alloc, disk_of(rt, alloc, contents, Vec::new(alloc))?)
+fn standby_on(rt: &impl Abort, alloc: Global, contents: &[u8]) -> Option<Standby> {
+    standby_of(rt, alloc, disk_of(rt, alloc, contents, &[]))
 }
 
-fn standby_of(alloc: Global, disk: MemoryDisk) -> Result<Option<Standby>, Fail> {
+fn standby_of(rt: &impl Abort, alloc: Global, disk: MemoryDisk) -> Option<Standby> {
     match Follower::open(alloc, disk) {
-        Ok(follower) => Ok(Some(Standby { follower })),
-        Err(_) => Err(Fail::from("not opened")),
+        Ok(follower) => Some(Standby { follower }),
+        Err(_) => panic!(rt; "not opened"),
     }
 }
 
@@ -120,94 +115,97 @@ fn entries(standby: &Option<Standby>) -> Option<u64> {
 }
 
 #[test]
-fn a_parcel_is_added_once(rt: HostRuntime) -> Result<(), Fail> {
-    let mut standby = standby_on(&rt, rt.alloc(), b"")?;
+fn a_parcel_is_added_once(rt: HostRuntime) {
+    let mut standby = standby_on(&rt, rt.alloc(), b"");
     assert!(rt; entries(&standby) == Some(0));
     assert!(rt; takes(&mut standby, &parcel_of(&rt, REGISTER), Taken::Added(1)));
     assert!(rt; takes(&mut standby, &parcel_of(&rt, REGISTER), Taken::Standing));
     assert!(rt; entries(&standby) == Some(1));
-    Ok(())
 }
 
 #[test]
-fn parcels_come_in_any_order(rt: HostRuntime) -> Result<(), Fail> {
-    let mut standby = standby_on(&rt, rt.alloc(), b"")?;
+fn parcels_come_in_any_order(rt: HostRuntime) {
+    let mut standby = standby_on(&rt, rt.alloc(), b"");
     assert!(rt; takes(&mut standby, &parcel_of(&rt, ANNOUNCE), Taken::Ahead));
     assert!(rt; takes(&mut standby, &parcel_of(&rt, REGISTER), Taken::Added(1)));
     assert!(rt; entries(&standby) == Some(1));
     assert!(rt; takes(&mut standby, &parcel_of(&rt, ENROL), Taken::Added(2)));
     assert!(rt; entries(&standby) == Some(3));
-    Ok(())
 }
 
 #[test]
-fn parcels_are_repeated(rt: HostRuntime) -> Result<(), Fail> {
-    let mut standby = standby_on(&rt, rt.alloc(), b"")?;
+fn parcels_are_repeated(rt: HostRuntime) {
+    let mut standby = standby_on(&rt, rt.alloc(), b"");
     assert!(rt; takes(&mut standby, &parcel_of(&rt, REGISTER), Taken::Added(1)));
     assert!(rt; takes(&mut standby, &parcel_of(&rt, REGISTER), Taken::Standing));
     assert!(rt; takes(&mut standby, &parcel_of(&rt, ENROL), Taken::Added(1)));
     assert!(rt; entries(&standby) == Some(2));
-    Ok(())
 }
 
 #[test]
-fn another_history_is_a_fork(rt: HostRuntime) -> Result<(), Fail> {
+fn another_history_is_a_fork(rt: HostRuntime) {
     let alloc = rt.alloc();
-    let mut standby = standby_on(&rt, alloc, b"")?;
+    let mut standby = standby_on(&rt, alloc, b"");
     assert!(rt; takes(&mut standby, &parcel_of(&rt, OTHER), Taken::Added(1)));
     assert!(rt; forks(&mut standby, &parcel_of(&rt, REGISTER), 0));
     // At the next place too, where its number was used.
-    let mut standby = standby_on(&rt, alloc, b"")?;
+    let mut standby = standby_on(&rt, alloc, b"");
     assert!(rt; takes(&mut standby, &parcel_of(&rt, OTHER), Taken::Added(1)));
     assert!(rt; forks(&mut standby, &placed(&rt, REGISTER, 1), 1));
-    Ok(())
 }
 
 // The kept parcel's own place is told, and what came before it stays.
 #[test]
-fn a_kept_parcel_is_a_fork(rt: HostRuntime) -> Result<(), Fail> {
-    let mut standby = standby_on(&rt, rt.alloc(), b"")?;
+fn a_kept_parcel_is_a_fork(rt: HostRuntime) {
+    let mut standby = standby_on(&rt, rt.alloc(), b"");
     assert!(rt; takes(&mut standby, &placed(&rt, OTHER, 2), Taken::Ahead));
     assert!(rt; takes(&mut standby, &parcel_of(&rt, ENROL), Taken::Ahead));
     assert!(rt; forks(&mut standby, &parcel_of(&rt, REGISTER), 2));
-    Ok(())
 }
 
 // What is kept for a place and stands already is let go. The place's own parcel is taken when it comes.
 #[test]
-fn a_kept_parcel_stands_by_another(rt: HostRuntime) -> Result<(), Fail> {
-    let mut standby = standby_on(&rt, rt.alloc(), b"")?;
+fn a_kept_parcel_stands_by_another(rt: HostRuntime) {
+    let mut standby = standby_on(&rt, rt.alloc(), b"");
     assert!(rt; takes(&mut standby, &placed(&rt, REGISTER, 1), Taken::Ahead));
     assert!(rt; takes(&mut standby, &parcel_of(&rt, ANNOUNCE), Taken::Ahead));
     assert!(rt; takes(&mut standby, &parcel_of(&rt, REGISTER), Taken::Added(1)));
     assert!(rt; takes(&mut standby, &parcel_of(&rt, ENROL), Taken::Added(2)));
     assert!(rt; entries(&standby) == Some(3));
-    Ok(())
 }
 
 // The first of each place is kept.
 #[test]
-fn one_parcel_is_kept_for_a_place(rt: HostRuntime) -> Result<(), Fail> {
-    let mut standby = standby_on(&rt, rt.alloc(), b"")?;
+fn one_parcel_is_kept_for_a_place(rt: HostRuntime) {
+    let mut standby = standby_on(&rt, rt.alloc(), b"");
     assert!(rt; takes(&mut standby, &parcel_of(&rt, ENROL), Taken::Ahead));
     assert!(rt; takes(&mut standby, &placed(&rt, OTHER, 1), Taken::Ahead));
     assert!(rt; takes(&mut standby, &parcel_of(&rt, REGISTER), Taken::Added(2)));
-    Ok(())
 }
 
 // The parcel of a place in a long history, in which the operator registers a submitter at each place.
-fn registers(rt: &impl Abort, alloc: Global, place: u64) -> Result<Parcel, Fail>
-    ensures { IfOk result (λ parcel. IsInRange parcel.entry) }
+fn registers(rt: &impl Abort, alloc: Global, place: u64) -> Parcel
+    ensures { IsInRange result.entry }
 {
     let mut bytes = Vec::new(alloc);
-    bytes.extend_from_slice(b"\0\0\0\x26")?;
-    bytes.extend_from_slice(&place.to_be_bytes())?;
-    bytes.extend_from_slice(b"\x08operator")?;
-    bytes.extend_from_slice(&place.saturating_add(1).to_be_bytes())?;
-    bytes.extend_from_slice(b"\0\0\0\0\x67\x28\x62\xe0\x01")?;
-    let names = format!(in alloc; "\x05s{place:04}\x05k{place:04}")?;
-    bytes.extend_from_slice(names.as_bytes())?;
-    Ok(parcel_of(rt, &bytes))
+    bytes.extend_from_slice(b"\0\0\0\x26").expect(rt, "memory");
+    bytes
+        .extend_from_slice(&place.to_be_bytes())
+        .expect(rt, "memory");
+    bytes
+        .extend_from_slice(b"\x08operator")
+        .expect(rt, "memory");
+    bytes
+        .extend_from_slice(&place.saturating_add(1).to_be_bytes())
+        .expect(rt, "memory");
+    bytes
+        .extend_from_slice(b"\0\0\0\0\x67\x28\x62\xe0\x01")
+        .expect(rt, "memory");
+    let names = format!(in alloc; "\x05s{place:04}\x05k{place:04}").expect(rt, "memory");
+    bytes
+        .extend_from_slice(names.as_bytes())
+        .expect(rt, "memory");
+    parcel_of(rt, &bytes)
 }
 
 // Whether the parcel of this place of the long history is taken so.
@@ -217,9 +215,9 @@ fn takes_at(
     standby: &mut Option<Standby>,
     place: u64,
     taken: Taken,
-) -> Result<bool, Fail> {
-    let parcel = registers(rt, alloc, place)?;
-    Ok(takes(standby, &parcel, taken))
+) -> bool {
+    let parcel = registers(rt, alloc, place);
+    takes(standby, &parcel, taken)
 }
 
 // Whether the parcels of these places of the long history are kept ahead.
@@ -229,28 +227,29 @@ fn are_ahead(
     standby: &mut Option<Standby>,
     from: u64,
     to: u64,
-) -> Result<bool, Fail> {
+) -> bool {
     for place in from..to {
-        if !takes_at(rt, alloc, standby, place, Taken::Ahead)? {
-            return Ok(false);
+        if !takes_at(rt, alloc, standby, place, Taken::Ahead) {
+            return false;
         }
     }
-    Ok(true)
+    true
 }
 
 #[test]
-fn so_many_are_kept_ahead_and_no_more(rt: HostRuntime) -> Result<(), Fail> {
+fn so_many_are_kept_ahead_and_no_more(rt: HostRuntime) {
     let alloc = rt.alloc();
     // Room for a thousand entries and more.
-    let disk = MemoryDisk::new(alloc, b"", 100_000, 1_000_000, Vec::new(alloc), 0)?;
-    let mut standby = standby_of(alloc, disk)?;
-    assert!(rt; are_ahead(&rt, alloc, &mut standby, 1, 1024)?);
-    assert!(rt; takes_at(&rt, alloc, &mut standby, 1024, Taken::Dropped)?);
+    let disk = MemoryDisk::new(alloc, b"", 100_000, 1_000_000, Vec::new(alloc), 0).expect(
+        &rt, "memory",
+    );
+    let mut standby = standby_of(&rt, alloc, disk);
+    assert!(rt; are_ahead(&rt, alloc, &mut standby, 1, 1024));
+    assert!(rt; takes_at(&rt, alloc, &mut standby, 1024, Taken::Dropped));
     assert!(rt; takes(&mut standby, &placed(&rt, ENROL, u64::MAX), Taken::Dropped));
-    assert!(rt; takes_at(&rt, alloc, &mut standby, 0, Taken::Added(1024))?);
+    assert!(rt; takes_at(&rt, alloc, &mut standby, 0, Taken::Added(1024)));
     assert!(rt; entries(&standby) == Some(1024));
-    assert!(rt; takes_at(&rt, alloc, &mut standby, 1024, Taken::Added(1))?);
-    Ok(())
+    assert!(rt; takes_at(&rt, alloc, &mut standby, 1024, Taken::Added(1)));
 }
 
 // A standby that goes on, or the disk of one that was given up with its fault.
@@ -278,87 +277,83 @@ fn deliver(
     alloc: Global,
     disk: MemoryDisk,
     places: &[u64],
-) -> Result<(MemoryDisk, Option<TakeFault>), Fail> {
+) -> (MemoryDisk, Option<TakeFault>) {
     let mut delivery = match Follower::open(alloc, disk) {
         Ok(follower) => Ok(Standby { follower }),
         Err((disk, _fault)) => Err((disk, TakeFault::DiskFault)),
     };
     for place in places {
-        delivery = step(delivery, &registers(rt, alloc, *place)?);
+        delivery = step(delivery, &registers(rt, alloc, *place));
     }
     match delivery {
-        Ok(standby) => Ok((into_disk(standby), None)),
-        Err((disk, fault)) => Ok((disk, Some(fault))),
+        Ok(standby) => (into_disk(standby), None),
+        Err((disk, fault)) => (disk, Some(fault)),
     }
 }
 
 // How many entries a file stands for.
-fn entries_in(rt: &impl Abort, alloc: Global, file: &[u8]) -> Result<Option<u64>, Fail> {
-    Ok(entries(&standby_on(rt, alloc, file)?))
+fn entries_in(rt: &impl Abort, alloc: Global, file: &[u8]) -> Option<u64> {
+    entries(&standby_on(rt, alloc, file))
 }
 
 // Whether the parcels of these places make a history of so many entries.
-fn arrive(rt: &impl Abort, alloc: Global, places: &[u64], next: u64) -> Result<bool, Fail> {
-    let disk = disk_of(rt, alloc, b"", Vec::new(alloc))?;
-    let (disk, fault) = deliver(rt, alloc, disk, places)?;
-    Ok(fault == None && entries_in(rt, alloc, disk.contents())? == Some(next))
+fn arrive(rt: &impl Abort, alloc: Global, places: &[u64], next: u64) -> bool {
+    let disk = disk_of(rt, alloc, b"", &[]);
+    let (disk, fault) = deliver(rt, alloc, disk, places);
+    fault == None && entries_in(rt, alloc, disk.contents()) == Some(next)
 }
 
 // Each order of four parcels, of which three come twice.
 #[test]
-fn four_parcels_come_in_each_order(rt: HostRuntime) -> Result<(), Fail> {
+fn four_parcels_come_in_each_order(rt: HostRuntime) {
     let alloc = rt.alloc();
-    assert!(rt; arrive(&rt, alloc, &[0, 1, 0, 2, 1, 3, 2], 4)?);
-    assert!(rt; arrive(&rt, alloc, &[0, 1, 0, 3, 1, 2, 3], 4)?);
-    assert!(rt; arrive(&rt, alloc, &[0, 2, 0, 1, 2, 3, 1], 4)?);
-    assert!(rt; arrive(&rt, alloc, &[0, 2, 0, 3, 2, 1, 3], 4)?);
-    assert!(rt; arrive(&rt, alloc, &[0, 3, 0, 1, 3, 2, 1], 4)?);
-    assert!(rt; arrive(&rt, alloc, &[0, 3, 0, 2, 3, 1, 2], 4)?);
-    assert!(rt; arrive(&rt, alloc, &[1, 0, 1, 2, 0, 3, 2], 4)?);
-    assert!(rt; arrive(&rt, alloc, &[1, 0, 1, 3, 0, 2, 3], 4)?);
-    assert!(rt; arrive(&rt, alloc, &[1, 2, 1, 0, 2, 3, 0], 4)?);
-    assert!(rt; arrive(&rt, alloc, &[1, 2, 1, 3, 2, 0, 3], 4)?);
-    assert!(rt; arrive(&rt, alloc, &[1, 3, 1, 0, 3, 2, 0], 4)?);
-    assert!(rt; arrive(&rt, alloc, &[1, 3, 1, 2, 3, 0, 2], 4)?);
-    assert!(rt; arrive(&rt, alloc, &[2, 0, 2, 1, 0, 3, 1], 4)?);
-    assert!(rt; arrive(&rt, alloc, &[2, 0, 2, 3, 0, 1, 3], 4)?);
-    assert!(rt; arrive(&rt, alloc, &[2, 1, 2, 0, 1, 3, 0], 4)?);
-    assert!(rt; arrive(&rt, alloc, &[2, 1, 2, 3, 1, 0, 3], 4)?);
-    assert!(rt; arrive(&rt, alloc, &[2, 3, 2, 0, 3, 1, 0], 4)?);
-    assert!(rt; arrive(&rt, alloc, &[2, 3, 2, 1, 3, 0, 1], 4)?);
-    assert!(rt; arrive(&rt, alloc, &[3, 0, 3, 1, 0, 2, 1], 4)?);
-    assert!(rt; arrive(&rt, alloc, &[3, 0, 3, 2, 0, 1, 2], 4)?);
-    assert!(rt; arrive(&rt, alloc, &[3, 1, 3, 0, 1, 2, 0], 4)?);
-    assert!(rt; arrive(&rt, alloc, &[3, 1, 3, 2, 1, 0, 2], 4)?);
-    assert!(rt; arrive(&rt, alloc, &[3, 2, 3, 0, 2, 1, 0], 4)?);
-    assert!(rt; arrive(&rt, alloc, &[3, 2, 3, 1, 2, 0, 1], 4)?);
-    Ok(())
+    assert!(rt; arrive(&rt, alloc, &[0, 1, 0, 2, 1, 3, 2], 4));
+    assert!(rt; arrive(&rt, alloc, &[0, 1, 0, 3, 1, 2, 3], 4));
+    assert!(rt; arrive(&rt, alloc, &[0, 2, 0, 1, 2, 3, 1], 4));
+    assert!(rt; arrive(&rt, alloc, &[0, 2, 0, 3, 2, 1, 3], 4));
+    assert!(rt; arrive(&rt, alloc, &[0, 3, 0, 1, 3, 2, 1], 4));
+    assert!(rt; arrive(&rt, alloc, &[0, 3, 0, 2, 3, 1, 2], 4));
+    assert!(rt; arrive(&rt, alloc, &[1, 0, 1, 2, 0, 3, 2], 4));
+    assert!(rt; arrive(&rt, alloc, &[1, 0, 1, 3, 0, 2, 3], 4));
+    assert!(rt; arrive(&rt, alloc, &[1, 2, 1, 0, 2, 3, 0], 4));
+    assert!(rt; arrive(&rt, alloc, &[1, 2, 1, 3, 2, 0, 3], 4));
+    assert!(rt; arrive(&rt, alloc, &[1, 3, 1, 0, 3, 2, 0], 4));
+    assert!(rt; arrive(&rt, alloc, &[1, 3, 1, 2, 3, 0, 2], 4));
+    assert!(rt; arrive(&rt, alloc, &[2, 0, 2, 1, 0, 3, 1], 4));
+    assert!(rt; arrive(&rt, alloc, &[2, 0, 2, 3, 0, 1, 3], 4));
+    assert!(rt; arrive(&rt, alloc, &[2, 1, 2, 0, 1, 3, 0], 4));
+    assert!(rt; arrive(&rt, alloc, &[2, 1, 2, 3, 1, 0, 3], 4));
+    assert!(rt; arrive(&rt, alloc, &[2, 3, 2, 0, 3, 1, 0], 4));
+    assert!(rt; arrive(&rt, alloc, &[2, 3, 2, 1, 3, 0, 1], 4));
+    assert!(rt; arrive(&rt, alloc, &[3, 0, 3, 1, 0, 2, 1], 4));
+    assert!(rt; arrive(&rt, alloc, &[3, 0, 3, 2, 0, 1, 2], 4));
+    assert!(rt; arrive(&rt, alloc, &[3, 1, 3, 0, 1, 2, 0], 4));
+    assert!(rt; arrive(&rt, alloc, &[3, 1, 3, 2, 1, 0, 2], 4));
+    assert!(rt; arrive(&rt, alloc, &[3, 2, 3, 0, 2, 1, 0], 4));
+    assert!(rt; arrive(&rt, alloc, &[3, 2, 3, 1, 2, 0, 1], 4));
 }
 
 // A parcel that is lost ends the history before its place.
 #[test]
-fn a_parcel_is_lost(rt: HostRuntime) -> Result<(), Fail> {
+fn a_parcel_is_lost(rt: HostRuntime) {
     let alloc = rt.alloc();
-    assert!(rt; arrive(&rt, alloc, &[], 0)?);
-    assert!(rt; arrive(&rt, alloc, &[3, 2, 1], 0)?);
-    assert!(rt; arrive(&rt, alloc, &[3, 0, 2], 1)?);
-    assert!(rt; arrive(&rt, alloc, &[1, 3, 0], 2)?);
-    assert!(rt; arrive(&rt, alloc, &[2, 1, 0], 3)?);
-    Ok(())
+    assert!(rt; arrive(&rt, alloc, &[], 0));
+    assert!(rt; arrive(&rt, alloc, &[3, 2, 1], 0));
+    assert!(rt; arrive(&rt, alloc, &[3, 0, 2], 1));
+    assert!(rt; arrive(&rt, alloc, &[1, 3, 0], 2));
+    assert!(rt; arrive(&rt, alloc, &[2, 1, 0], 3));
 }
 
 // Whether a delivery in which a call of the disk fails leaves at most what was delivered, and all of it once it is
 // delivered anew.
-fn recovers(rt: &impl Abort, alloc: Global, call: u64) -> Result<bool, Fail> {
-    let disk = disk_of(rt, alloc, b"", vec![in alloc; call]?)?;
-    let (failed, fault) = deliver(rt, alloc, disk, &TWENTY)?;
-    let again = disk_of(rt, alloc, failed.contents(), Vec::new(alloc))?;
-    let (whole, none) = deliver(rt, alloc, again, &TWENTY)?;
-    Ok(
-        fault == Some(TakeFault::DiskFault)
-            && none == None
-            && entries_in(rt, alloc, whole.contents())? == Some(20),
-    )
+fn recovers(rt: &impl Abort, alloc: Global, call: u64) -> bool {
+    let disk = disk_of(rt, alloc, b"", &[call]);
+    let (failed, fault) = deliver(rt, alloc, disk, &TWENTY);
+    let again = disk_of(rt, alloc, failed.contents(), &[]);
+    let (whole, none) = deliver(rt, alloc, again, &TWENTY);
+    fault == Some(TakeFault::DiskFault)
+        && none == None
+        && entries_in(rt, alloc, whole.contents()) == Some(20)
 }
 
 // Twenty places: ten in their order, and the next one behind all others.
@@ -367,36 +362,32 @@ const TWENTY: [u64; 20] = [
 ];
 
 // Whether it does so at each of these calls.
-fn recovers_at(rt: &impl Abort, alloc: Global, from: u64, to: u64) -> Result<bool, Fail> {
+fn recovers_at(rt: &impl Abort, alloc: Global, from: u64, to: u64) -> bool {
     for call in from..to {
-        if !recovers(rt, alloc, call)? {
-            return Ok(false);
+        if !recovers(rt, alloc, call) {
+            return false;
         }
     }
-    Ok(true)
+    true
 }
 
 // An opening of an empty disk makes four calls, and each entry that is added four more: 84 calls.
 #[test]
-fn an_early_call_of_the_disk_fails(rt: HostRuntime) -> Result<(), Fail> {
-    assert!(rt; recovers_at(&rt, rt.alloc(), 0, 21)?);
-    Ok(())
+fn an_early_call_of_the_disk_fails(rt: HostRuntime) {
+    assert!(rt; recovers_at(&rt, rt.alloc(), 0, 21));
 }
 
 #[test]
-fn a_later_call_of_the_disk_fails(rt: HostRuntime) -> Result<(), Fail> {
-    assert!(rt; recovers_at(&rt, rt.alloc(), 21, 42)?);
-    Ok(())
+fn a_later_call_of_the_disk_fails(rt: HostRuntime) {
+    assert!(rt; recovers_at(&rt, rt.alloc(), 21, 42));
 }
 
 #[test]
-fn a_call_fails_where_kept_parcels_are_added(rt: HostRuntime) -> Result<(), Fail> {
-    assert!(rt; recovers_at(&rt, rt.alloc(), 42, 63)?);
-    Ok(())
+fn a_call_fails_where_kept_parcels_are_added(rt: HostRuntime) {
+    assert!(rt; recovers_at(&rt, rt.alloc(), 42, 63));
 }
 
 #[test]
-fn one_of_the_last_calls_of_the_disk_fails(rt: HostRuntime) -> Result<(), Fail> {
-    assert!(rt; recovers_at(&rt, rt.alloc(), 63, 84)?);
-    Ok(())
+fn one_of_the_last_calls_of_the_disk_fails(rt: HostRuntime) {
+    assert!(rt; recovers_at(&rt, rt.alloc(), 63, 84));
 }
