@@ -1,12 +1,10 @@
 //! Several bids under one gate.
-ghost use Rattle.std.specs.Prelude.{IfOk};
 ghost use Rattle.tb_message.specs.Spelling.{IsNumbered};
 ghost use Rattle.tb_core.specs.House.{IsBid};
 
 use crate::tests::{SCRIPT, asked, desk_of, disk_of, entries_in, moment, name, submit};
 use std::alloc::Global;
 use std::process::Abort;
-use std::test::Fail;
 use tb_desk::{Desk, GroupReply, Reply};
 use tb_disk::MemoryDisk;
 use tb_message::{Message, Verdict};
@@ -51,29 +49,24 @@ fn told_by(verdict: Option<Verdict>) -> Told {
 }
 
 // A bid, and its number.
-fn bid(rt: &impl Abort, alloc: Global, text: &str) -> Result<(u64, Message), Fail>
-    ensures { IfOk result (λ bid. IsNumbered bid.0 bid.1 × IsBid bid.1) }
+fn bid(rt: &impl Abort, alloc: Global, text: &str) -> (u64, Message)
+    ensures { IsNumbered result.0 result.1 × IsBid result.1 }
 {
-    let (number, message) = asked(rt, alloc, text)?;
+    let (number, message) = asked(rt, alloc, text);
     match message {
-        Message::Bid { .. } => Ok((number, message)),
+        Message::Bid { .. } => (number, message),
         _ => panic!(rt; "no bid"),
     }
 }
 
 // A desk on which the auction is announced: the opening made the device calls 0 to 3, and each of the three messages
 // four.
-fn announced(
-    rt: &impl Abort,
-    alloc: Global,
-    fails: Vec<u64>,
-    torn: u8,
-) -> Result<Desk<MemoryDisk>, Fail> {
-    let mut desk = desk_of(rt, alloc, disk_of(rt, alloc, b"", fails, torn)?);
-    assert!(rt; submit(rt, alloc, &mut desk, SCRIPT[0])? != Reply::DiskFault);
-    assert!(rt; submit(rt, alloc, &mut desk, SCRIPT[1])? != Reply::DiskFault);
-    assert!(rt; submit(rt, alloc, &mut desk, SCRIPT[2])? != Reply::DiskFault);
-    Ok(desk)
+fn announced(rt: &impl Abort, alloc: Global, fails: &[u64], torn: u8) -> Desk<MemoryDisk> {
+    let mut desk = desk_of(rt, alloc, disk_of(rt, alloc, b"", fails, torn));
+    assert!(rt; submit(rt, alloc, &mut desk, SCRIPT[0]) != Reply::DiskFault);
+    assert!(rt; submit(rt, alloc, &mut desk, SCRIPT[1]) != Reply::DiskFault);
+    assert!(rt; submit(rt, alloc, &mut desk, SCRIPT[2]) != Reply::DiskFault);
+    desk
 }
 
 // The reply to two bids of the dealer under one gate, and what the places tell of them.
@@ -83,9 +76,9 @@ fn submit_pair(
     desk: &mut Desk<MemoryDisk>,
     first: &str,
     second: &str,
-) -> Result<Answer, Fail> {
-    let bids = [bid(rt, alloc, first)?, bid(rt, alloc, second)?];
-    desk.make_room_group(&bids)?;
+) -> Answer {
+    let bids = [bid(rt, alloc, first), bid(rt, alloc, second)];
+    desk.make_room_group(&bids).expect(rt, "memory");
     assert!(rt; desk.has_room_group(&bids));
     let mut verdicts = [None; 64];
     let reply = desk.submit_group(
@@ -95,40 +88,36 @@ fn submit_pair(
         &mut verdicts,
     );
     assert!(rt; verdicts[2].is_none() && verdicts[63].is_none());
-    Ok((reply, told_by(verdicts[0]), told_by(verdicts[1])))
+    (reply, told_by(verdicts[0]), told_by(verdicts[1]))
 }
 
 // The journal before the two bids, or behind them.
-fn journal(rt: &impl Abort, alloc: Global, with_bids: bool) -> Result<Vec<u8>, Fail> {
-    let mut desk = announced(rt, alloc, Vec::new(alloc), 0)?;
+fn journal(rt: &impl Abort, alloc: Global, with_bids: bool) -> Vec<u8> {
+    let mut desk = announced(rt, alloc, &[], 0);
     if with_bids {
-        let answer = submit_pair(rt, alloc, &mut desk, FIRST_BID, SECOND_BID)?;
+        let answer = submit_pair(rt, alloc, &mut desk, FIRST_BID, SECOND_BID);
         assert!(rt; answer == ACCEPTED);
     }
-    Ok(desk.into_disk().contents().to_vec(alloc)?)
+    desk.into_disk()
+        .contents()
+        .to_vec(alloc)
+        .expect(rt, "memory")
 }
 
 #[test]
-fn two_bids_stand_under_one_gate(rt: HostRuntime) -> Result<(), Fail> {
+fn two_bids_stand_under_one_gate(rt: HostRuntime) {
     let alloc = rt.alloc();
-    let before = journal(&rt, alloc, false)?;
-    let after = journal(&rt, alloc, true)?;
+    let before = journal(&rt, alloc, false);
+    let after = journal(&rt, alloc, true);
     let size = before.len();
     // The gate byte of the frame stands where the last byte of the file was, and its length and ordinal behind it.
     assert!(rt; size > 0 && after.len() == size + 113);
     assert!(rt; &after[..size - 1] == &before[..size - 1]);
     assert!(rt; &after[size - 1..size + 12] == b"\x01\0\0\0\x64\0\0\0\0\0\0\0\x03".as_slice());
-    Ok(())
 }
 
 // How many entries the journal with the two bids stands for, less so many of its bytes, where this gate is before them.
-fn entries_behind(
-    rt: &impl Abort,
-    alloc: Global,
-    file: &mut [u8],
-    gate: u8,
-    less: usize,
-) -> Result<u64, Fail> {
+fn entries_behind(rt: &impl Abort, alloc: Global, file: &mut [u8], gate: u8, less: usize) -> u64 {
     let size = file.len();
     assert!(rt; size > 114 && less <= 114);
     file[size - 114] = gate;
@@ -138,27 +127,25 @@ fn entries_behind(
 // The first call writes the frame behind the closed gate, and the third call the gate. Before the fourth any byte may
 // stand there, and so both bids count or neither.
 #[test]
-fn a_crash_leaves_both_bids_or_neither(rt: HostRuntime) -> Result<(), Fail> {
+fn a_crash_leaves_both_bids_or_neither(rt: HostRuntime) {
     let alloc = rt.alloc();
-    let mut file = journal(&rt, alloc, true)?;
-    assert!(rt; entries_behind(&rt, alloc, &mut file, 0, 0)? == 3);
-    assert!(rt; entries_behind(&rt, alloc, &mut file, 2, 0)? == 3);
-    assert!(rt; entries_behind(&rt, alloc, &mut file, 7, 0)? == 3);
-    assert!(rt; entries_behind(&rt, alloc, &mut file, 255, 0)? == 3);
-    assert!(rt; entries_behind(&rt, alloc, &mut file, 1, 0)? == 5);
-    Ok(())
+    let mut file = journal(&rt, alloc, true);
+    assert!(rt; entries_behind(&rt, alloc, &mut file, 0, 0) == 3);
+    assert!(rt; entries_behind(&rt, alloc, &mut file, 2, 0) == 3);
+    assert!(rt; entries_behind(&rt, alloc, &mut file, 7, 0) == 3);
+    assert!(rt; entries_behind(&rt, alloc, &mut file, 255, 0) == 3);
+    assert!(rt; entries_behind(&rt, alloc, &mut file, 1, 0) == 5);
 }
 
 #[test]
-fn a_crash_at_the_frame_leaves_neither_bid(rt: HostRuntime) -> Result<(), Fail> {
+fn a_crash_at_the_frame_leaves_neither_bid(rt: HostRuntime) {
     let alloc = rt.alloc();
-    let mut file = journal(&rt, alloc, true)?;
-    assert!(rt; entries_behind(&rt, alloc, &mut file, 0, 1)? == 3);
-    assert!(rt; entries_behind(&rt, alloc, &mut file, 0, 41)? == 3);
-    assert!(rt; entries_behind(&rt, alloc, &mut file, 0, 51)? == 3);
-    assert!(rt; entries_behind(&rt, alloc, &mut file, 0, 101)? == 3);
-    assert!(rt; entries_behind(&rt, alloc, &mut file, 0, 113)? == 3);
-    Ok(())
+    let mut file = journal(&rt, alloc, true);
+    assert!(rt; entries_behind(&rt, alloc, &mut file, 0, 1) == 3);
+    assert!(rt; entries_behind(&rt, alloc, &mut file, 0, 41) == 3);
+    assert!(rt; entries_behind(&rt, alloc, &mut file, 0, 51) == 3);
+    assert!(rt; entries_behind(&rt, alloc, &mut file, 0, 101) == 3);
+    assert!(rt; entries_behind(&rt, alloc, &mut file, 0, 113) == 3);
 }
 
 // Whether the two bids are answered so, and leave the desk in doubt or not, with so many entries.
@@ -169,42 +156,34 @@ fn pair_told(
     wanted: Answer,
     unsure: bool,
     entries: u64,
-) -> Result<bool, Fail> {
-    let told = submit_pair(rt, alloc, desk, FIRST_BID, SECOND_BID)? == wanted;
-    Ok(told && desk.unsure() == unsure && desk.entries() == entries)
+) -> bool {
+    let told = submit_pair(rt, alloc, desk, FIRST_BID, SECOND_BID) == wanted;
+    told && desk.unsure() == unsure && desk.entries() == entries
 }
 
 // Whether two bids are in doubt where this device call fails, and are answered so when they come again.
-fn is_in_doubt(
-    rt: &impl Abort,
-    alloc: Global,
-    call: u64,
-    torn: u8,
-    again: Answer,
-) -> Result<bool, Fail> {
-    let mut desk = announced(rt, alloc, vec![in alloc; call]?, torn)?;
-    let first = pair_told(rt, alloc, &mut desk, FAULT, true, 3)? && desk.faults() == 1;
-    Ok(first && pair_told(rt, alloc, &mut desk, again, false, 5)?)
+fn is_in_doubt(rt: &impl Abort, alloc: Global, call: u64, torn: u8, again: Answer) -> bool {
+    let mut desk = announced(rt, alloc, &[call], torn);
+    let first = pair_told(rt, alloc, &mut desk, FAULT, true, 3) && desk.faults() == 1;
+    first && pair_told(rt, alloc, &mut desk, again, false, 5)
 }
 
 // The calls 16 to 19 add the two bids.
 #[test]
-fn two_bids_are_in_doubt_together(rt: HostRuntime) -> Result<(), Fail> {
+fn two_bids_are_in_doubt_together(rt: HostRuntime) {
     let alloc = rt.alloc();
-    assert!(rt; is_in_doubt(&rt, alloc, 19, 0, REPEATED)?);
-    assert!(rt; is_in_doubt(&rt, alloc, 18, 1, REPEATED)?);
-    assert!(rt; is_in_doubt(&rt, alloc, 18, 7, ACCEPTED)?);
-    assert!(rt; is_in_doubt(&rt, alloc, 17, 0, ACCEPTED)?);
-    assert!(rt; is_in_doubt(&rt, alloc, 16, 0, ACCEPTED)?);
-    Ok(())
+    assert!(rt; is_in_doubt(&rt, alloc, 19, 0, REPEATED));
+    assert!(rt; is_in_doubt(&rt, alloc, 18, 1, REPEATED));
+    assert!(rt; is_in_doubt(&rt, alloc, 18, 7, ACCEPTED));
+    assert!(rt; is_in_doubt(&rt, alloc, 17, 0, ACCEPTED));
+    assert!(rt; is_in_doubt(&rt, alloc, 16, 0, ACCEPTED));
 }
 
 #[test]
-fn a_bid_is_judged_on_those_before_it(rt: HostRuntime) -> Result<(), Fail> {
+fn a_bid_is_judged_on_those_before_it(rt: HostRuntime) {
     let alloc = rt.alloc();
-    let mut desk = announced(&rt, alloc, Vec::new(alloc), 0)?;
-    let answer = submit_pair(&rt, alloc, &mut desk, FIRST_BID, FIRST_BID)?;
+    let mut desk = announced(&rt, alloc, &[], 0);
+    let answer = submit_pair(&rt, alloc, &mut desk, FIRST_BID, FIRST_BID);
     assert!(rt; answer == (GroupReply::Verdicts, Told::Accepted(7), Told::Repeated(7)));
     assert!(rt; desk.entries() == 4);
-    Ok(())
 }

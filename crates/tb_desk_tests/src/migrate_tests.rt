@@ -1,6 +1,5 @@
 use std::alloc::Global;
 use std::process::Abort;
-use std::test::Fail;
 use tb_desk::*;
 use tb_disk::MemoryDisk;
 use tb_journal::{Journal, JournalFault};
@@ -43,15 +42,10 @@ const ROOM: u64 = 1000;
 const LOG_ROOM: u64 = 10_000;
 
 // A disk in memory whose calls with these numbers fail, and whose failed writes leave this byte.
-fn disk_of(
-    rt: &impl Abort,
-    alloc: Global,
-    contents: &[u8],
-    fails: Vec<u64>,
-    torn: u8,
-) -> Result<MemoryDisk, Fail> {
+fn disk_of(rt: &impl Abort, alloc: Global, contents: &[u8], fails: &[u64], torn: u8) -> MemoryDisk {
     assert!(rt; contents.len() < 1000);
-    Ok(MemoryDisk::new(alloc, contents, ROOM, LOG_ROOM, fails, torn)?)
+    let fails = fails.to_vec(alloc).expect(rt, "memory");
+    MemoryDisk::new(alloc, contents, ROOM, LOG_ROOM, fails, torn).expect(rt, "memory")
 }
 
 // So many entries are migrated onto the spare, which then has these bytes.
@@ -62,139 +56,128 @@ fn migrates(
     spare: &[u8],
     count: u64,
     written: &[u8],
-) -> Result<bool, Fail> {
-    let mut from = disk_of(rt, alloc, first, Vec::new(alloc), 0)?;
-    let mut to = disk_of(rt, alloc, spare, Vec::new(alloc), 0)?;
-    Ok(
-        migrate(alloc, &mut from, &mut to) == Ok(count)
-            && from.contents() == first
-            && to.contents() == written,
-    )
+) -> bool {
+    let mut from = disk_of(rt, alloc, first, &[], 0);
+    let mut to = disk_of(rt, alloc, spare, &[], 0);
+    migrate(alloc, &mut from, &mut to) == Ok(count)
+        && from.contents() == first
+        && to.contents() == written
 }
 
 // A first disk is refused for this fault, and the spare isn't touched.
-fn refused(rt: &impl Abort, alloc: Global, first: &[u8], why: OpenFault) -> Result<bool, Fail> {
-    let mut from = disk_of(rt, alloc, first, Vec::new(alloc), 0)?;
-    let mut to = disk_of(rt, alloc, b"spare", Vec::new(alloc), 0)?;
-    Ok(
-        migrate(alloc, &mut from, &mut to) == Err(MigrateFault::From(why))
-            && from.contents() == first
-            && to.contents() == b"spare".as_slice(),
-    )
+fn refused(rt: &impl Abort, alloc: Global, first: &[u8], why: OpenFault) -> bool {
+    let mut from = disk_of(rt, alloc, first, &[], 0);
+    let mut to = disk_of(rt, alloc, b"spare", &[], 0);
+    migrate(alloc, &mut from, &mut to) == Err(MigrateFault::From(why))
+        && from.contents() == first
+        && to.contents() == b"spare".as_slice()
 }
 
 #[test]
-fn a_first_journal_is_migrated(rt: HostRuntime) -> Result<(), Fail> {
+fn a_first_journal_is_migrated(rt: HostRuntime) {
     let alloc = rt.alloc();
     let empty = b"TBHOSTJOURNAL002\x01\0";
     assert_eq!(rt; FIRST_ONE.len(), 55);
     assert_eq!(rt; SECOND_ONE.len(), 68);
-    assert!(rt; migrates(&rt, alloc, FIRST_ONE, b"", 1, SECOND_ONE)?);
-    assert!(rt; migrates(&rt, alloc, FIRST_ONE, SECOND_ONE, 1, SECOND_ONE)?);
-    assert!(rt; migrates(&rt, alloc, FIRST, b"", 2, SECOND)?);
-    assert!(rt; migrates(&rt, alloc, FIRST, b"a spare of a few bytes", 2, SECOND)?);
-    assert!(rt; migrates(&rt, alloc, FIRST, FIRST, 2, SECOND)?);
-    assert!(rt; migrates(&rt, alloc, GROUPED, b"", 2, SECOND)?);
-    assert!(rt; migrates(&rt, alloc, b"", b"", 0, empty)?);
-    assert!(rt; migrates(&rt, alloc, b"seventeen bytes..", SECOND, 0, empty)?);
-    Ok(())
+    assert!(rt; migrates(&rt, alloc, FIRST_ONE, b"", 1, SECOND_ONE));
+    assert!(rt; migrates(&rt, alloc, FIRST_ONE, SECOND_ONE, 1, SECOND_ONE));
+    assert!(rt; migrates(&rt, alloc, FIRST, b"", 2, SECOND));
+    assert!(rt; migrates(&rt, alloc, FIRST, b"a spare of a few bytes", 2, SECOND));
+    assert!(rt; migrates(&rt, alloc, FIRST, FIRST, 2, SECOND));
+    assert!(rt; migrates(&rt, alloc, GROUPED, b"", 2, SECOND));
+    assert!(rt; migrates(&rt, alloc, b"", b"", 0, empty));
+    assert!(rt; migrates(&rt, alloc, b"seventeen bytes..", SECOND, 0, empty));
 }
 
 #[test]
-fn other_files_are_not_migrated(rt: HostRuntime) -> Result<(), Fail> {
+fn other_files_are_not_migrated(rt: HostRuntime) {
     let alloc = rt.alloc();
     let second = OpenFault::NotAJournal(*b"TBHOSTJOURNAL002");
-    assert!(rt; refused(&rt, alloc, SECOND, second)?);
+    assert!(rt; refused(&rt, alloc, SECOND, second));
     assert!(rt;
         refused(
             &rt,
             alloc,
             b"aaaaaaaaaaaaaaaaaa",
             OpenFault::NotAJournal([b'a'; 16])
-        )?
+        )
     );
-    assert!(rt; refused(&rt, alloc, &FIRST_ONE[..40], OpenFault::Damaged(16))?);
-    assert!(rt; refused(&rt, alloc, &FIRST[..80], OpenFault::Damaged(54))?);
-    assert!(rt; refused(&rt, alloc, REPEATED, OpenFault::Damaged(54))?);
+    assert!(rt; refused(&rt, alloc, &FIRST_ONE[..40], OpenFault::Damaged(16)));
+    assert!(rt; refused(&rt, alloc, &FIRST[..80], OpenFault::Damaged(54)));
+    assert!(rt; refused(&rt, alloc, REPEATED, OpenFault::Damaged(54)));
     assert!(rt;
         refused(
             &rt,
             alloc,
             b"TBHOSTJOURNAL001\x01\0\0\0\x01a\0",
             OpenFault::Damaged(16)
-        )?
+        )
     );
-    Ok(())
 }
 
 // Whether a file has at most 18 bytes, is no journal, or isn't sealed.
-fn is_blank(rt: &impl Abort, alloc: Global, file: &[u8]) -> Result<bool, Fail> {
-    let disk = disk_of(rt, alloc, file, Vec::new(alloc), 0)?;
-    Ok(match Journal::open(alloc, disk) {
+fn is_blank(rt: &impl Abort, alloc: Global, file: &[u8]) -> bool {
+    let disk = disk_of(rt, alloc, file, &[], 0);
+    match Journal::open(alloc, disk) {
         Ok(_opened) => file.len() <= 18,
         Err((_disk, JournalFault::NotAJournal(_))) => true,
         Err((_disk, JournalFault::Unsealed(_))) => true,
         Err((_disk, _fault)) => false,
-    })
+    }
 }
 
 // This call on a spare fails, which holds a sealed journal. The first disk stays, and the spare is what it was, or
 // blank, or the whole journal.
-fn spare_fails(rt: &impl Abort, alloc: Global, call: u64) -> Result<bool, Fail> {
-    let mut from = disk_of(rt, alloc, FIRST, Vec::new(alloc), 0)?;
-    let mut to = disk_of(rt, alloc, SECOND_ONE, vec![in alloc; call]?, 1)?;
+fn spare_fails(rt: &impl Abort, alloc: Global, call: u64) -> bool {
+    let mut from = disk_of(rt, alloc, FIRST, &[], 0);
+    let mut to = disk_of(rt, alloc, SECOND_ONE, &[call], 1);
     let answer = migrate(alloc, &mut from, &mut to);
     let file = to.contents();
-    let safe = file == SECOND || file == SECOND_ONE || is_blank(rt, alloc, file)?;
-    Ok(answer == Err(MigrateFault::SpareFault) && safe && from.contents() == FIRST)
+    let safe = file == SECOND || file == SECOND_ONE || is_blank(rt, alloc, file);
+    answer == Err(MigrateFault::SpareFault) && safe && from.contents() == FIRST
 }
 
 // This call on the first disk fails. Both disks stay.
-fn first_fails(rt: &impl Abort, alloc: Global, call: u64) -> Result<bool, Fail> {
-    let mut from = disk_of(rt, alloc, FIRST, vec![in alloc; call]?, 7)?;
-    let mut to = disk_of(rt, alloc, b"spare", Vec::new(alloc), 0)?;
-    Ok(
-        migrate(alloc, &mut from, &mut to) == Err(MigrateFault::From(OpenFault::DiskFault))
-            && from.contents() == FIRST
-            && to.contents() == b"spare".as_slice(),
-    )
+fn first_fails(rt: &impl Abort, alloc: Global, call: u64) -> bool {
+    let mut from = disk_of(rt, alloc, FIRST, &[call], 7);
+    let mut to = disk_of(rt, alloc, b"spare", &[], 0);
+    migrate(alloc, &mut from, &mut to) == Err(MigrateFault::From(OpenFault::DiskFault))
+        && from.contents() == FIRST
+        && to.contents() == b"spare".as_slice()
 }
 
 #[test]
-fn a_first_disk_fails(rt: HostRuntime) -> Result<(), Fail> {
+fn a_first_disk_fails(rt: HostRuntime) {
     let alloc = rt.alloc();
-    assert!(rt; first_fails(&rt, alloc, 0)?);
-    assert!(rt; first_fails(&rt, alloc, 1)?);
-    assert!(rt; first_fails(&rt, alloc, 2)?);
-    assert!(rt; first_fails(&rt, alloc, 3)?);
-    Ok(())
+    assert!(rt; first_fails(&rt, alloc, 0));
+    assert!(rt; first_fails(&rt, alloc, 1));
+    assert!(rt; first_fails(&rt, alloc, 2));
+    assert!(rt; first_fails(&rt, alloc, 3));
 }
 
 // The calls on the spare: a sync, the length, the seal's byte, the byte 0 and a sync, a cut and a sync, the title and a
 // sync.
 #[test]
-fn a_spare_fails_before_a_frame(rt: HostRuntime) -> Result<(), Fail> {
+fn a_spare_fails_before_a_frame(rt: HostRuntime) {
     let alloc = rt.alloc();
-    assert!(rt; spare_fails(&rt, alloc, 0)?);
-    assert!(rt; spare_fails(&rt, alloc, 3)?);
-    assert!(rt; spare_fails(&rt, alloc, 4)?);
-    assert!(rt; spare_fails(&rt, alloc, 5)?);
-    assert!(rt; spare_fails(&rt, alloc, 6)?);
-    assert!(rt; spare_fails(&rt, alloc, 7)?);
-    assert!(rt; spare_fails(&rt, alloc, 8)?);
-    Ok(())
+    assert!(rt; spare_fails(&rt, alloc, 0));
+    assert!(rt; spare_fails(&rt, alloc, 3));
+    assert!(rt; spare_fails(&rt, alloc, 4));
+    assert!(rt; spare_fails(&rt, alloc, 5));
+    assert!(rt; spare_fails(&rt, alloc, 6));
+    assert!(rt; spare_fails(&rt, alloc, 7));
+    assert!(rt; spare_fails(&rt, alloc, 8));
 }
 
 // Then two writes for each of two frames, the closed gate and a sync, the seal and a sync.
 #[test]
-fn a_spare_fails_behind_the_title(rt: HostRuntime) -> Result<(), Fail> {
+fn a_spare_fails_behind_the_title(rt: HostRuntime) {
     let alloc = rt.alloc();
-    assert!(rt; spare_fails(&rt, alloc, 9)?);
-    assert!(rt; spare_fails(&rt, alloc, 12)?);
-    assert!(rt; spare_fails(&rt, alloc, 13)?);
-    assert!(rt; spare_fails(&rt, alloc, 14)?);
-    assert!(rt; spare_fails(&rt, alloc, 15)?);
-    assert!(rt; spare_fails(&rt, alloc, 16)?);
-    assert!(rt; !spare_fails(&rt, alloc, 17)?);
-    Ok(())
+    assert!(rt; spare_fails(&rt, alloc, 9));
+    assert!(rt; spare_fails(&rt, alloc, 12));
+    assert!(rt; spare_fails(&rt, alloc, 13));
+    assert!(rt; spare_fails(&rt, alloc, 14));
+    assert!(rt; spare_fails(&rt, alloc, 15));
+    assert!(rt; spare_fails(&rt, alloc, 16));
+    assert!(rt; !spare_fails(&rt, alloc, 17));
 }

@@ -2,7 +2,6 @@
 use crate::tests::{SCRIPT, desk_of, desk_on, disk_of, name, submit};
 use std::alloc::Global;
 use std::process::Abort;
-use std::test::Fail;
 use tb_desk::{Desk, Reply};
 use tb_disk::MemoryDisk;
 use tb_history::Reading;
@@ -109,47 +108,40 @@ fn have(rt: &impl Abort, alloc: Global, desk: &Desk<MemoryDisk>, accounts: [Acco
 }
 
 // Whether these accounts stand in a file.
-fn stand(
-    rt: &impl Abort,
-    alloc: Global,
-    file: &[u8],
-    accounts: [Account; 2],
-) -> Result<bool, Fail> {
-    Ok(have(rt, alloc, &desk_on(rt, alloc, file)?, accounts))
+fn stand(rt: &impl Abort, alloc: Global, file: &[u8], accounts: [Account; 2]) -> bool {
+    have(rt, alloc, &desk_on(rt, alloc, file), accounts)
 }
 
 // A desk at which the offer stands: the opening made the device calls 0 to 3, and each of the nine messages four.
-fn with_offer(
-    rt: &impl Abort,
-    alloc: Global,
-    fails: Vec<u64>,
-    torn: u8,
-) -> Result<Desk<MemoryDisk>, Fail> {
-    let mut desk = desk_of(rt, alloc, disk_of(rt, alloc, b"", fails, torn)?);
+fn with_offer(rt: &impl Abort, alloc: Global, fails: &[u64], torn: u8) -> Desk<MemoryDisk> {
+    let mut desk = desk_of(rt, alloc, disk_of(rt, alloc, b"", fails, torn));
     for line in SCRIPT {
-        assert!(rt; submit(rt, alloc, &mut desk, line)? != Reply::DiskFault);
+        assert!(rt; submit(rt, alloc, &mut desk, line) != Reply::DiskFault);
     }
     for line in SALE {
-        assert!(rt; submit(rt, alloc, &mut desk, line)? != Reply::DiskFault);
+        assert!(rt; submit(rt, alloc, &mut desk, line) != Reply::DiskFault);
     }
     assert!(rt; desk.entries() == 9 && have(rt, alloc, &desk, BEFORE));
-    Ok(desk)
+    desk
 }
 
 // Whether the purchase is answered as an accepted one, now or before.
-fn is_bought(rt: &impl Abort, alloc: Global, desk: &mut Desk<MemoryDisk>) -> Result<bool, Fail> {
-    Ok(match submit(rt, alloc, desk, BUY)? {
+fn is_bought(rt: &impl Abort, alloc: Global, desk: &mut Desk<MemoryDisk>) -> bool {
+    match submit(rt, alloc, desk, BUY) {
         Reply::Verdict(Verdict::Accepted { number, .. }) => number == 1,
         Reply::Verdict(Verdict::Repeat { number, .. }) => number == 1,
         _ => false,
-    })
+    }
 }
 
 // The journal behind the purchase.
-fn journal(rt: &impl Abort, alloc: Global) -> Result<Vec<u8>, Fail> {
-    let mut desk = with_offer(rt, alloc, Vec::new(alloc), 0)?;
-    assert!(rt; is_bought(rt, alloc, &mut desk)? && have(rt, alloc, &desk, AFTER));
-    Ok(desk.into_disk().contents().to_vec(alloc)?)
+fn journal(rt: &impl Abort, alloc: Global) -> Vec<u8> {
+    let mut desk = with_offer(rt, alloc, &[], 0);
+    assert!(rt; is_bought(rt, alloc, &mut desk) && have(rt, alloc, &desk, AFTER));
+    desk.into_disk()
+        .contents()
+        .to_vec(alloc)
+        .expect(rt, "memory")
 }
 
 // Whether these accounts stand in the journal less so many of its bytes, where this gate is before the purchase: a
@@ -161,7 +153,7 @@ fn are_left(
     gate: u8,
     less: usize,
     accounts: [Account; 2],
-) -> Result<bool, Fail> {
+) -> bool {
     let size = file.len();
     assert!(rt; size > 55 && less <= 54);
     file[size - 55] = gate;
@@ -170,75 +162,65 @@ fn are_left(
 
 // The third call writes the gate: any byte may stand there.
 #[test]
-fn a_crash_at_the_gate_leaves_both_legs_or_neither(rt: HostRuntime) -> Result<(), Fail> {
+fn a_crash_at_the_gate_leaves_both_legs_or_neither(rt: HostRuntime) {
     let alloc = rt.alloc();
-    let mut file = journal(&rt, alloc)?;
-    assert!(rt; are_left(&rt, alloc, &mut file, 1, 0, AFTER)?);
-    assert!(rt; are_left(&rt, alloc, &mut file, 0, 0, BEFORE)?);
-    assert!(rt; are_left(&rt, alloc, &mut file, 2, 0, BEFORE)?);
-    assert!(rt; are_left(&rt, alloc, &mut file, 255, 0, BEFORE)?);
-    Ok(())
+    let mut file = journal(&rt, alloc);
+    assert!(rt; are_left(&rt, alloc, &mut file, 1, 0, AFTER));
+    assert!(rt; are_left(&rt, alloc, &mut file, 0, 0, BEFORE));
+    assert!(rt; are_left(&rt, alloc, &mut file, 2, 0, BEFORE));
+    assert!(rt; are_left(&rt, alloc, &mut file, 255, 0, BEFORE));
 }
 
 // The first call writes the frame behind the closed gate: any part of it may be missing. From its end that is the next
 // gate, and bytes of the offer, the seller, the kind, the head of the record, the ordinal and the length.
 #[test]
-fn a_crash_at_the_frame_leaves_neither_leg(rt: HostRuntime) -> Result<(), Fail> {
+fn a_crash_at_the_frame_leaves_neither_leg(rt: HostRuntime) {
     let alloc = rt.alloc();
-    let mut file = journal(&rt, alloc)?;
-    assert!(rt; are_left(&rt, alloc, &mut file, 0, 1, BEFORE)?);
-    assert!(rt; are_left(&rt, alloc, &mut file, 0, 2, BEFORE)?);
-    assert!(rt; are_left(&rt, alloc, &mut file, 0, 10, BEFORE)?);
-    assert!(rt; are_left(&rt, alloc, &mut file, 0, 18, BEFORE)?);
-    assert!(rt; are_left(&rt, alloc, &mut file, 0, 19, BEFORE)?);
-    assert!(rt; are_left(&rt, alloc, &mut file, 0, 41, BEFORE)?);
-    assert!(rt; are_left(&rt, alloc, &mut file, 0, 42, BEFORE)?);
-    assert!(rt; are_left(&rt, alloc, &mut file, 0, 43, BEFORE)?);
-    assert!(rt; are_left(&rt, alloc, &mut file, 0, 50, BEFORE)?);
-    assert!(rt; are_left(&rt, alloc, &mut file, 0, 54, BEFORE)?);
-    Ok(())
+    let mut file = journal(&rt, alloc);
+    assert!(rt; are_left(&rt, alloc, &mut file, 0, 1, BEFORE));
+    assert!(rt; are_left(&rt, alloc, &mut file, 0, 2, BEFORE));
+    assert!(rt; are_left(&rt, alloc, &mut file, 0, 10, BEFORE));
+    assert!(rt; are_left(&rt, alloc, &mut file, 0, 18, BEFORE));
+    assert!(rt; are_left(&rt, alloc, &mut file, 0, 19, BEFORE));
+    assert!(rt; are_left(&rt, alloc, &mut file, 0, 41, BEFORE));
+    assert!(rt; are_left(&rt, alloc, &mut file, 0, 42, BEFORE));
+    assert!(rt; are_left(&rt, alloc, &mut file, 0, 43, BEFORE));
+    assert!(rt; are_left(&rt, alloc, &mut file, 0, 50, BEFORE));
+    assert!(rt; are_left(&rt, alloc, &mut file, 0, 54, BEFORE));
 }
 
 // Whether these accounts are in the file where this device call of the purchase fails and no other follows.
-fn are_left_at(
-    rt: &impl Abort,
-    alloc: Global,
-    call: u64,
-    torn: u8,
-    left: [Account; 2],
-) -> Result<bool, Fail> {
-    let mut desk = with_offer(rt, alloc, vec![in alloc; call]?, torn)?;
-    let fault = submit(rt, alloc, &mut desk, BUY)? == Reply::DiskFault;
-    Ok(fault && stand(rt, alloc, desk.into_disk().contents(), left)?)
+fn are_left_at(rt: &impl Abort, alloc: Global, call: u64, torn: u8, left: [Account; 2]) -> bool {
+    let mut desk = with_offer(rt, alloc, &[call], torn);
+    let fault = submit(rt, alloc, &mut desk, BUY) == Reply::DiskFault;
+    fault && stand(rt, alloc, desk.into_disk().contents(), left)
 }
 
 // The calls 40 to 43 make the purchase.
 #[test]
-fn a_crash_at_a_call_leaves_both_legs_or_neither(rt: HostRuntime) -> Result<(), Fail> {
+fn a_crash_at_a_call_leaves_both_legs_or_neither(rt: HostRuntime) {
     let alloc = rt.alloc();
-    assert!(rt; are_left_at(&rt, alloc, 40, 0, BEFORE)?);
-    assert!(rt; are_left_at(&rt, alloc, 41, 0, BEFORE)?);
-    assert!(rt; are_left_at(&rt, alloc, 42, 7, BEFORE)?);
-    assert!(rt; are_left_at(&rt, alloc, 42, 1, AFTER)?);
-    assert!(rt; are_left_at(&rt, alloc, 43, 0, AFTER)?);
-    Ok(())
+    assert!(rt; are_left_at(&rt, alloc, 40, 0, BEFORE));
+    assert!(rt; are_left_at(&rt, alloc, 41, 0, BEFORE));
+    assert!(rt; are_left_at(&rt, alloc, 42, 7, BEFORE));
+    assert!(rt; are_left_at(&rt, alloc, 42, 1, AFTER));
+    assert!(rt; are_left_at(&rt, alloc, 43, 0, AFTER));
 }
 
 // Whether the purchase meets a fault where this device call fails, and is made once when it comes again, and again.
-fn is_made_once(rt: &impl Abort, alloc: Global, call: u64, torn: u8) -> Result<bool, Fail> {
-    let mut desk = with_offer(rt, alloc, vec![in alloc; call]?, torn)?;
-    let fault = submit(rt, alloc, &mut desk, BUY)? == Reply::DiskFault;
-    let again = is_bought(rt, alloc, &mut desk)? && is_bought(rt, alloc, &mut desk)?;
-    Ok(fault && again && desk.entries() == 10 && have(rt, alloc, &desk, AFTER))
+fn is_made_once(rt: &impl Abort, alloc: Global, call: u64, torn: u8) -> bool {
+    let mut desk = with_offer(rt, alloc, &[call], torn);
+    let fault = submit(rt, alloc, &mut desk, BUY) == Reply::DiskFault;
+    let again = is_bought(rt, alloc, &mut desk) && is_bought(rt, alloc, &mut desk);
+    fault && again && desk.entries() == 10 && have(rt, alloc, &desk, AFTER)
 }
 
 #[test]
-fn a_purchase_in_doubt_is_made_once(rt: HostRuntime) -> Result<(), Fail> {
+fn a_purchase_in_doubt_is_made_once(rt: HostRuntime) {
     let alloc = rt.alloc();
-    assert!(rt; is_made_once(&rt, alloc, 40, 0)?);
-    assert!(rt; is_made_once(&rt, alloc, 41, 0)?);
-    assert!(rt; is_made_once(&rt, alloc, 42, 7)?);
-    assert!(rt; is_made_once(&rt, alloc, 42, 1)?);
-    assert!(rt; is_made_once(&rt, alloc, 43, 0)?);
-    Ok(())
+    assert!(rt; is_made_once(&rt, alloc, 40, 0));
+    assert!(rt; is_made_once(&rt, alloc, 41, 0));
+    assert!(rt; is_made_once(&rt, alloc, 42, 7));
+    assert!(rt; is_made_once(&rt, alloc, 42, 1));
+    assert!(rt; is_made_once(&rt, alloc, 43, 0));
 }

@@ -2,7 +2,6 @@
 use crate::tests::{desk_on, disk_of, moment};
 use std::alloc::Global;
 use std::process::Abort;
-use std::test::Fail;
 use tb_desk::Desk;
 use tb_journal::Window;
 use tb_message::Entry;
@@ -16,32 +15,31 @@ const TWO: &[u8] = b"TBHOSTJOURNAL002\x01\
     \0";
 
 // Whether both payloads are read one after the other, and then none.
-fn is_walked(rt: &impl Abort, alloc: Global) -> Result<bool, Fail> {
-    let disk = disk_of(rt, alloc, TWO, Vec::new(alloc), 0)?;
+fn is_walked(rt: &impl Abort, alloc: Global) -> bool {
+    let disk = disk_of(rt, alloc, TWO, &[], 0);
     let Ok(mut desk) = Desk::open(alloc, disk) else {
-        return Ok(false);
+        return false;
     };
     let mut window = Window::new();
     let first = desk.first_place();
     let Ok(Some((37, second))) = desk.next_group(first, &mut window) else {
-        return Ok(false);
+        return false;
     };
     if first != 17 || second != 67 || window.payload() != &TWO[30..67] {
-        return Ok(false);
+        return false;
     }
     let Ok(Some((40, gate))) = desk.next_group(second, &mut window) else {
-        return Ok(false);
+        return false;
     };
     if gate != 120 || window.payload() != &TWO[80..120] {
-        return Ok(false);
+        return false;
     }
-    Ok(matches!(desk.next_group(gate, &mut window), Ok(None)))
+    matches!(desk.next_group(gate, &mut window), Ok(None))
 }
 
 #[test]
-fn the_groups_are_read_in_their_order(rt: HostRuntime) -> Result<(), Fail> {
-    assert!(rt; is_walked(&rt, rt.alloc())?);
-    Ok(())
+fn the_groups_are_read_in_their_order(rt: HostRuntime) {
+    assert!(rt; is_walked(&rt, rt.alloc()));
 }
 
 // The entry of a record.
@@ -53,8 +51,8 @@ fn entry_of(rt: &impl Abort, record: &[u8]) -> Entry {
 }
 
 #[test]
-fn an_entry_stands_as_it_is(rt: HostRuntime) -> Result<(), Fail> {
-    let desk = desk_on(&rt, rt.alloc(), TWO)?;
+fn an_entry_stands_as_it_is(rt: HostRuntime) {
+    let desk = desk_on(&rt, rt.alloc(), TWO);
     let enrolled = entry_of(&rt, &TWO[80..120]);
     let mut later = enrolled;
     later.moment = moment(&rt, 1_730_700_001);
@@ -67,5 +65,4 @@ fn an_entry_stands_as_it_is(rt: HostRuntime) -> Result<(), Fail> {
     assert!(rt; !desk.stands(&later));
     assert!(rt; !desk.stands(&another));
     assert!(rt; !desk.stands(&reused));
-    Ok(())
 }
