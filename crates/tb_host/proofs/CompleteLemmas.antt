@@ -4,22 +4,22 @@ use Rattle.tb_link.specs.Sources.{SourceState}
 use Rattle.tb_link.specs.Sinks.{SinkState}
 use Rattle.std.specs.Prelude.{Some, Bool}
 use Rattle.std.specs.Str.Lines.{lines}
-use Rattle.tb_host.specs.BookLines.{Spells}
-use Rattle.tb_host.specs.Told.{WhereTold}
-use Rattle.tb_host.specs.Books.{Adds, AreEntries, Book, IsBadFirst, IsBadNext, IsEntry, HasBadLine, HasBook, IsFront, empty_book}
-use Rattle.tb_host.specs.LineEnds.{most_lines}
+use Rattle.tb_text_book.specs.BookLines.{Spells}
+use Rattle.tb_lines.specs.Told.{WhereTold}
+use Rattle.tb_text_book.specs.Books.{Adds, AreEntries, Book, IsBadFirst, IsBadNext, IsEntry, HasBadLine, HasBook, IsFront, empty_book}
+use Rattle.tb_lines.specs.LineEnds.{most_lines}
 use Rattle.tb_host.specs.AwardRun.{AwardEnds, Printed, PrintedPrefix}
 use Rattle.tb_disk.specs.Disks.{DiskState}
 use Rattle.tb_words.specs.declared.command.Command.TheVariants as command
 use Rattle.tb_host.specs.Completeness.{Completes}
 use Rattle.tb_host.specs.Endings.{of_text}
-use Rattle.tb_host.specs.declared.book_line.BookLine.TheVariants as kind
-use Rattle.tb_host.specs.declared.book_line.Entry.{Entry}
-use Rattle.tb_host.specs.declared.book_line.Offering.{Offering}
+use Rattle.tb_text_book.specs.declared.book_line.BookLine.TheVariants as kind
+use Rattle.tb_text_book.specs.declared.book_line.Entry.{Entry}
+use Rattle.tb_text_book.specs.declared.book_line.Offering.{Offering}
 use Rattle.tb_host.specs.declared.command_endings.TextEnding.{TextEnding}
 use Rattle.tb_host.specs.declared.command_endings.TextEnding.TheVariants as ending
-use Rattle.tb_host.proofs.NumberingLemmas.{adds-one}
-use Rattle.tb_host.proofs.SameLemmas.{Spells-one}
+use Rattle.tb_text_book.proofs.NumberingLemmas.{adds-one}
+use Rattle.tb_text_book.proofs.SameLemmas.{Spells-one}
 
 -- the line that comes next in a book may stand there
 ends_here : (offering : Offering) (book : Book) (count : ℕ) (last : List ℕ) (rest next : List (List ℕ))

@@ -19,7 +19,7 @@ use Rattle.tb_host.specs.FollowTakeRun.{AreParcels, BreaksOff, HasCome, HasTaken
 use Rattle.tb_host.specs.FollowTakeRun.{TakesAll, TakesBefore, TakesFirst, TakesWhole, bytes_of, most_parcels}
 use Rattle.tb_host.specs.ParcelInput.{FindsWhereTold}
 use Rattle.tb_host.specs.Standings.{Standing}
-use Rattle.tb_host.specs.Told.{WhereTold}
+use Rattle.tb_lines.specs.Told.{WhereTold}
 use Rattle.tb_host.specs.declared.parcel_input.ParcelFault.TheVariants as fault
 
 -- the values of a parcel are in their ranges

@@ -15,7 +15,7 @@ use Rattle.tb_host.specs.ImportRun.{ImportEnds, SentRow, TableEnds, longest_run}
 use Rattle.tb_host.specs.ImportSteps.{RowsEnd}
 use Rattle.tb_host.specs.TableInput.{AnswersInput, HasRows}
 use Rattle.tb_host.specs.Standings.{Standing}
-use Rattle.tb_host.specs.Told.{WhereTold}
+use Rattle.tb_lines.specs.Told.{WhereTold}
 use Rattle.tb_host.specs.declared.command_endings.DiskEnding.{DiskEnding}
 use Rattle.tb_host.specs.declared.command_endings.DiskEnding.TheVariants as disk_ending
 use Rattle.tb_host.specs.declared.command_endings.TextEnding.{TextEnding}

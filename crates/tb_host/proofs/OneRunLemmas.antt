@@ -26,7 +26,7 @@ use Rattle.tb_history.specs.Verdict.{verdict_on}
 use Rattle.tb_history.specs.Roster.{registrations}
 use Rattle.tb_history.proofs.ReadingLemmas.{IsReading-one}
 use Rattle.std.specs.List.{after_first, before_first}
-use Rattle.tb_host.specs.Fields.{is_blank}
+use Rattle.tb_text_book.specs.Fields.{is_blank}
 use Rattle.tb_host.specs.Replies.{Asks, IsAnswered, IsReply, IsTold, asked_by, reading_text, refusal_of}
 use Rattle.tb_host.specs.ScriptLines.{SpellsAsk}
 use Rattle.tb_desk.specs.Desks.{replies_of}

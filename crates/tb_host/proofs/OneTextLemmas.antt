@@ -10,11 +10,11 @@ use Rattle.tb_award.specs.Limits.{cap_of, sought_of}
 use Rattle.tb_award.proofs.AwardLemmas.{AreAwards-one}
 use Rattle.tb_award.proofs.CutLemmas.{IsCut-one}
 use Rattle.tb_award.proofs.RecognitionLemmas.{AreRecognised-one}
-use Rattle.tb_host.specs.Bids.{bid_at, noncompetitive_in}
-use Rattle.tb_host.specs.Books.{Book, IsFront}
-use Rattle.tb_host.specs.BookRun.{AreAllLines, AreAwardLines, IsAwardText, IsBookRun, IsCutText, IsNothingText, WhereFull, award_line, cut_text, gets, no_awards_text}
-use Rattle.tb_host.specs.declared.book_line.Offering.{Offering}
-use Rattle.tb_host.proofs.ReadLemmas.{IsSoundOffering-line}
+use Rattle.tb_text_book.specs.Bids.{bid_at, noncompetitive_in}
+use Rattle.tb_text_book.specs.Books.{Book, IsFront}
+use Rattle.tb_text_book.specs.BookRun.{AreAllLines, AreAwardLines, IsAwardText, IsBookRun, IsCutText, IsNothingText, WhereFull, award_line, cut_text, gets, no_awards_text}
+use Rattle.tb_text_book.specs.declared.book_line.Offering.{Offering}
+use Rattle.tb_text_book.proofs.ReadLemmas.{IsSoundOffering-line}
 use Rattle.tb_host.proofs.UniqueLemmas.{BeginsWithBook-one}
 
 -- amounts and a price have one text of lines

@@ -12,8 +12,8 @@ use Rattle.tb_parcel.specs.declared.parcel.ParcelFront.TheVariants as front_of
 use Rattle.tb_parcel.specs.Parcels.{BeginsWith, BeginsWithNone, IsFront, IsShort, length_in, parcel_bytes}
 use Rattle.tb_parcel.proofs.ParcelLemmas.{starts}
 use Rattle.tb_host.specs.ParcelInput.{FindsParcel, fault_of}
-use Rattle.tb_host.specs.declared.input.InputFault.{InputFault}
-use Rattle.tb_host.specs.declared.input.InputFault.TheVariants as input_fault
+use Rattle.tb_lines.specs.declared.input.InputFault.{InputFault}
+use Rattle.tb_lines.specs.declared.input.InputFault.TheVariants as input_fault
 use Rattle.tb_host.specs.declared.parcel_input.ParcelFault.{ParcelFault}
 use Rattle.tb_host.specs.declared.parcel_input.ParcelFault.TheVariants as fault
 

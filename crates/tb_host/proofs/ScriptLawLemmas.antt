@@ -10,14 +10,14 @@ use Rattle.tb_units.specs.Bytes.{blank}
 use Rattle.tb_words.specs.declared.command.Command.TheVariants as command
 use Rattle.tb_host.specs.Completeness.{AnswersScript, Completes}
 use Rattle.tb_host.specs.Endings.{ending_of, of_disk, of_text}
-use Rattle.tb_host.specs.Fields.{is_blank}
-use Rattle.tb_host.specs.Grammars.{LeavesGrammar}
-use Rattle.tb_host.specs.LineEnds.{most_lines}
+use Rattle.tb_text_book.specs.Fields.{is_blank}
+use Rattle.tb_text_book.specs.Grammars.{LeavesGrammar}
+use Rattle.tb_lines.specs.LineEnds.{most_lines}
 use Rattle.tb_host.specs.RunEnds.{Devices, RunEnds, ScriptEnds}
 use Rattle.tb_host.specs.ScriptLines.{IsAsk, IsEnd}
 use Rattle.tb_host.specs.Scripts.{BeginsWithScript, HasScript, LeavesScript, MayStand}
 use Rattle.tb_host.specs.Standings.{Standing}
-use Rattle.tb_host.specs.Told.{WhereTold}
+use Rattle.tb_lines.specs.Told.{WhereTold}
 use Rattle.tb_host.specs.declared.command_endings.DiskEnding.{DiskEnding}
 use Rattle.tb_host.specs.declared.command_endings.DiskEnding.TheVariants as disk_ending
 use Rattle.tb_host.specs.declared.command_endings.TextEnding.{TextEnding}

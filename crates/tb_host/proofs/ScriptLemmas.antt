@@ -8,22 +8,22 @@ use Rattle.tb_link.specs.Counts.{Rose}
 use Rattle.tb_link.specs.Sources.{SourceState, before_left}
 use Rattle.tb_link.specs.Sinks.{SinkState, after_taken}
 use Rattle.tb_host.specs.DiskRun.{HasGrown}
-use Rattle.tb_host.specs.Grammars.{LeavesGrammar}
-use Rattle.tb_host.specs.LineEnds.{is_line_feed, most_lines}
-use Rattle.tb_host.specs.Lines.{StaysAtEnd, ahead, still_left, unread}
-use Rattle.tb_host.specs.Reads.{ReadsLines, ReadsNoMore}
+use Rattle.tb_text_book.specs.Grammars.{LeavesGrammar}
+use Rattle.tb_lines.specs.LineEnds.{is_line_feed, most_lines}
+use Rattle.tb_lines.specs.Lines.{StaysAtEnd, ahead, still_left, unread}
+use Rattle.tb_lines.specs.Reads.{ReadsLines, ReadsNoMore}
 use Rattle.tb_host.specs.RunEnds.{ActedOn, BrokenOff, CutOff, Finished, LeftOff, ReadsNext, ScriptEnds, Stopped}
 use Rattle.tb_host.specs.ScriptLines.{IsAsk, IsEnd}
 use Rattle.tb_host.specs.ScriptRun.{IsActedOn, IsRun}
 use Rattle.tb_host.specs.ScriptSteps.{Acts, ActsInVain, IsNext, NextEnds, NoneStands, RunState, Stay, TakesLine}
 use Rattle.tb_host.specs.Scripts.{MayStand}
 use Rattle.tb_host.specs.Standings.{Standing}
-use Rattle.tb_host.specs.Told.{WhereTold}
+use Rattle.tb_lines.specs.Told.{WhereTold}
 use Rattle.tb_host.specs.declared.command_endings.TextEnding.{TextEnding}
 use Rattle.tb_host.specs.declared.command_endings.TextEnding.TheVariants as ending
 use Rattle.tb_host.proofs.GrownLemmas.{run-goes}
-use Rattle.tb_host.proofs.ReadLemmas.{ahead-start, same_rest}
-use Rattle.tb_host.proofs.ReadsLemmas.{ReadsLines-more, ReadsLines-whole, ReadsNoMore-start, ReadsNoMore-then}
+use Rattle.tb_text_book.proofs.ReadLemmas.{ahead-start, same_rest}
+use Rattle.tb_lines.proofs.ReadsLemmas.{ReadsLines-more, ReadsLines-whole, ReadsNoMore-start, ReadsNoMore-then}
 
 -- one line more was acted on
 pub IsRun-more : (operator : List ℕ) (first : Standing) (lines : List (List ℕ)) (replies : List ℕ) (now : Standing)

@@ -24,8 +24,8 @@ use Rattle.tb_units.specs.declared.moment.Moment.{Moment}
 use Rattle.tb_message.specs.Keys.{key_of}
 use Rattle.tb_message.specs.declared.key.Key.{Key}
 use Rattle.tb_message.specs.declared.key.Key.TheVariants as keys
-use Rattle.tb_host.specs.Fields.{is_blank}
-use Rattle.tb_host.specs.LineEnds.{longest_line}
+use Rattle.tb_text_book.specs.Fields.{is_blank}
+use Rattle.tb_lines.specs.LineEnds.{longest_line}
 use Rattle.tb_host.specs.ScriptLines.{IsAsk, SpellsAsk, SpellsFrom}
 
 -- no byte of the text is a space

@@ -6,20 +6,20 @@ use Rattle.std.proofs.lemmas.List.{length-drop, take_all}
 use Rattle.tb_link.specs.Sinks.{SinkState, Takes, FailsToTake}
 use Rattle.tb_history.specs.Answer.{caller_of}
 use Rattle.tb_history.specs.Roster.{registrations}
-use Rattle.tb_host.specs.LineEnds.{longest_line}
-use Rattle.tb_host.specs.Lines.{Finds, FindsWhereTold, ahead}
-use Rattle.tb_host.specs.Reads.{ReadsNoMore}
+use Rattle.tb_lines.specs.LineEnds.{longest_line}
+use Rattle.tb_lines.specs.Lines.{Finds, FindsWhereTold, ahead}
+use Rattle.tb_lines.specs.Reads.{ReadsNoMore}
 use Rattle.tb_host.specs.Replies.{IsAnswered}
 use Rattle.tb_host.specs.ScriptLines.{SpellsFrom}
 use Rattle.tb_host.specs.ScriptSteps.{Acts, ActsInVain, IsNext, LineEnds, NextEnds, NoneStands, RunState}
 use Rattle.tb_host.specs.Scripts.{MayStand}
 use Rattle.tb_host.specs.Standings.{Standing}
-use Rattle.tb_host.specs.Told.{WhereTold}
+use Rattle.tb_lines.specs.Told.{WhereTold}
 use Rattle.tb_host.specs.declared.command_endings.TextEnding.{TextEnding}
 use Rattle.tb_host.specs.declared.command_endings.TextEnding.TheVariants as ending
 use Rattle.tb_host.specs.declared.script_line.Ask.{Ask}
-use Rattle.tb_host.specs.declared.line_end.NextLine.TheVariants as next
-use Rattle.tb_host.proofs.ReadLemmas.{same_rest}
+use Rattle.tb_lines.specs.declared.line_end.NextLine.TheVariants as next
+use Rattle.tb_text_book.proofs.ReadLemmas.{same_rest}
 
 -- a line that was found is the next one
 pub IsNext-found : (before after : ℕ) (ended : Bool) (line : List ℕ) (behind : Option (List ℕ)) (text : List ℕ)

@@ -8,9 +8,9 @@ use Rattle.tb_core.specs.House.{IsBid}
 use Rattle.tb_desk.specs.Turn.{AreBids, AreNumbered}
 use Rattle.tb_import.specs.Tables.{IsFirstBad, IsTable, most_bytes}
 use Rattle.tb_import.proofs.CallerLemmas.{table-sound}
-use Rattle.tb_host.specs.Reads.{ReadsToEnd, ReadsWithoutFault}
+use Rattle.tb_lines.specs.Reads.{ReadsToEnd, ReadsWithoutFault}
 use Rattle.tb_host.specs.TableInput.{HasRows, HasText}
-use Rattle.tb_host.specs.Told.{WhereTold}
+use Rattle.tb_lines.specs.Told.{WhereTold}
 
 -- the messages of a table can be sent as bids
 sendable : (bytes : List ℕ) (rows : List (ℕ × Message)) → IsTable bytes rows → AreBids rows × AreNumbered rows

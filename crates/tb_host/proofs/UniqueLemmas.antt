@@ -1,12 +1,12 @@
 -- A text has one book at its beginning at most, or one line outside the grammar.
 use Rattle.std.proofs.Common.{◌≡◌, ℕ, ◌+◌, ◌≤◌, List, [], ◌∷◌, ◌++◌, length, sym, subst, ◌∙◌, refl, arith, inl, inr}
-use Rattle.tb_host.specs.BookLines.{Spells}
-use Rattle.tb_host.specs.Books.{AreEntries, BeginsWithBook, Book, IsBadLine, IsBadNext, IsEntry, IsFront, empty_book}
-use Rattle.tb_host.specs.LineEnds.{most_lines}
-use Rattle.tb_host.specs.declared.book_line.BookLine.TheVariants as kind
-use Rattle.tb_host.specs.declared.book_line.Offering.{Offering}
+use Rattle.tb_text_book.specs.BookLines.{Spells}
+use Rattle.tb_text_book.specs.Books.{AreEntries, BeginsWithBook, Book, IsBadLine, IsBadNext, IsEntry, IsFront, empty_book}
+use Rattle.tb_lines.specs.LineEnds.{most_lines}
+use Rattle.tb_text_book.specs.declared.book_line.BookLine.TheVariants as kind
+use Rattle.tb_text_book.specs.declared.book_line.Offering.{Offering}
 use Rattle.tb_host.proofs.CompleteLemmas.{entry_one, first_good, goes_on, offering_one}
-use Rattle.tb_host.proofs.SameLemmas.{Spells-one}
+use Rattle.tb_text_book.proofs.SameLemmas.{Spells-one}
 
 -- so many entries, and behind them the first line that is none, or the end
 record Stops (offering : Offering) (old : Book) (count : ℕ) (texts rest : List (List ℕ)) : Type 0 where

@@ -3,9 +3,9 @@ use Rattle.std.specs.Prelude.{◌≡◌, ℕ, ◌+◌, List, length, Bool}
 use Rattle.tb_link.specs.Counts.{Rose}
 use Rattle.tb_link.specs.Sources.{SourceState}
 use Rattle.tb_link.specs.Sinks.{SinkState, after_taken, TakesPrefix}
-use Rattle.tb_host.specs.BookReading.{ReadsBadLine}
-use Rattle.tb_host.specs.BookRun.{IsBookRun}
-use Rattle.tb_host.specs.Reads.{ReadsLines, ReadsWithoutFault}
+use Rattle.tb_text_book.specs.BookReading.{ReadsBadLine}
+use Rattle.tb_text_book.specs.BookRun.{IsBookRun}
+use Rattle.tb_lines.specs.Reads.{ReadsLines, ReadsWithoutFault}
 use Rattle.tb_host.specs.declared.command_endings.TextEnding.{TextEnding}
 use Rattle.tb_host.specs.declared.command_endings.TextEnding.TheVariants as ending
 

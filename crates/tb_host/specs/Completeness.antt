@@ -14,13 +14,13 @@ use Rattle.tb_parcel.specs.declared.parcel.Parcel.{Parcel}
 use Rattle.tb_replica.specs.declared.taken.TakeFault.TheVariants as fault
 use Rattle.tb_words.specs.declared.command.Command.{Command}
 use Rattle.tb_words.specs.declared.command.Command.TheVariants as command
-use Rattle.tb_host.specs.Books.{HasBadLine, HasBook}
+use Rattle.tb_text_book.specs.Books.{HasBadLine, HasBook}
 use Rattle.tb_host.specs.Endings.{ending_of}
 use Rattle.tb_host.specs.FollowTakeRun.{BreaksAt, IsFirstBadParcel, IsParcels, bytes_of}
 use Rattle.tb_host.specs.HostRun.{HasHistoryIn}
 use Rattle.tb_host.specs.ImportRun.{SentRow}
 use Rattle.tb_host.specs.Scripts.{HasScript, LeavesScript}
-use Rattle.tb_host.specs.Told.{WhereTold}
+use Rattle.tb_lines.specs.Told.{WhereTold}
 use Rattle.tb_host.specs.declared.ending.Ending.{Ending}
 use Rattle.tb_host.specs.declared.ending.Ending.TheVariants as ending
 

@@ -18,7 +18,7 @@ use Rattle.tb_replica.specs.declared.taken.TakeFault.{TakeFault}
 use Rattle.tb_replica.specs.declared.taken.TakeFault.TheVariants as fault
 use Rattle.tb_host.specs.RunEnds.{Devices, EndsOnDisk}
 use Rattle.tb_host.specs.Standings.{Standing}
-use Rattle.tb_host.specs.Told.{WhereTold}
+use Rattle.tb_lines.specs.Told.{WhereTold}
 use Rattle.tb_host.specs.declared.command_endings.DiskEnding.{DiskEnding}
 use Rattle.tb_host.specs.declared.command_endings.TakeEnding.{TakeEnding}
 use Rattle.tb_host.specs.declared.command_endings.TakeEnding.TheVariants as ending

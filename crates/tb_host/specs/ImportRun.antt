@@ -16,10 +16,10 @@ use Rattle.tb_history.specs.Roster.{registrations}
 use Rattle.tb_desk.specs.Turn.{Replies}
 use Rattle.tb_import.specs.Tables.{IsFirstBad, IsTable}
 use Rattle.tb_host.specs.Replies.{refused}
-use Rattle.tb_host.specs.Reads.{ReadsToEnd, ReadsWithoutFault}
+use Rattle.tb_lines.specs.Reads.{ReadsToEnd, ReadsWithoutFault}
 use Rattle.tb_host.specs.RunEnds.{Devices, EndsOnDisk}
 use Rattle.tb_host.specs.Standings.{Standing}
-use Rattle.tb_host.specs.Told.{WhereTold}
+use Rattle.tb_lines.specs.Told.{WhereTold}
 use Rattle.tb_host.specs.Turns.{MakesTurn, told, unavailable}
 use Rattle.tb_host.specs.declared.sender.Sender.{Sender}
 use Rattle.tb_host.specs.declared.command_endings.DiskEnding.{DiskEnding}

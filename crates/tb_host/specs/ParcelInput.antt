@@ -3,9 +3,9 @@ use Rattle.std.specs.Prelude.{◌≡◌, ℕ, ◌≤◌, List, [], ◌++◌, len
 use Rattle.tb_link.specs.Sources.{SourceState, before_left}
 use Rattle.tb_parcel.specs.declared.parcel.Parcel.{Parcel}
 use Rattle.tb_parcel.specs.Parcels.{BeginsWithNone, parcel_bytes}
-use Rattle.tb_host.specs.Told.{WhereTold}
-use Rattle.tb_host.specs.declared.input.InputFault.{InputFault}
-use Rattle.tb_host.specs.declared.input.InputFault.TheVariants as input_fault
+use Rattle.tb_lines.specs.Told.{WhereTold}
+use Rattle.tb_lines.specs.declared.input.InputFault.{InputFault}
+use Rattle.tb_lines.specs.declared.input.InputFault.TheVariants as input_fault
 use Rattle.tb_host.specs.declared.parcel_input.ParcelFault.{ParcelFault}
 use Rattle.tb_host.specs.declared.parcel_input.ParcelFault.TheVariants as fault
 use Rattle.tb_host.specs.declared.parcel_input.ParcelReader.{ParcelReader}

@@ -7,12 +7,12 @@ use Rattle.tb_link.specs.Sinks.{SinkState, after_taken}
 use Rattle.tb_disk.specs.Disks.{DiskState}
 use Rattle.tb_desk.specs.declared.fault.OpenFault.{OpenFault}
 use Rattle.tb_host.specs.DiskRun.{OnDesk, Unopened}
-use Rattle.tb_host.specs.LineEnds.{is_line_feed}
-use Rattle.tb_host.specs.Reads.{ReadsLines, ReadsWithoutFault}
+use Rattle.tb_lines.specs.LineEnds.{is_line_feed}
+use Rattle.tb_lines.specs.Reads.{ReadsLines, ReadsWithoutFault}
 use Rattle.tb_host.specs.ScriptRun.{IsActedOn, IsRun}
 use Rattle.tb_host.specs.Scripts.{BeginsWithScript, StopsBehind}
 use Rattle.tb_host.specs.Standings.{Standing}
-use Rattle.tb_host.specs.Told.{WhereTold}
+use Rattle.tb_lines.specs.Told.{WhereTold}
 use Rattle.tb_host.specs.declared.command_endings.DiskEnding.{DiskEnding}
 use Rattle.tb_host.specs.declared.command_endings.DiskEnding.TheVariants as disk_ending
 use Rattle.tb_host.specs.declared.command_endings.TextEnding.{TextEnding}

@@ -5,7 +5,7 @@ use Rattle.tb_units.specs.Bytes.{blank}
 use Rattle.tb_units.specs.declared.moment.Moment.{Moment}
 use Rattle.tb_message.specs.Keys.{key_of}
 use Rattle.tb_message.specs.declared.key.Key.{Key}
-use Rattle.tb_host.specs.LineEnds.{longest_line}
+use Rattle.tb_lines.specs.LineEnds.{longest_line}
 use Rattle.tb_host.specs.declared.script_line.Ask.{Ask}
 use Rattle.tb_host.specs.declared.script_line.ScriptLine.{ScriptLine}
 use Rattle.tb_host.specs.declared.script_line.ScriptLine.TheVariants as kind

@@ -4,17 +4,17 @@ use Rattle.std.specs.Str.Lines.{lines}
 use Rattle.tb_link.specs.Counts.{Rose}
 use Rattle.tb_link.specs.Sources.{SourceState}
 use Rattle.tb_link.specs.Sinks.{SinkState, Takes, FailsToTake}
-use Rattle.tb_host.specs.LineEnds.{is_line_feed}
-use Rattle.tb_host.specs.Lines.{ahead, unread}
-use Rattle.tb_host.specs.Reads.{ReadsNoMore}
+use Rattle.tb_lines.specs.LineEnds.{is_line_feed}
+use Rattle.tb_lines.specs.Lines.{ahead, unread}
+use Rattle.tb_lines.specs.Reads.{ReadsNoMore}
 use Rattle.tb_host.specs.ScriptLines.{IsEnd}
 use Rattle.tb_host.specs.ScriptRun.{IsActedOn}
 use Rattle.tb_host.specs.Scripts.{MayStand}
 use Rattle.tb_host.specs.Standings.{Standing}
-use Rattle.tb_host.specs.Told.{WhereTold}
+use Rattle.tb_lines.specs.Told.{WhereTold}
 use Rattle.tb_host.specs.declared.command_endings.TextEnding.{TextEnding}
 use Rattle.tb_host.specs.declared.command_endings.TextEnding.TheVariants as ending
-use Rattle.tb_host.specs.declared.input.LineReader.{LineReader}
+use Rattle.tb_lines.specs.declared.input.LineReader.{LineReader}
 
 -- a line was acted on, and the output has taken the reply
 pub record Acts (operator line : List ℕ) (old new : Standing) (out out' : SinkState) : Type 0 where

@@ -1,8 +1,8 @@
 -- Scripts (our own form): lines that ask, then the line `end`.
 use Rattle.std.specs.Prelude.{◌≡◌, ℕ, ◌+◌, ◌<◌, ◌≤◌, ◌⊎◌, List, ◌∷◌, ◌++◌, length}
 use Rattle.std.specs.List.{AllByRecursion}
-use Rattle.tb_host.specs.LineEnds.{most_lines}
-use Rattle.tb_host.specs.Grammars.{LeavesGrammar}
+use Rattle.tb_lines.specs.LineEnds.{most_lines}
+use Rattle.tb_text_book.specs.Grammars.{LeavesGrammar}
 use Rattle.tb_host.specs.ScriptLines.{IsAsk, IsEnd}
 
 -- the lines begin with a script that asks by these lines, up to its end; nothing behind that is looked at

@@ -5,8 +5,8 @@ use Rattle.tb_link.specs.Sources.{SourceState}
 use Rattle.tb_message.specs.declared.message.Message.{Message}
 use Rattle.tb_desk.specs.Turn.{AreBids, AreNumbered}
 use Rattle.tb_import.specs.Tables.{IsFirstBad, IsTable, most_bytes}
-use Rattle.tb_host.specs.Reads.{ReadsWithoutFault}
-use Rattle.tb_host.specs.Told.{WhereTold}
+use Rattle.tb_lines.specs.Reads.{ReadsWithoutFault}
+use Rattle.tb_lines.specs.Told.{WhereTold}
 use Rattle.tb_host.specs.declared.command_endings.TextEnding.{TextEnding}
 use Rattle.tb_host.specs.declared.command_endings.TextEnding.TheVariants as ending
 

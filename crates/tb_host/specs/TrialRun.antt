@@ -6,7 +6,7 @@ use Rattle.tb_link.specs.Sinks.{SinkState, after_taken, TakesPrefix}
 use Rattle.tb_history.specs.declared.readings.Figures.{Figures}
 use Rattle.tb_history.specs.Readings.{HasFigures}
 use Rattle.tb_trial.specs.Trials.{trial_bidding}
-use Rattle.tb_host.specs.BookRun.{cut_text, labelled}
+use Rattle.tb_text_book.specs.BookRun.{cut_text, labelled}
 use Rattle.tb_host.specs.declared.command_endings.PrintEnding.{PrintEnding}
 use Rattle.tb_host.specs.declared.command_endings.PrintEnding.TheVariants as ending
 

@@ -3,11 +3,10 @@ ghost use Rattle.std.specs.Prelude.{◌≡◌};
 ghost use Rattle.tb_link.specs.Counts.{NeverFalls};
 ghost use Rattle.tb_host.specs.AwardRun.{AwardEnds};
 
-use crate::auction_text::award_text;
-use crate::book::{BookFault, read_book};
 use crate::command_endings::TextEnding;
 use std::alloc::Global;
 use tb_link::{Sink, Source};
+use tb_text_book::{BookFault, award_text, read_book};
 
 /// Reads a book from the input and prints where its auction stops, and where it is asked for in full what each bidder
 /// gets. Nothing is written before the book's end was read.

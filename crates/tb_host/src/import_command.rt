@@ -11,10 +11,10 @@ ghost use Rattle.tb_history.specs.Roster.{registrations};
 ghost use Rattle.tb_host.specs.DiskRun.{HasGrown};
 ghost use Rattle.tb_host.specs.ImportRun.{AreSent, ImportEnds, TableEnds, group_text, same_lines};
 ghost use Rattle.tb_host.specs.ImportSteps.{AreAsMany, GroupEnds, RowsEnd};
-ghost use Rattle.tb_host.specs.Reads.{ReadsToEnd};
+ghost use Rattle.tb_lines.specs.Reads.{ReadsToEnd};
 ghost use Rattle.tb_host.specs.Replies.{refused};
 ghost use Rattle.tb_host.specs.Standings.{standing};
-ghost use Rattle.tb_host.specs.Told.{WhereTold};
+ghost use Rattle.tb_lines.specs.Told.{WhereTold};
 ghost use Rattle.tb_host.specs.Turns.{MakesTurn};
 
 use crate::answer::caller;

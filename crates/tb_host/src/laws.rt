@@ -4,8 +4,8 @@ ghost use Rattle.std.specs.Prelude.{◌≡◌, ℕ, List, [], ◌∷◌, ◌++�
 ghost use Rattle.tb_disk.specs.Disks.{DiskState};
 ghost use Rattle.tb_gates.specs.Clocks.{ClockState};
 ghost use Rattle.tb_message.specs.declared.message.Entry.{Entry};
-ghost use Rattle.tb_host.specs.Books.{BeginsWithBook, Book, HasBadLine, HasBook, IsBadLine};
-ghost use Rattle.tb_host.specs.BookRun.{IsBookRun};
+ghost use Rattle.tb_text_book.specs.Books.{BeginsWithBook, Book, HasBadLine, HasBook, IsBadLine};
+ghost use Rattle.tb_text_book.specs.BookRun.{IsBookRun};
 ghost use Rattle.tb_host.specs.DiskRun.{Stays};
 ghost use Rattle.tb_host.specs.Doubted.{IsOfLines, IsOfRuns};
 ghost use Rattle.tb_host.specs.ImportRun.{IsImport, SentRow};
@@ -13,7 +13,7 @@ ghost use Rattle.tb_host.specs.ScriptHeadline.{HasHeadline, IsOfLine, IsOfRow, R
 ghost use Rattle.tb_host.specs.ScriptRun.{IsFaultless, IsRun};
 ghost use Rattle.tb_host.specs.Scripts.{BeginsWithScript, HasScript, LeavesScript};
 ghost use Rattle.tb_host.specs.Standings.{Standing};
-ghost use Rattle.tb_host.specs.declared.book_line.Offering.{Offering};
+ghost use Rattle.tb_text_book.specs.declared.book_line.Offering.{Offering};
 ghost use Rattle.tb_host.specs.declared.sender.Sender.{Sender};
 
 /// Lines begin with at most one book, have at most one line that is the first outside the grammar, and never both.

@@ -20,11 +20,11 @@ ghost use Rattle.std.specs.Prelude.{
 };
 ghost use Rattle.tb_link.specs.Counts.{NeverFalls, Rose};
 ghost use Rattle.tb_message.specs.Spelling.{IsInRange};
-ghost use Rattle.tb_host.specs.Told.{WhereTold};
+ghost use Rattle.tb_lines.specs.Told.{WhereTold};
 ghost use Rattle.tb_host.specs.declared.parcel_input.ParcelFault.TheVariants as fault;
 
-use crate::input::InputFault;
 use std::alloc::Global;
+use tb_lines::InputFault;
 use tb_link::{Failed, Source};
 use tb_parcel::{Parcel, ParcelFront, read_parcel};
 use tb_units::OutOfMemory;

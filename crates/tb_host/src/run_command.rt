@@ -2,21 +2,20 @@
 ghost use Rattle.std.specs.Prelude.{◌≡◌};
 ghost use Rattle.tb_desk.specs.declared.fault.OpenFault.{OpenFault};
 ghost use Rattle.tb_host.specs.DiskRun.{HasGrown};
-ghost use Rattle.tb_host.specs.Lines.{ahead, StaysAtEnd};
-ghost use Rattle.tb_host.specs.Reads.{ReadsLines};
+ghost use Rattle.tb_lines.specs.Lines.{ahead, StaysAtEnd};
+ghost use Rattle.tb_lines.specs.Reads.{ReadsLines};
 ghost use Rattle.tb_host.specs.RunEnds.{RunEnds, ScriptEnds};
 ghost use Rattle.tb_host.specs.ScriptSteps.{LineEnds, NextEnds};
 ghost use Rattle.tb_host.specs.Standings.{standing};
-ghost use Rattle.tb_host.specs.Told.{WhereTold};
+ghost use Rattle.tb_lines.specs.Told.{WhereTold};
 
 use crate::answer::answer;
 use crate::command_endings::{DiskEnding, TextEnding};
-use crate::input::{InputFault, LineReader};
-use crate::line_end::{MOST_LINES, NextLine};
 use crate::script_line::{ScriptLine, read_script_line};
 use std::alloc::Global;
 use tb_desk::Desk;
 use tb_disk::Disk;
+use tb_lines::{InputFault, LineReader, MOST_LINES, NextLine};
 use tb_link::{Sink, Source};
 use tb_message::RequestReader;
 use tb_units::Ident;

@@ -4,11 +4,11 @@ ghost use Rattle.std.specs.Fmt.{decimal};
 ghost use Rattle.std.specs.List.{position_or_len, before_first, after_first};
 ghost use Rattle.tb_units.specs.declared.moment.Moment.{Moment};
 ghost use Rattle.tb_message.specs.Keys.{key_of};
-ghost use Rattle.tb_host.specs.Fields.{is_blank};
+ghost use Rattle.tb_text_book.specs.Fields.{is_blank};
 ghost use Rattle.tb_host.specs.ScriptLines.{IsAsk, IsEnd, SpellsFrom, SpellsLine};
 
-use crate::line_end::LONGEST_LINE;
 use std::str;
+use tb_lines::LONGEST_LINE;
 use tb_message::Key;
 use tb_units::Moment;
 

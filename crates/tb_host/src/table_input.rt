@@ -21,14 +21,14 @@ ghost use Rattle.std.specs.Prelude.{
 };
 ghost use Rattle.tb_link.specs.Counts.{NeverFalls, Rose};
 ghost use Rattle.tb_link.specs.Sources.{before_left};
-ghost use Rattle.tb_host.specs.Reads.{ReadsToEnd};
+ghost use Rattle.tb_lines.specs.Reads.{ReadsToEnd};
 ghost use Rattle.tb_host.specs.TableInput.{AnswersInput, HasText};
-ghost use Rattle.tb_host.specs.Told.{WhereTold};
+ghost use Rattle.tb_lines.specs.Told.{WhereTold};
 
 use crate::command_endings::TextEnding;
-use crate::input::InputFault;
 use std::alloc::Global;
 use tb_import::{BidTable, ImportFault};
+use tb_lines::InputFault;
 use tb_link::{Failed, Source};
 
 // Bytes of a table, at most.

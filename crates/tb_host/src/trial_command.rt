@@ -3,11 +3,11 @@ ghost use Rattle.std.specs.Prelude.{◌≡◌, ◌≤◌, ◌^◌, IfOk};
 ghost use Rattle.tb_link.specs.Counts.{NeverFalls};
 ghost use Rattle.tb_host.specs.TrialRun.{TrialEnds, trial_text};
 
-use crate::auction_text::{cut_lines, push_line};
 use crate::command_endings::PrintEnding;
 use std::alloc::Global;
 use tb_history::Figures;
 use tb_link::Sink;
+use tb_text_book::{cut_lines, push_line};
 use tb_units::{OutOfMemory, Short};
 
 /// Prints the figures of the auction of so many bids, 1 to 1,000,000, that follow from the seed. Nothing is written

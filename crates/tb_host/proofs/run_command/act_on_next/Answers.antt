@@ -1,6 +1,6 @@
 use Rattle.std.proofs.Common.{ℕ, List, ap, subst, ◌∙◌, refl}
 use Rattle.std.specs.Prelude.{Ok}
-use Rattle.tb_host.specs.Lines.{ahead, current}
+use Rattle.tb_lines.specs.Lines.{ahead, current}
 use Rattle.tb_host.specs.ScriptSteps.{LineEnds}
 use Rattle.tb_host.specs.Standings.{standing}
 use Rattle.tb_host.proofs.ScriptStepLemmas.{NextEnds-line, NoneStands-end, NoneStands-long}

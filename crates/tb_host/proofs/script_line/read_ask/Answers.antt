@@ -2,7 +2,7 @@ use Rattle.std.proofs.Common.{◌<◌, ℕ, List, ap, subst, sym, ◌∙◌, len
 use Rattle.std.proofs.lemmas.Bool.{eqb-true}
 use Rattle.std.specs.List.{after_first, before_first, position_or_len}
 use Rattle.tb_message.specs.Keys.{key_of}
-use Rattle.tb_host.specs.Fields.{is_blank}
+use Rattle.tb_text_book.specs.Fields.{is_blank}
 use Rattle.tb_host.proofs.ScriptLineLemmas.{SpellsFrom-read, json-shorter, no_first, no_json, no_key_word, no_moment, no_second, not_empty}
 use Rattle.tb_host.proofs.script_line.read_ask.Goals as goal
 

@@ -1,7 +1,0 @@
-use Rattle.std.proofs.Common.{take}
-use Rattle.tb_host.proofs.AwardLemmas.{AmountsSoFar}
-use Rattle.tb_host.proofs.auction_text.amounts.Given as goal
-
-abbrev pub invariant-loop-place : goal.invariant-loop-place
-invariant-loop-place l =
-    AmountsSoFar l.cut.stop.steps l.cut.percent.hundredths (take l.place l.recognised.lines) l.ways l.amounts.items

@@ -1,7 +1,0 @@
-use Rattle.std.proofs.Common.{arith}
-use Rattle.tb_host.proofs.AsciiLemmas.{Spells-read}
-use Rattle.tb_host.proofs.read_line.read_book_line.Goals as goal
-
-pub returns-clause-read : goal.returns-clause-read
-returns-clause-read c =
-    Spells-read c.args.text.now c.read_fields.result (omega arith) c.read_fields.ensures.read

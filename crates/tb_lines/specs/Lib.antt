@@ -1,0 +1,4 @@
+pub mod Told
+pub mod LineEnds
+pub mod Lines
+pub mod Reads

@@ -1,0 +1,40 @@
+-- How many reads there were of a text.
+use Rattle.std.specs.Prelude.{◌≡◌, ℕ, ◌+◌, ◌<◌, ◌≤◌, ◌⊎◌, List, [], ◌++◌, length, Option, Some, Bool, true}
+use Rattle.std.specs.Str.Lines.{lines}
+use Rattle.tb_link.specs.Sources.{SourceState}
+use Rattle.tb_lines.specs.Told.{WhereTold}
+
+-- these bytes were read and nothing behind them: each read gave at least one of them, but for one that found the end of
+-- the input, where nothing follows
+abbrev pub AreReads : ℕ → ℕ → List ℕ → List ℕ → Type 0
+AreReads before after taken rest =
+    (after ≤ before + length taken) ⊎ ((rest ≡ []) × (after ≤ before + length taken + 1))
+
+-- of a text the first lines were read, at most so many, and nothing behind them
+pub record ReadsLines (most before after : ℕ) (text : List ℕ) : Type 0 where
+  pub taken : List ℕ
+  pub rest : List ℕ
+  pub text_is : text ≡ taken ++ rest
+  pub reads : AreReads before after taken rest
+  -- what was taken is these lines, up to the line feed of the last
+  pub front : List (List ℕ)
+  pub lines_are : lines text ≡ front ++ lines rest
+  pub few : length front ≤ most
+
+-- a text was read to its end at most: each read gave at least one of its bytes, but for one that found its end
+abbrev pub ReadsToEnd : ℕ → ℕ → List ℕ → Type 0
+ReadsToEnd before after text = after ≤ before + length text + 1
+
+-- the input was read without a fault, and where it is told this is so of its text
+pub record ReadsWithoutFault (input input' : SourceState) (Holds : List ℕ → Type 0) : Type 0 where
+  pub no_fault : input'.faults ≡ input.faults
+  pub told : WhereTold input.left Holds
+
+-- so much of a text was taken with no read behind it, and so much follows; whether the end of the input was found
+pub record ReadsNoMore (before after : ℕ) (ended : Bool) (behind : Option (List ℕ)) (text : List ℕ) : Type 0 where
+  pub taken : List ℕ
+  pub rest : List ℕ
+  pub behind_is : behind ≡ Some rest
+  pub text_is : text ≡ taken ++ rest
+  pub reads : AreReads before after taken rest
+  pub found : before + length taken < after → ended ≡ true

@@ -1,0 +1,15 @@
+pub mod FieldLemmas
+pub mod AsciiLemmas
+pub mod DigitLemmas
+pub mod DecimalLemmas
+pub mod PositionLemmas
+pub mod BookLineLemmas
+pub mod NameLemmas
+pub mod SameLemmas
+pub mod BookLemmas
+pub mod ReadLemmas
+pub mod TextLineLemmas
+pub mod TallyLemmas
+pub mod NumberingLemmas
+pub mod AwardLemmas
+pub mod TextLemmas

@@ -1,0 +1,13 @@
+pub mod Fields
+pub mod Words
+pub mod BookLines
+pub mod Grammars
+pub mod Books
+pub mod BookReading
+pub mod BookFaults
+pub mod Bids
+pub mod SoundLines
+pub mod TextLines
+pub mod Tallies
+pub mod BookRun
+pub mod AwardTexts
