@@ -6,14 +6,17 @@ use Rattle.tb_import.specs.declared.reading.ImportFault.{ImportFault}
 use Rattle.tb_import.specs.declared.reading.ImportFault.TheVariants as fault
 use Rattle.tb_import.specs.Tables.{IsTable, IsFirstBad}
 
--- the table's messages, or its first bad record; want of memory has no cause that is stated
+-- why none are answered: the first bad record; want of memory has no cause that is stated
+abbrev pub IsCause : List ℕ → ImportFault → Type 0
+IsCause bytes (fault.BadRecord place) = IsFirstBad bytes place
+IsCause bytes fault.OutOfMemory = ⊤
+
+-- the table's messages, or why there are none
 abbrev pub AnswersBids : List ℕ → Result (List (ℕ × Message)) ImportFault → Type 0
 AnswersBids bytes (Ok sent) = IsTable bytes sent
-AnswersBids bytes (Err (fault.BadRecord place)) = IsFirstBad bytes place
-AnswersBids bytes (Err fault.OutOfMemory) = ⊤
+AnswersBids bytes (Err fault) = IsCause bytes fault
 
 -- the same of messages in a vector
 abbrev pub AnswersTable : List ℕ → Result (Vec (ℕ × Message)) ImportFault → Type 0
 AnswersTable bytes (Ok sent) = IsTable bytes sent.items
-AnswersTable bytes (Err (fault.BadRecord place)) = IsFirstBad bytes place
-AnswersTable bytes (Err fault.OutOfMemory) = ⊤
+AnswersTable bytes (Err fault) = IsCause bytes fault

@@ -8,7 +8,8 @@ use Rattle.tb_host.proofs.table_input.read_text.Goals as goal
 pub loop-space-init : goal.loop-space-init
 loop-space-init g c =
     let left = (g.I.Source.source c.args.input.now).left in
-    (before_left-nothing left ∙ ap (λ (t : List ℕ). before_left t left) (sym c.new-text.ensures.items), refl, omega arith)
+    let before = before_left-nothing left ∙ ap (λ (t : List ℕ). before_left t left) (sym c.new-text.ensures.items) in
+    (before, refl, omega arith)
 
 pub loop-space-preserved : goal.loop-space-preserved
 loop-space-preserved g c =

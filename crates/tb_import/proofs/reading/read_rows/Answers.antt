@@ -38,7 +38,8 @@ loop-place-preserved c =
       AreRowsOf-append inv.0 inv.1 (fields_of c.next.new.fields) c.in-Some.row inv.3 c.in-Some.ensures.row,
       omega (arith, inv.4, longer),
       added ∙ ap (λ k. insert_key same_row k c.in-Some.row) inv.5 ∙ sym (first_seen-append inv.1 c.in-Some.row),
-      subst (All IsInRange) (sym added) (All-insert c.loop-place.rows.keys c.in-Some.row inv.6 c.in-Some.ensures.in_range),
+      subst (All IsInRange) (sym added)
+          (All-insert c.loop-place.rows.keys c.in-Some.row inv.6 c.in-Some.ensures.in_range),
     )
 
 pub returns-then-more : goal.returns-then-more
@@ -56,5 +57,5 @@ returns c =
     let ended = rw c.if-more.false at (c.in_ok-more.ensures c.args.bytes.now (header ∷ inv.0) inv.2) in
     let last : c.loop-place.place ≡ 1000001 = omega (arith, c.loop-place-test.false, c.loop-place.auto.place-end) in
     let small : length inv.0 + 2 ≤ 1000001 = omega (arith, inv.4, last) in
-    subst (IsTable c.args.bytes.now) (sym c.of-2.ensures) (table_ends c.args.bytes.now inv.0 inv.1 c.loop-place.rows.keys
-    c.requires.few small ended inv.3 inv.5 inv.6)
+    subst (IsTable c.args.bytes.now) (sym c.of-2.ensures)
+    (table_ends c.args.bytes.now inv.0 inv.1 c.loop-place.rows.keys c.requires.few small ended inv.3 inv.5 inv.6)
