@@ -1,12 +1,13 @@
 //! Tests of add-ons: how they are read, credited and paid beside the bids of an auction, and how they are refused.
-ghost use Rattle.std.specs.Prelude.{◌≤◌, ◌^◌, IfSome};
+ghost use Rattle.std.specs.Prelude.{◌≤◌, ◌^◌};
 ghost use Rattle.tb_message.specs.Spelling.{IsInRange};
 
 use crate::tests::{
-    BILL, CLOSING, MOMENT, announced, bid, held, paid, published, read, redeemed, registered,
+    BILL, CLOSING, MOMENT, announced, bid, held, name, paid, published, read, redeemed, registered,
     settled, submit, with_bidder,
 };
 use std::alloc::Global;
+use std::process::Abort;
 use tb_core::Host;
 use tb_history::Reading;
 use tb_message::{Entry, Message, Query, Verdict};
@@ -14,16 +15,16 @@ use tb_terms::{Announcement, Refusal};
 use tb_units::{Day, Dollars, Ident, Moment, Rate};
 
 // Of 76,000,000,000 a submitter may bid for 26,600,000,000.
-fn offered() -> Option<Entry>
-    ensures range { IfSome result IsInRange }
+fn offered(rt: &impl Abort) -> Entry
+    ensures range { IsInRange result }
 {
-    Some(Entry {
-        submitter: Ident::read("operator")?,
+    Entry {
+        submitter: name(rt, "operator"),
         number: 3,
         moment: MOMENT,
         message: Message::Announce {
             terms: Announcement {
-                auction: Ident::read("bill13")?,
+                auction: name(rt, "bill13"),
                 cusip: BILL,
                 offering: Dollars {
                     value: 76_000_000_000,
@@ -43,59 +44,59 @@ fn offered() -> Option<Entry>
                 maturity: Day { number: 20_125 },
             },
         },
-    })
+    }
 }
 
 // The only bid, at 4.270 percent.
-fn large_bid() -> Option<Entry>
-    ensures range { IfSome result IsInRange }
+fn large_bid(rt: &impl Abort) -> Entry
+    ensures range { IsInRange result }
 {
-    Some(Entry {
-        submitter: Ident::read("dealer1")?,
+    Entry {
+        submitter: name(rt, "dealer1"),
         number: 1,
         moment: MOMENT,
         message: Message::Bid {
-            auction: Ident::read("bill13")?,
-            bidder: Ident::read("fund1")?,
+            auction: name(rt, "bill13"),
+            bidder: name(rt, "fund1"),
             rate: Some(Rate { steps: 854 }),
             amount: Dollars {
                 value: 20_000_000_000,
             },
         },
-    })
+    }
 }
 
-fn added(holder: &str) -> Option<Entry>
-    ensures range { IfSome result IsInRange }
+fn added(rt: &impl Abort, holder: &str) -> Entry
+    ensures range { IsInRange result }
 {
-    Some(Entry {
-        submitter: Ident::read("operator")?,
+    Entry {
+        submitter: name(rt, "operator"),
         number: 4,
         moment: MOMENT,
         message: Message::AddOn {
-            auction: Ident::read("bill13")?,
-            holder: Ident::read(holder)?,
+            auction: name(rt, "bill13"),
+            holder: name(rt, holder),
             amount: Dollars {
                 value: 5_000_000_000,
             },
         },
-    })
+    }
 }
 
 // A host with two submitters and an announced auction, in which the holder has an add-on of 5,000,000,000.
-fn with_add_on(alloc: Global, holder: &str) -> Option<Host> {
-    let mut host = with_bidder(alloc)?;
-    let ready = submit(&mut host, registered(8, "dealer2", "key2"))?
-        && submit(&mut host, offered())?
-        && submit(&mut host, added(holder))?;
-    if ready { Some(host) } else { None }
+fn with_add_on(rt: &impl Abort, alloc: Global, holder: &str) -> Host {
+    let mut host = with_bidder(rt, alloc);
+    assert!(rt; submit(rt, &mut host, registered(rt, 8, "dealer2", "key2")));
+    assert!(rt; submit(rt, &mut host, offered(rt)));
+    assert!(rt; submit(rt, &mut host, added(rt, holder)));
+    host
 }
 
 // Publishes the auction of this bid, and settles it.
-fn sell(host: &mut Host, bid: Option<Entry>) -> Option<bool>
-    requires range { IfSome bid IsInRange }
+fn sell(rt: &impl Abort, host: &mut Host, bid: Entry) -> bool
+    requires range { IsInRange bid }
 {
-    Some(submit(host, bid)? && submit(host, published())? && submit(host, settled())?)
+    submit(rt, host, bid) && submit(rt, host, published(rt)) && submit(rt, host, settled(rt))
 }
 
 // The par of noncompetitive bids, of competitive awards, if there are any, and of the add-on.
@@ -144,8 +145,8 @@ fn paid_second(host: &Host, alloc: Global) -> Option<u128> {
 #[test]
 fn an_add_on_is_issued_beside_the_offering(rt: HostRuntime) {
     let alloc = rt.alloc();
-    let mut host = with_add_on(alloc, "dealer2").expect(&rt, "memory");
-    assert_eq!(rt; sell(&mut host, large_bid()), Some(true));
+    let mut host = with_add_on(&rt, alloc, "dealer2");
+    assert!(rt; sell(&rt, &mut host, large_bid(&rt)));
     let told = (0, Some(20_000_000_000), 5_000_000_000);
     assert_eq!(rt; amounts(&host, alloc), Some(told));
     assert_eq!(rt; awards(&host, alloc, "dealer1"), Some((1, None)));
@@ -153,27 +154,27 @@ fn an_add_on_is_issued_beside_the_offering(rt: HostRuntime) {
     assert_eq!(rt; awards(&host, alloc, "dealer2"), Some((0, whole)));
     assert_eq!(rt; held(&host, alloc, "dealer1"), Some(20_000_000_000));
     assert_eq!(rt; held(&host, alloc, "dealer2"), Some(5_000_000_000));
-    assert_eq!(rt; submit(&mut host, redeemed()), Some(true));
+    assert!(rt; submit(&rt, &mut host, redeemed(&rt)));
     assert_eq!(rt; paid_second(&host, alloc), Some(5_000_000_000));
 }
 
 #[test]
 fn a_holder_that_bids_is_credited_both_once(rt: HostRuntime) {
     let alloc = rt.alloc();
-    let mut host = with_add_on(alloc, "dealer1").expect(&rt, "memory");
-    assert_eq!(rt; sell(&mut host, large_bid()), Some(true));
+    let mut host = with_add_on(&rt, alloc, "dealer1");
+    assert!(rt; sell(&rt, &mut host, large_bid(&rt)));
     let whole = Some((5_000_000_000, 494_603_195_000));
     assert_eq!(rt; awards(&host, alloc, "dealer1"), Some((1, whole)));
     assert_eq!(rt; held(&host, alloc, "dealer1"), Some(25_000_000_000));
-    assert_eq!(rt; submit(&mut host, redeemed()), Some(true));
+    assert!(rt; submit(&rt, &mut host, redeemed(&rt)));
     assert_eq!(rt; paid(&host, alloc), Some(25_000_000_000));
 }
 
 #[test]
 fn where_nobody_is_awarded_anything_no_add_on_is(rt: HostRuntime) {
     let alloc = rt.alloc();
-    let mut host = with_add_on(alloc, "dealer2").expect(&rt, "memory");
-    assert_eq!(rt; sell(&mut host, bid(1, 1)), Some(true));
+    let mut host = with_add_on(&rt, alloc, "dealer2");
+    assert!(rt; sell(&rt, &mut host, bid(&rt, 1, 1)));
     assert_eq!(rt; amounts(&host, alloc), Some((100, None, 5_000_000_000)));
     assert_eq!(rt; awards(&host, alloc, "dealer2"), Some((0, Some((0, 0)))));
     assert_eq!(rt; held(&host, alloc, "dealer2"), None);
@@ -181,58 +182,41 @@ fn where_nobody_is_awarded_anything_no_add_on_is(rt: HostRuntime) {
 
 // Whether an add-on of so many dollars for the holder is refused at this moment, for this cause.
 fn is_refused(
+    rt: &impl Abort,
     host: &Host,
     moment: Moment,
     holder: &str,
     dollars: u64,
     cause: &Refusal,
-) -> Option<bool> {
+) -> bool {
     let message = Message::AddOn {
-        auction: Ident::read("bill13")?,
-        holder: Ident::read(holder)?,
+        auction: name(rt, "bill13"),
+        holder: name(rt, holder),
         amount: Dollars {
             value: u128::from(dollars),
         },
     };
-    let operator = Ident::read("operator")?;
-    Some(host.decide(&operator, 9, moment, &message) == Verdict::Refused(*cause))
+    let operator = name(rt, "operator");
+    host.decide(&operator, 9, moment, &message) == Verdict::Refused(*cause)
 }
 
 #[test]
 fn add_ons_are_refused_in_order(rt: HostRuntime) {
-    let mut host = with_bidder(rt.alloc()).expect(&rt, "memory");
+    let mut host = with_bidder(&rt, rt.alloc());
     let unknown = Refusal::UnknownAuction;
-    assert_eq!(rt;
-        is_refused(&host, MOMENT, "dealer2", 150, &unknown),
-        Some(true)
-    );
-    assert_eq!(rt; submit(&mut host, announced()), Some(true));
+    assert!(rt; is_refused(&rt, &host, MOMENT, "dealer2", 150, &unknown));
+    assert!(rt; submit(&rt, &mut host, announced(&rt)));
     let nobody = Refusal::UnknownParticipant;
-    assert_eq!(rt;
-        is_refused(&host, CLOSING, "dealer2", 150, &nobody),
-        Some(true)
-    );
+    assert!(rt; is_refused(&rt, &host, CLOSING, "dealer2", 150, &nobody));
     let uneven = Refusal::NotMultiple;
-    assert_eq!(rt;
-        is_refused(&host, CLOSING, "dealer1", 150, &uneven),
-        Some(true)
-    );
+    assert!(rt; is_refused(&rt, &host, CLOSING, "dealer1", 150, &uneven));
     let late = Refusal::Late {
         moment: CLOSING,
         closing: CLOSING,
     };
-    assert_eq!(rt;
-        is_refused(&host, CLOSING, "dealer1", 100, &late),
-        Some(true)
-    );
-    assert_eq!(rt; submit(&mut host, added("dealer1")), Some(true));
+    assert!(rt; is_refused(&rt, &host, CLOSING, "dealer1", 100, &late));
+    assert!(rt; submit(&rt, &mut host, added(&rt, "dealer1")));
     let again = Refusal::AddOnExists;
-    assert_eq!(rt;
-        is_refused(&host, MOMENT, "dealer1", 100, &again),
-        Some(true)
-    );
-    assert_eq!(rt;
-        is_refused(&host, CLOSING, "dealer1", 100, &again),
-        Some(true)
-    );
+    assert!(rt; is_refused(&rt, &host, MOMENT, "dealer1", 100, &again));
+    assert!(rt; is_refused(&rt, &host, CLOSING, "dealer1", 100, &again));
 }

@@ -1,11 +1,12 @@
 //! Tests of the host: an auction's bids come and go, in room that was taken before, with values that follow from the
 //! rules by hand.
-ghost use Rattle.std.specs.Prelude.{◌≡◌, ◌≤◌, ◌^◌, ◌++◌, ◌∷◌, [], true, IfSome};
+ghost use Rattle.std.specs.Prelude.{◌≡◌, ◌≤◌, ◌^◌, ◌++◌, ◌∷◌, [], true};
 ghost use Rattle.tb_message.specs.declared.verdict.Verdict.TheVariants as outcome;
 ghost use Rattle.tb_message.specs.Spelling.{IsInRange};
 ghost use Rattle.tb_core.specs.House.{IsBid};
 
 use std::alloc::Global;
+use std::process::Abort;
 use tb_core::Host;
 use tb_history::Reading;
 use tb_message::{Entry, Message, Query, Verdict};
@@ -36,54 +37,59 @@ pub(crate) const BILL: Cusip = Cusip {
     bytes: *b"912797AA5",
 };
 
-pub(crate) fn registered(number: u64, submitter: &str, key: &str) -> Option<Entry>
+// The name that is spelled so.
+pub(crate) fn name(rt: &impl Abort, text: &str) -> Ident {
+    Ident::read(text).expect(rt, "a name")
+}
+
+pub(crate) fn registered(rt: &impl Abort, number: u64, submitter: &str, key: &str) -> Entry
     requires { (1 ≤ number) × (number ≤ 10 ^ 9) }
-    ensures range { IfSome result IsInRange }
+    ensures range { IsInRange result }
 {
-    Some(Entry {
-        submitter: Ident::read("operator")?,
+    Entry {
+        submitter: name(rt, "operator"),
         number,
         moment: MOMENT,
         message: Message::Register {
-            submitter: Ident::read(submitter)?,
-            key: Ident::read(key)?,
+            submitter: name(rt, submitter),
+            key: name(rt, key),
         },
-    })
+    }
 }
 
-pub(crate) fn enrolled(number: u64, bidder: &str) -> Option<Entry>
+pub(crate) fn enrolled(rt: &impl Abort, number: u64, bidder: &str) -> Entry
     requires { (1 ≤ number) × (number ≤ 10 ^ 9) }
-    ensures range { IfSome result IsInRange }
+    ensures range { IsInRange result }
 {
-    Some(Entry {
-        submitter: Ident::read("operator")?,
+    Entry {
+        submitter: name(rt, "operator"),
         number,
         moment: MOMENT,
         message: Message::Enrol {
-            bidder: Ident::read(bidder)?,
-            submitter: Ident::read("dealer1")?,
+            bidder: name(rt, bidder),
+            submitter: name(rt, "dealer1"),
         },
-    })
+    }
 }
 
-pub(crate) fn announced() -> Option<Entry>
-    ensures range { IfSome result IsInRange }
+pub(crate) fn announced(rt: &impl Abort) -> Entry
+    ensures range { IsInRange result }
 {
-    announced_as(3, "bill13")
+    announced_as(rt, 3, "bill13")
 }
 
 // An auction of this name, of the same bill.
-fn announced_as(number: u64, auction: &str) -> Option<Entry>
+fn announced_as(rt: &impl Abort, number: u64, auction: &str) -> Entry
     requires { (1 ≤ number) × (number ≤ 10 ^ 9) }
-    ensures range { IfSome result IsInRange }
+    ensures range { IsInRange result }
 {
-    Some(Entry {
-        submitter: Ident::read("operator")?,
+    Entry {
+        submitter: name(rt, "operator"),
         number,
         moment: MOMENT,
         message: Message::Announce {
             terms: Announcement {
-                auction: Ident::read(auction)?,
+                auction: name(rt, auction),
                 cusip: BILL,
                 offering: Dollars {
                     value: 1_000_000_000,
@@ -99,108 +105,108 @@ fn announced_as(number: u64, auction: &str) -> Option<Entry>
                 maturity: Day { number: 20_125 },
             },
         },
-    })
+    }
 }
 
 // A noncompetitive bid of whole hundreds.
-pub(crate) fn bid(number: u64, hundreds: u32) -> Option<Entry>
+pub(crate) fn bid(rt: &impl Abort, number: u64, hundreds: u32) -> Entry
     requires some { (1 ≤ number) × (number ≤ 10 ^ 9) }
     requires few { hundreds ≤ 10 ^ 6 }
-    ensures range { IfSome result IsInRange }
-    ensures bid { IfSome result (λ entry. IsBid entry.message) }
+    ensures range { IsInRange result }
+    ensures bid { IsBid result.message }
 {
-    Some(Entry {
-        submitter: Ident::read("dealer1")?,
+    Entry {
+        submitter: name(rt, "dealer1"),
         number,
         moment: MOMENT,
         message: Message::Bid {
-            auction: Ident::read("bill13")?,
-            bidder: Ident::read("fund1")?,
+            auction: name(rt, "bill13"),
+            bidder: name(rt, "fund1"),
             rate: None,
             amount: Dollars {
                 value: 100 * hundreds as u128,
             },
         },
-    })
+    }
 }
 
 // A competitive bid at 5.330 percent.
-pub(crate) fn competitive(number: u64) -> Option<Entry>
+pub(crate) fn competitive(rt: &impl Abort, number: u64) -> Entry
     requires { (1 ≤ number) × (number ≤ 10 ^ 9) }
-    ensures range { IfSome result IsInRange }
+    ensures range { IsInRange result }
 {
-    Some(Entry {
-        submitter: Ident::read("dealer1")?,
+    Entry {
+        submitter: name(rt, "dealer1"),
         number,
         moment: MOMENT,
         message: Message::Bid {
-            auction: Ident::read("bill13")?,
-            bidder: Ident::read("fund2")?,
+            auction: name(rt, "bill13"),
+            bidder: name(rt, "fund2"),
             rate: Some(Rate { steps: 1066 }),
             amount: Dollars { value: 300_000_000 },
         },
-    })
+    }
 }
 
-pub(crate) fn published() -> Option<Entry>
-    ensures range { IfSome result IsInRange }
+pub(crate) fn published(rt: &impl Abort) -> Entry
+    ensures range { IsInRange result }
 {
-    Some(Entry {
-        submitter: Ident::read("operator")?,
+    Entry {
+        submitter: name(rt, "operator"),
         number: 5,
         moment: CLOSING,
         message: Message::Publish {
-            auction: Ident::read("bill13")?,
+            auction: name(rt, "bill13"),
         },
-    })
+    }
 }
 
-pub(crate) fn settled() -> Option<Entry>
-    ensures range { IfSome result IsInRange }
+pub(crate) fn settled(rt: &impl Abort) -> Entry
+    ensures range { IsInRange result }
 {
-    Some(Entry {
-        submitter: Ident::read("operator")?,
+    Entry {
+        submitter: name(rt, "operator"),
         number: 6,
         moment: ISSUE,
         message: Message::Settle {
-            auction: Ident::read("bill13")?,
+            auction: name(rt, "bill13"),
         },
-    })
+    }
 }
 
-pub(crate) fn redeemed() -> Option<Entry>
-    ensures range { IfSome result IsInRange }
+pub(crate) fn redeemed(rt: &impl Abort) -> Entry
+    ensures range { IsInRange result }
 {
-    Some(Entry {
-        submitter: Ident::read("operator")?,
+    Entry {
+        submitter: name(rt, "operator"),
         number: 7,
         moment: MATURITY,
         message: Message::Redeem { cusip: BILL },
-    })
+    }
 }
 
-fn cancelled(number: u64, bid: u64) -> Option<Entry>
+fn cancelled(rt: &impl Abort, number: u64, bid: u64) -> Entry
     requires number { (1 ≤ number) × (number ≤ 10 ^ 9) }
     requires bid { (1 ≤ bid) × (bid ≤ 10 ^ 9) }
-    ensures range { IfSome result IsInRange }
+    ensures range { IsInRange result }
 {
-    cancelled_in("bill13", number, bid)
+    cancelled_in(rt, "bill13", number, bid)
 }
 
-fn cancelled_in(auction: &str, number: u64, bid: u64) -> Option<Entry>
+fn cancelled_in(rt: &impl Abort, auction: &str, number: u64, bid: u64) -> Entry
     requires number { (1 ≤ number) × (number ≤ 10 ^ 9) }
     requires bid { (1 ≤ bid) × (bid ≤ 10 ^ 9) }
-    ensures range { IfSome result IsInRange }
+    ensures range { IsInRange result }
 {
-    Some(Entry {
-        submitter: Ident::read("dealer1")?,
+    Entry {
+        submitter: name(rt, "dealer1"),
         number,
         moment: MOMENT,
         message: Message::Cancel {
-            auction: Ident::read(auction)?,
+            auction: name(rt, auction),
             bid,
         },
-    })
+    }
 }
 
 // Whether the verdict is that a message was accepted under this number at this moment.
@@ -237,102 +243,97 @@ fn take(host: &mut Host, entry: Entry) -> bool
 }
 
 // Takes room for the entry's message and applies it, if it is accepted, and tells whether it was.
-pub(crate) fn submit(host: &mut Host, entry: Option<Entry>) -> Option<bool>
-    requires range { IfSome entry IsInRange }
+pub(crate) fn submit(rt: &impl Abort, host: &mut Host, entry: Entry) -> bool
+    requires range { IsInRange entry }
 {
-    let found = entry?;
     let none: [Entry; 0] = [];
-    host.make_room(&none, &found.message).ok()?;
-    Some(take(host, found))
+    host.make_room(&none, &entry.message).expect(rt, "memory");
+    take(host, entry)
 }
 
 // A host with a bidder of a submitter.
-pub(crate) fn with_bidder(alloc: Global) -> Option<Host> {
-    let mut host = Host::new(alloc).ok()?;
-    submit(&mut host, registered(1, "dealer1", "key1"))?;
-    submit(&mut host, enrolled(2, "fund1"))?;
-    Some(host)
+pub(crate) fn with_bidder(rt: &impl Abort, alloc: Global) -> Host {
+    let mut host = Host::new(alloc).expect(rt, "memory");
+    assert!(rt; submit(rt, &mut host, registered(rt, 1, "dealer1", "key1")));
+    assert!(rt; submit(rt, &mut host, enrolled(rt, 2, "fund1")));
+    host
 }
 
 // Announces the auction and bids up to the ceiling of noncompetitive bids, which is 10,000,000.
-fn bid_up(host: &mut Host) -> Option<bool> {
-    Some(submit(host, announced())? && submit(host, bid(1, 100_000))?)
+fn bid_up(rt: &impl Abort, host: &mut Host) -> bool {
+    submit(rt, host, announced(rt)) && submit(rt, host, bid(rt, 1, 100_000))
 }
 
 // A bid above the ceiling is refused until the other one is cancelled.
-fn make_way(host: &mut Host) -> Option<bool> {
-    let refused = submit(host, bid(2, 1))?;
-    Some(!refused && submit(host, cancelled(3, 1))? && submit(host, bid(4, 1))?)
+fn make_way(rt: &impl Abort, host: &mut Host) -> bool {
+    let refused = submit(rt, host, bid(rt, 2, 1));
+    !refused && submit(rt, host, cancelled(rt, 3, 1)) && submit(rt, host, bid(rt, 4, 1))
 }
 
 #[test]
 fn a_cancelled_bid_leaves_its_book(rt: HostRuntime) {
-    let mut host = with_bidder(rt.alloc()).expect(&rt, "memory");
-    assert_eq!(rt; bid_up(&mut host), Some(true));
-    assert_eq!(rt; make_way(&mut host), Some(true));
+    let mut host = with_bidder(&rt, rt.alloc());
+    assert!(rt; bid_up(&rt, &mut host));
+    assert!(rt; make_way(&rt, &mut host));
     assert_eq!(rt; host.entries(), 6);
 }
 
 // A bid in one of two auctions that are announced.
-fn bid_in_one(host: &mut Host) -> Option<bool> {
-    Some(
-        submit(host, announced())?
-            && submit(host, announced_as(4, "bill26"))?
-            && submit(host, bid(1, 1))?,
-    )
+fn bid_in_one(rt: &impl Abort, host: &mut Host) -> bool {
+    submit(rt, host, announced(rt))
+        && submit(rt, host, announced_as(rt, 4, "bill26"))
+        && submit(rt, host, bid(rt, 1, 1))
 }
 
 #[test]
 fn a_cancel_finds_only_a_bid_of_its_auction(rt: HostRuntime) {
-    let mut host = with_bidder(rt.alloc()).expect(&rt, "memory");
-    assert_eq!(rt; bid_in_one(&mut host), Some(true));
+    let mut host = with_bidder(&rt, rt.alloc());
+    assert!(rt; bid_in_one(&rt, &mut host));
     // The bid of this number is in the other auction.
-    assert_eq!(rt;
-        submit(&mut host, cancelled_in("bill26", 2, 1)),
-        Some(false)
-    );
+    assert!(rt; !submit(&rt, &mut host, cancelled_in(&rt, "bill26", 2, 1)));
     // Nothing stands under the number.
-    assert_eq!(rt; submit(&mut host, cancelled(2, 2)), Some(false));
-    assert_eq!(rt; submit(&mut host, cancelled(2, 1)), Some(true));
+    assert!(rt; !submit(&rt, &mut host, cancelled(&rt, 2, 2)));
+    assert!(rt; submit(&rt, &mut host, cancelled(&rt, 2, 1)));
     // What stands under it now is a cancel.
-    assert_eq!(rt; submit(&mut host, cancelled(3, 2)), Some(false));
+    assert!(rt; !submit(&rt, &mut host, cancelled(&rt, 3, 2)));
     assert_eq!(rt; host.entries(), 6);
 }
 
 // Takes room for the announcement and the first bid, and applies both.
-fn open(host: &mut Host) -> Option<bool> {
-    let ahead = [announced()?];
-    host.make_room(&ahead, &bid(1, 1)?.message).ok()?;
-    Some(take(host, announced()?) && take(host, bid(1, 1)?))
+fn open(rt: &impl Abort, host: &mut Host) -> bool {
+    let ahead = [announced(rt)];
+    host.make_room(&ahead, &bid(rt, 1, 1).message)
+        .expect(rt, "memory");
+    take(host, announced(rt)) && take(host, bid(rt, 1, 1))
 }
 
 #[test]
 fn a_bid_follows_an_announcement_in_room_taken_for_both(rt: HostRuntime) {
-    let mut host = with_bidder(rt.alloc()).expect(&rt, "memory");
+    let mut host = with_bidder(&rt, rt.alloc());
     let none: [Entry; 0] = [];
-    let first = announced().expect(&rt, "names");
+    let first = announced(&rt);
     assert!(rt; !host.has_room(&none, &first.message));
-    assert_eq!(rt; open(&mut host), Some(true));
+    assert!(rt; open(&rt, &mut host));
     assert!(rt; !host.has_room(&none, &first.message));
 }
 
 // Takes room for an announcement and two bids of a group behind it, and applies them.
-fn open_for_group(host: &mut Host) -> Option<bool> {
-    let ahead = [announced()?];
-    let group = [(1, bid(1, 1)?.message), (2, bid(2, 1)?.message)];
-    host.make_room_group(&ahead, &group).ok()?;
+fn open_for_group(rt: &impl Abort, host: &mut Host) -> bool {
+    let ahead = [announced(rt)];
+    let group = [(1, bid(rt, 1, 1).message), (2, bid(rt, 2, 1).message)];
+    host.make_room_group(&ahead, &group).expect(rt, "memory");
     if !host.has_room_group(&ahead, &group) {
-        return None;
+        return false;
     }
-    Some(take(host, announced()?) && take(host, bid(1, 1)?) && take(host, bid(2, 1)?))
+    take(host, announced(rt)) && take(host, bid(rt, 1, 1)) && take(host, bid(rt, 2, 1))
 }
 
 #[test]
 fn a_group_follows_an_announcement_in_room_taken_for_all(rt: HostRuntime) {
-    let mut host = with_bidder(rt.alloc()).expect(&rt, "memory");
-    assert_eq!(rt; open_for_group(&mut host), Some(true));
+    let mut host = with_bidder(&rt, rt.alloc());
+    assert!(rt; open_for_group(&rt, &mut host));
     let none: [Entry; 0] = [];
-    let next = bid(3, 1).expect(&rt, "names");
+    let next = bid(&rt, 3, 1);
     // Room was taken for eight, of which five are left.
     assert!(rt; !host.has_room_group(&none, &[(3, next.message); 6]));
 }
@@ -352,33 +353,32 @@ fn take_and_back(host: &mut Host, entry: Entry) -> bool
 
 // A bid up to the ceiling comes and is taken back; then one under the same number is accepted, and a bid above what
 // that one leaves is refused.
-fn bid_again(host: &mut Host) -> Option<bool> {
+fn bid_again(rt: &impl Abort, host: &mut Host) -> bool {
     let none: [Entry; 0] = [];
-    submit(host, announced())?;
-    let first = bid(1, 100_000)?;
-    host.make_room(&none, &first.message).ok()?;
+    assert!(rt; submit(rt, host, announced(rt)));
+    let first = bid(rt, 1, 100_000);
+    host.make_room(&none, &first.message).expect(rt, "memory");
     let back = take_and_back(host, first);
-    Some(back && submit(host, bid(1, 1))? && !submit(host, bid(2, 100_000))?)
+    back && submit(rt, host, bid(rt, 1, 1)) && !submit(rt, host, bid(rt, 2, 100_000))
 }
 
 #[test]
 fn a_bid_that_is_taken_back_leaves_its_number_and_its_par(rt: HostRuntime) {
-    let mut host = with_bidder(rt.alloc()).expect(&rt, "memory");
-    assert_eq!(rt; bid_again(&mut host), Some(true));
+    let mut host = with_bidder(&rt, rt.alloc());
+    assert!(rt; bid_again(&rt, &mut host));
     assert_eq!(rt; host.entries(), 4);
 }
 
 // A host with the settled auction of a noncompetitive bid and of a competitive one.
-fn with_settled(alloc: Global) -> Option<Host> {
-    let mut host = with_bidder(alloc)?;
-    let bids = submit(&mut host, enrolled(4, "fund2"))?
-        && submit(&mut host, announced())?
-        && submit(&mut host, bid(1, 100_000))?
-        && submit(&mut host, competitive(2))?;
-    if bids && submit(&mut host, published())? && submit(&mut host, settled())? {
-        return Some(host);
-    }
-    None
+fn with_settled(rt: &impl Abort, alloc: Global) -> Host {
+    let mut host = with_bidder(rt, alloc);
+    assert!(rt; submit(rt, &mut host, enrolled(rt, 4, "fund2")));
+    assert!(rt; submit(rt, &mut host, announced(rt)));
+    assert!(rt; submit(rt, &mut host, bid(rt, 1, 100_000)));
+    assert!(rt; submit(rt, &mut host, competitive(rt, 2)));
+    assert!(rt; submit(rt, &mut host, published(rt)));
+    assert!(rt; submit(rt, &mut host, settled(rt)));
+    host
 }
 
 // What a caller reads.
@@ -473,8 +473,8 @@ pub(crate) fn paid(host: &Host, alloc: Global) -> Option<u128> {
 #[test]
 fn an_auction_is_read_from_its_terms_to_its_redemption(rt: HostRuntime) {
     let alloc = rt.alloc();
-    let auction = Ident::read("bill13").expect(&rt, "a name");
-    let mut host = with_settled(alloc).expect(&rt, "memory");
+    let auction = name(&rt, "bill13");
+    let mut host = with_settled(&rt, alloc);
     assert_eq!(rt; maturity(&host, alloc, auction), Some(20_125));
     assert_eq!(rt;
         figures(&host, alloc, auction),
@@ -484,6 +484,6 @@ fn an_auction_is_read_from_its_terms_to_its_redemption(rt: HostRuntime) {
     assert_eq!(rt; awards(&host, alloc, auction), Some(awarded));
     assert_eq!(rt; bid_count(&host, alloc, auction), Some(2));
     assert_eq!(rt; held(&host, alloc, "dealer1"), Some(310_000_000));
-    assert_eq!(rt; submit(&mut host, redeemed()), Some(true));
+    assert!(rt; submit(&rt, &mut host, redeemed(&rt)));
     assert_eq!(rt; paid(&host, alloc), Some(310_000_000));
 }
