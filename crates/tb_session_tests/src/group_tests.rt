@@ -1,5 +1,4 @@
 //! Bids that share a gate.
-ghost use Rattle.std.specs.Prelude.{IfOk};
 ghost use Rattle.tb_message.specs.Spelling.{IsNumbered};
 ghost use Rattle.tb_core.specs.House.{IsBid};
 
@@ -9,7 +8,6 @@ use crate::tests::{
 use std::alloc::Global;
 use std::process::Abort;
 use std::sync::Wait;
-use std::test::Fail;
 use std::thread::Threads;
 use tb_disk::MemoryDisk;
 use tb_message::{Key, Message, Request, Verdict, read_request};
@@ -35,12 +33,12 @@ const SECOND_REPLY: &str = replied!("200 OK", 22, "accepted 8 1730700000\n");
 const MORNING: u64 = 1_730_700_000;
 
 /// A bid, and its number.
-fn bid(rt: &impl Abort, alloc: Global, text: &str) -> Result<(u64, Message), Fail>
-    ensures { IfOk result (λ bid. IsNumbered bid.0 bid.1 × IsBid bid.1) }
+fn bid(rt: &impl Abort, alloc: Global, text: &str) -> (u64, Message)
+    ensures { IsNumbered result.0 result.1 × IsBid result.1 }
 {
     match read_request(alloc, text.as_bytes()) {
         Ok(Request::Message { number, message }) => match message {
-            Message::Bid { .. } => Ok((number, message)),
+            Message::Bid { .. } => (number, message),
             _ => panic!(rt; "no bid"),
         },
         _ => panic!(rt; "no message"),
@@ -77,13 +75,13 @@ fn submit_pair(
     alloc: Global,
     room: &mut Memory,
     key: &str,
-) -> Result<(GroupAnswer, Told, Told), Fail> {
+) -> (GroupAnswer, Told, Told) {
     let key = Key::read(key).expect(rt, "a key");
-    let bids = [bid(rt, alloc, BIDS[0])?, bid(rt, alloc, BIDS[1])?];
+    let bids = [bid(rt, alloc, BIDS[0]), bid(rt, alloc, BIDS[1])];
     let mut verdicts = [None; 64];
     let answer = room.submit_group(&key, &bids, &mut verdicts);
     assert!(rt; verdicts[2].is_none() && verdicts[63].is_none());
-    Ok((answer, told_by(verdicts[0]), told_by(verdicts[1])))
+    (answer, told_by(verdicts[0]), told_by(verdicts[1]))
 }
 
 /// Whether the two bids are answered so.
@@ -93,8 +91,8 @@ fn pair_told(
     room: &mut Memory,
     key: &str,
     wanted: (GroupAnswer, Told, Told),
-) -> Result<bool, Fail> {
-    Ok(submit_pair(rt, alloc, room, key)? == wanted)
+) -> bool {
+    submit_pair(rt, alloc, room, key) == wanted
 }
 
 /// The answers to the two bids: the key is nobody's, they are accepted now or were before, or the disk failed.
@@ -125,16 +123,15 @@ fn grew_by_a_pair(before: &MemoryDisk, after: &MemoryDisk) -> bool {
 }
 
 #[test]
-fn two_bids_of_a_key_stand_under_one_gate(rt: HostRuntime) -> Result<(), Fail> {
+fn two_bids_of_a_key_stand_under_one_gate(rt: HostRuntime) {
     let alloc = rt.alloc();
-    let before = opened(&rt, alloc, Vec::new(alloc))?.desk.into_disk();
-    let mut room = opened(&rt, alloc, Vec::new(alloc))?;
-    assert!(rt; pair_told(&rt, alloc, &mut room, "k9", UNKNOWN)?);
-    assert!(rt; pair_told(&rt, alloc, &mut room, "k1", ACCEPTED)?);
-    assert!(rt; pair_told(&rt, alloc, &mut room, "k1", REPEATED)?);
+    let before = opened(&rt, alloc, &[]).desk.into_disk();
+    let mut room = opened(&rt, alloc, &[]);
+    assert!(rt; pair_told(&rt, alloc, &mut room, "k9", UNKNOWN));
+    assert!(rt; pair_told(&rt, alloc, &mut room, "k1", ACCEPTED));
+    assert!(rt; pair_told(&rt, alloc, &mut room, "k1", REPEATED));
     assert!(rt; room.desk.entries() == 7);
     assert!(rt; grew_by_a_pair(&before, &room.desk.into_disk()));
-    Ok(())
 }
 
 /// Whether the two bids meet a fault where this call of the disk fails, and are answered so when they come again.
@@ -143,29 +140,25 @@ fn meet_a_fault<R: Threads + Wait + Sync + Abort>(
     alloc: Global,
     fails: u64,
     again: (GroupAnswer, Told, Told),
-) -> Result<bool, Fail> {
-    let mut room = opened(rt, alloc, vec![in alloc; fails; 1]?)?;
-    Ok(
-        pair_told(rt, alloc, &mut room, "k1", FAULT)?
-            && pair_told(rt, alloc, &mut room, "k1", again)?,
-    )
+) -> bool {
+    let mut room = opened(rt, alloc, &[fails]);
+    pair_told(rt, alloc, &mut room, "k1", FAULT) && pair_told(rt, alloc, &mut room, "k1", again)
 }
 
 // Where the last of the four calls of the disk at new messages fails, they stand at the next turn; where the first
 // fails, nothing is there.
 #[test]
-fn two_bids_meet_a_fault_together(rt: HostRuntime) -> Result<(), Fail> {
-    let calls = opening_calls(&rt, rt.alloc())?;
-    assert!(rt; meet_a_fault(&rt, rt.alloc(), calls.saturating_add(3), REPEATED)?);
-    assert!(rt; meet_a_fault(&rt, rt.alloc(), calls, ACCEPTED)?);
-    Ok(())
+fn two_bids_meet_a_fault_together(rt: HostRuntime) {
+    let calls = opening_calls(&rt, rt.alloc());
+    assert!(rt; meet_a_fault(&rt, rt.alloc(), calls.saturating_add(3), REPEATED));
+    assert!(rt; meet_a_fault(&rt, rt.alloc(), calls, ACCEPTED));
 }
 
 /// The two bids as they are posted, one behind the other.
-fn pair(alloc: Global) -> Result<String, Fail> {
-    let first = post(alloc, "k1", BIDS[0])?;
-    let second = post(alloc, "k1", BIDS[1])?;
-    joined(alloc, &[first.as_str(), second.as_str()])
+fn pair(rt: &impl Abort, alloc: Global) -> String {
+    let first = post(rt, alloc, "k1", BIDS[0]);
+    let second = post(rt, alloc, "k1", BIDS[1]);
+    joined(rt, alloc, &[first.as_str(), second.as_str()])
 }
 
 /// Serves a link that gives this text in pieces of so many bytes, in a room of which these calls of the disk fail. How
@@ -173,43 +166,43 @@ fn pair(alloc: Global) -> Result<String, Fail> {
 fn calls_for<R: Threads + Wait + Sync + Abort>(
     rt: &R,
     alloc: Global,
-    fails: Vec<u64>,
+    fails: &[u64],
     text: &str,
     piece: usize,
     expected: &str,
-) -> Result<Option<u64>, Fail> {
-    let before = opening_calls(rt, alloc)?;
-    let mut room = Some(opened(rt, alloc, fails)?);
+) -> Option<u64> {
+    let before = opening_calls(rt, alloc);
+    let mut room = Some(opened(rt, alloc, fails));
     let given = Given {
         piece,
         ..whole(text)
     };
-    if !ends(rt, alloc, &mut room, &given, End::EndOfInput, expected)? {
-        return Ok(None);
+    if !ends(rt, alloc, &mut room, &given, End::EndOfInput, expected) {
+        return None;
     }
     let room = room.expect(rt, "a room");
-    Ok(Some(room.desk.into_disk().calls().saturating_sub(before)))
+    Some(room.desk.into_disk().calls().saturating_sub(before))
 }
 
 #[test]
-fn bids_that_are_read_at_once_share_a_gate(rt: HostRuntime) -> Result<(), Fail> {
+fn bids_that_are_read_at_once_share_a_gate(rt: HostRuntime) {
     let alloc = rt.alloc();
-    let text = pair(alloc)?;
-    let replies = joined(alloc, &[FIRST_REPLY, SECOND_REPLY])?;
-    let at_once = calls_for(&rt, alloc, Vec::new(alloc), &text, text.len(), &replies)?;
+    let text = pair(&rt, alloc);
+    let replies = joined(&rt, alloc, &[FIRST_REPLY, SECOND_REPLY]);
+    let at_once = calls_for(&rt, alloc, &[], &text, text.len(), &replies);
     assert!(rt; at_once == Some(4));
     // Where they come one after the other each has a gate of its own.
-    let in_turn = calls_for(&rt, alloc, Vec::new(alloc), &text, 50, &replies)?;
+    let in_turn = calls_for(&rt, alloc, &[], &text, 50, &replies);
     assert!(rt; in_turn == Some(8));
-    Ok(())
 }
 
 /// The two bids, a query, the first bid again, and another dealer's.
-fn row_with_a_query(alloc: Global) -> Result<String, Fail> {
-    let pair = pair(alloc)?;
-    let first = post(alloc, "k1", BIDS[0])?;
-    let other = post(alloc, "k2", OTHER_BID)?;
+fn row_with_a_query(rt: &impl Abort, alloc: Global) -> String {
+    let pair = pair(rt, alloc);
+    let first = post(rt, alloc, "k1", BIDS[0]);
+    let other = post(rt, alloc, "k2", OTHER_BID);
     joined(
+        rt,
         alloc,
         &[pair.as_str(), QUERY, first.as_str(), other.as_str()],
     )
@@ -224,9 +217,9 @@ const QUERY_REPLY: &str = replied!(
 );
 
 #[test]
-fn a_query_and_another_key_end_a_row(rt: HostRuntime) -> Result<(), Fail> {
+fn a_query_and_another_key_end_a_row(rt: HostRuntime) {
     let alloc = rt.alloc();
-    let text = row_with_a_query(alloc)?;
+    let text = row_with_a_query(&rt, alloc);
     let replies = [
         FIRST_REPLY,
         SECOND_REPLY,
@@ -234,38 +227,36 @@ fn a_query_and_another_key_end_a_row(rt: HostRuntime) -> Result<(), Fail> {
         FIRST_REPLY,
         FIRST_REPLY,
     ];
-    let expected = joined(alloc, &replies)?;
-    let calls = calls_for(&rt, alloc, Vec::new(alloc), &text, text.len(), &expected)?;
+    let expected = joined(&rt, alloc, &replies);
+    let calls = calls_for(&rt, alloc, &[], &text, text.len(), &expected);
     assert!(rt; calls == Some(8));
-    Ok(())
 }
 
 #[test]
-fn bids_that_share_a_gate_are_told_a_fault_together(rt: HostRuntime) -> Result<(), Fail> {
+fn bids_that_share_a_gate_are_told_a_fault_together(rt: HostRuntime) {
     let alloc = rt.alloc();
-    let pair = pair(alloc)?;
-    let text = joined(alloc, &[pair.as_str(), pair.as_str()])?;
+    let pair = pair(&rt, alloc);
+    let text = joined(&rt, alloc, &[pair.as_str(), pair.as_str()]);
     let replies = joined(
+        &rt,
         alloc,
         &[FAULT_REPLY, FAULT_REPLY, FIRST_REPLY, SECOND_REPLY],
-    )?;
-    let calls = opening_calls(&rt, alloc)?;
-    let fails = vec![in alloc; calls.saturating_add(3); 1]?;
-    assert!(rt; calls_for(&rt, alloc, fails, &text, pair.len(), &replies)?.is_some());
-    Ok(())
+    );
+    let calls = opening_calls(&rt, alloc);
+    let fails = [calls.saturating_add(3)];
+    assert!(rt; calls_for(&rt, alloc, &fails, &text, pair.len(), &replies).is_some());
 }
 
 #[test]
-fn bids_whose_reply_is_not_written_stand(rt: HostRuntime) -> Result<(), Fail> {
+fn bids_whose_reply_is_not_written_stand(rt: HostRuntime) {
     let alloc = rt.alloc();
-    let text = pair(alloc)?;
-    let mut room = Some(opened(&rt, alloc, Vec::new(alloc))?);
+    let text = pair(&rt, alloc);
+    let mut room = Some(opened(&rt, alloc, &[]));
     let given = Given {
         piece: text.len(),
         failing_writes: &[1],
         ..whole(&text)
     };
-    assert!(rt; ends(&rt, alloc, &mut room, &given, End::WriteFault, FIRST_REPLY)?);
+    assert!(rt; ends(&rt, alloc, &mut room, &given, End::WriteFault, FIRST_REPLY));
     assert!(rt; room.expect(&rt, "a room").desk.entries() == 7);
-    Ok(())
 }

@@ -11,7 +11,6 @@ use std::alloc::Global;
 use std::process::Abort;
 use std::sync::Wait;
 use std::sync::atomic::{AtomicBool, Ordering};
-use std::test::Fail;
 use std::thread;
 use std::thread::Threads;
 use tb_gates::{Gate, Link, PairLink};
@@ -136,18 +135,19 @@ impl<'a> Gate for HeldGate<'a> {
 }
 
 fn gate_of<'a>(
+    rt: &impl Abort,
     alloc: Global,
     text: &str,
     here: &'a AtomicBool,
     there: &'a AtomicBool,
-) -> Result<HeldGate<'a>, Fail> {
-    let bytes = text.as_bytes().to_vec(alloc)?;
+) -> HeldGate<'a> {
+    let bytes = text.as_bytes().to_vec(alloc).expect(rt, "memory");
     let half = bytes.len() / 2 + 1;
     let pair = PairLink {
         source: TextSource::new(bytes, half, Vec::new(alloc)),
-        sink: TextSink::new(alloc, 1_000, Vec::new(alloc))?,
+        sink: TextSink::new(alloc, 1_000, Vec::new(alloc)).expect(rt, "memory"),
     };
-    Ok(HeldGate {
+    HeldGate {
         link: Some(HeldLink {
             pair,
             reads: 0,
@@ -159,7 +159,7 @@ fn gate_of<'a>(
         back: None,
         given: 0,
         faults: Faults::none(),
-    })
+    }
 }
 
 /// Whether the gate's link was answered so.
@@ -194,18 +194,18 @@ fn serve_held<'a, R: Threads + Wait + Sync + Abort>(
     room: Memory,
     mut gates: Vec<HeldGate<'a>>,
     accepted: u64,
-) -> Result<(Memory, Vec<HeldGate<'a>>), Fail> {
+) -> (Memory, Vec<HeldGate<'a>>) {
     if gates.len() > 64 {
-        return Err("too many gates")?;
+        panic!(rt; "too many gates")
     }
     if room.desk.unsure() {
-        return Err("a group is in doubt")?;
+        panic!(rt; "a group is in doubt")
     }
     let Ok(ended) = serve_gates(rt, alloc, room, &mut gates) else {
         panic!(rt; "no memory")
     };
     assert!(rt; (ended.served, ended.accepted) == (2, accepted));
-    Ok((ended.room, gates))
+    (ended.room, gates)
 }
 
 /// Serves two links with these texts, each at a gate of its own, which wait for each other by these two flags: the room
@@ -217,10 +217,14 @@ fn serve_both<'a, R: Threads + Wait + Sync + Abort>(
     texts: [&str; 2],
     flags: [&'a AtomicBool; 2],
     accepted: u64,
-) -> Result<(Memory, Vec<HeldGate<'a>>), Fail> {
+) -> (Memory, Vec<HeldGate<'a>>) {
     let mut gates = Vec::new(alloc);
-    gates.push(gate_of(alloc, texts[0], flags[0], flags[1])?)?;
-    gates.push(gate_of(alloc, texts[1], flags[1], flags[0])?)?;
+    gates
+        .push(gate_of(rt, alloc, texts[0], flags[0], flags[1]))
+        .expect(rt, "memory");
+    gates
+        .push(gate_of(rt, alloc, texts[1], flags[1], flags[0]))
+        .expect(rt, "memory");
     serve_held(rt, alloc, room, gates, accepted)
 }
 
@@ -230,27 +234,25 @@ fn are_answered(gates: &[HeldGate<'_>], first: &str, second: &str) -> bool {
 }
 
 #[test]
-fn links_that_wait_for_each_other_are_answered(rt: HostRuntime) -> Result<(), Fail> {
+fn links_that_wait_for_each_other_are_answered(rt: HostRuntime) {
     let alloc = rt.alloc();
     let here = AtomicBool::new(false);
     let there = AtomicBool::new(false);
-    let room = opened(&rt, alloc, Vec::new(alloc))?;
-    let (_, gates) = serve_both(&rt, alloc, room, [FIRST, SECOND], [&here, &there], 2)?;
+    let room = opened(&rt, alloc, &[]);
+    let (_, gates) = serve_both(&rt, alloc, room, [FIRST, SECOND], [&here, &there], 2);
     assert!(rt; are_answered(&gates, FIRST_REPLY, SECOND_REPLY));
-    Ok(())
 }
 
 // Either of two numbers may come first, and the other finds the offer closed.
 #[test]
-fn an_offer_is_bought_once_over_two_links(rt: HostRuntime) -> Result<(), Fail> {
+fn an_offer_is_bought_once_over_two_links(rt: HostRuntime) {
     let alloc = rt.alloc();
     let here = AtomicBool::new(false);
     let there = AtomicBool::new(false);
-    let room = with_offer(&rt, alloc)?;
-    let (room, gates) = serve_both(&rt, alloc, room, [BUY, OTHER_BUY], [&here, &there], 1)?;
+    let room = with_offer(&rt, alloc);
+    let (room, gates) = serve_both(&rt, alloc, room, [BUY, OTHER_BUY], [&here, &there], 1);
     let first = are_answered(&gates, BUY_REPLY, CLOSED_REPLY);
     let second = are_answered(&gates, CLOSED_REPLY, OTHER_BUY_REPLY);
     assert!(rt; first != second);
-    assert!(rt; is_sold_once(&rt, alloc, &mut Some(room))?);
-    Ok(())
+    assert!(rt; is_sold_once(&rt, alloc, &mut Some(room)));
 }

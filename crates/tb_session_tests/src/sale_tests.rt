@@ -6,7 +6,6 @@ use crate::tests::{
 use std::alloc::Global;
 use std::process::Abort;
 use std::sync::Wait;
-use std::test::Fail;
 use std::thread::Threads;
 
 /// The moments at which the auction's bills are issued and mature.
@@ -64,18 +63,20 @@ const WHOLE_REPLY: &str = replied!("200 OK", 14, "funds 1000.00\n");
 const NOTHING_REPLY: &str = replied!("200 OK", 11, "funds 0.00\n");
 
 /// A room in which the offer stands under the number 2 of the first dealer.
-pub fn with_offer<R: Threads + Wait + Sync + Abort>(rt: &R, alloc: Global) -> Result<Memory, Fail> {
-    let room = opened(rt, alloc, Vec::new(alloc))?;
-    let (room, _) = serve_texts(rt, alloc, room, &[FIRST])?;
-    let room = room_on(rt, alloc, room.desk.into_disk(), ISSUE)?;
+pub fn with_offer<R: Threads + Wait + Sync + Abort>(rt: &R, alloc: Global) -> Memory {
+    let room = opened(rt, alloc, &[]);
+    let (room, _) = serve_texts(rt, alloc, room, &[FIRST]);
+    let room = room_on(rt, alloc, room.desk.into_disk(), ISSUE);
     let mut text = String::new(alloc);
     for message in &ISSUED {
-        text.push_str(&post(alloc, "op:root", message)?)?;
+        text.push_str(&post(rt, alloc, "op:root", message))
+            .expect(rt, "memory");
     }
-    text.push_str(&post(alloc, "k1", OFFER)?)?;
-    let (room, told) = serve_texts(rt, alloc, room, &[text.as_str()])?;
+    text.push_str(&post(rt, alloc, "k1", OFFER))
+        .expect(rt, "memory");
+    let (room, told) = serve_texts(rt, alloc, room, &[text.as_str()]);
     assert!(rt; told.served == 1 && told.accepted == 4);
-    Ok(room)
+    room
 }
 
 /// Serves one link with these texts: so many messages are accepted, and these are the replies.
@@ -86,13 +87,13 @@ fn are_answered<R: Threads + Wait + Sync + Abort>(
     texts: &[&str],
     accepted: u64,
     replies: &[&str],
-) -> Result<bool, Fail> {
-    let text = joined(alloc, texts)?;
-    let expected = joined(alloc, replies)?;
+) -> bool {
+    let text = joined(rt, alloc, texts);
+    let expected = joined(rt, alloc, replies);
     let found = room.take().expect(rt, "a room");
-    let (after, told) = serve_texts(rt, alloc, found, &[text.as_str()])?;
+    let (after, told) = serve_texts(rt, alloc, found, &[text.as_str()]);
     *room = Some(after);
-    Ok(tells(&told, (1, accepted, false), &[expected.as_str()]))
+    tells(&told, (1, accepted, false), &[expected.as_str()])
 }
 
 /// Whether the accounts of both dealers have moved once.
@@ -100,7 +101,7 @@ pub fn is_sold_once<R: Threads + Wait + Sync + Abort>(
     rt: &R,
     alloc: Global,
     room: &mut Option<Memory>,
-) -> Result<bool, Fail> {
+) -> bool {
     are_answered(
         rt,
         alloc,
@@ -112,34 +113,27 @@ pub fn is_sold_once<R: Threads + Wait + Sync + Abort>(
 }
 
 /// Opens the journal of the room again, with the clock at this moment.
-fn open_again(
-    rt: &impl Abort,
-    alloc: Global,
-    room: &mut Option<Memory>,
-    seconds: u64,
-) -> Result<(), Fail> {
+fn open_again(rt: &impl Abort, alloc: Global, room: &mut Option<Memory>, seconds: u64) {
     let before = room.take().expect(rt, "a room");
-    *room = Some(room_on(rt, alloc, before.desk.into_disk(), seconds)?);
-    Ok(())
+    *room = Some(room_on(rt, alloc, before.desk.into_disk(), seconds));
 }
 
 // The first to come is accepted, whichever number it has, and both are told the same when they come again.
 #[test]
-fn a_second_number_for_an_offer_is_refused(rt: HostRuntime) -> Result<(), Fail> {
+fn a_second_number_for_an_offer_is_refused(rt: HostRuntime) {
     let alloc = rt.alloc();
-    let mut room = Some(with_offer(&rt, alloc)?);
+    let mut room = Some(with_offer(&rt, alloc));
     let replies = [BUY_REPLY, CLOSED_REPLY];
     let buys = [BUY, OTHER_BUY];
-    assert!(rt; are_answered(&rt, alloc, &mut room, &buys, 1, &replies)?);
-    assert!(rt; are_answered(&rt, alloc, &mut room, &buys, 0, &replies)?);
-    assert!(rt; is_sold_once(&rt, alloc, &mut room)?);
-    let mut room = Some(with_offer(&rt, alloc)?);
+    assert!(rt; are_answered(&rt, alloc, &mut room, &buys, 1, &replies));
+    assert!(rt; are_answered(&rt, alloc, &mut room, &buys, 0, &replies));
+    assert!(rt; is_sold_once(&rt, alloc, &mut room));
+    let mut room = Some(with_offer(&rt, alloc));
     let replies = [OTHER_BUY_REPLY, CLOSED_REPLY];
     let buys = [OTHER_BUY, BUY];
-    assert!(rt; are_answered(&rt, alloc, &mut room, &buys, 1, &replies)?);
-    assert!(rt; are_answered(&rt, alloc, &mut room, &buys, 0, &replies)?);
-    assert!(rt; is_sold_once(&rt, alloc, &mut room)?);
-    Ok(())
+    assert!(rt; are_answered(&rt, alloc, &mut room, &buys, 1, &replies));
+    assert!(rt; are_answered(&rt, alloc, &mut room, &buys, 0, &replies));
+    assert!(rt; is_sold_once(&rt, alloc, &mut room));
 }
 
 /// The operator redeems the bills, and the reply.
@@ -164,19 +158,18 @@ const RETRACT_REPLY: &str = replied!("200 OK", 22, "accepted 3 1738818000\n");
 
 // The offer still stands open, though nobody can buy it.
 #[test]
-fn an_offer_of_a_redeemed_bill_is_only_taken_back(rt: HostRuntime) -> Result<(), Fail> {
+fn an_offer_of_a_redeemed_bill_is_only_taken_back(rt: HostRuntime) {
     let alloc = rt.alloc();
-    let mut room = Some(with_offer(&rt, alloc)?);
-    open_again(&rt, alloc, &mut room, MATURITY)?;
+    let mut room = Some(with_offer(&rt, alloc));
+    open_again(&rt, alloc, &mut room, MATURITY);
     let redeemed = [REDEMPTION_REPLY, REDEEMED_REPLY];
-    assert!(rt; are_answered(&rt, alloc, &mut room, &[REDEMPTION, BUY], 1, &redeemed)?);
-    open_again(&rt, alloc, &mut room, MATURITY)?;
-    assert!(rt; are_answered(&rt, alloc, &mut room, &[BUY], 0, &[REDEEMED_REPLY])?);
+    assert!(rt; are_answered(&rt, alloc, &mut room, &[REDEMPTION, BUY], 1, &redeemed));
+    open_again(&rt, alloc, &mut room, MATURITY);
+    assert!(rt; are_answered(&rt, alloc, &mut room, &[BUY], 0, &[REDEEMED_REPLY]));
     let closed = [RETRACT_REPLY, CLOSED_REPLY];
-    assert!(rt; are_answered(&rt, alloc, &mut room, &[RETRACT, BUY], 1, &closed)?);
+    assert!(rt; are_answered(&rt, alloc, &mut room, &[RETRACT, BUY], 1, &closed));
     let whole = [NO_PAR_REPLY, WHOLE_REPLY];
-    assert!(rt; are_answered(&rt, alloc, &mut room, &[BUYER_ASKS], 0, &whole)?);
-    Ok(())
+    assert!(rt; are_answered(&rt, alloc, &mut room, &[BUYER_ASKS], 0, &whole));
 }
 
 /// The operator asks for funds, somebody with another key, and somebody without one.
@@ -191,16 +184,15 @@ const NOT_PERMITTED_REPLY: &str = replied!("403 Forbidden", 23, "refused 2 NotPe
 const UNKNOWN_KEY_REPLY: &str = replied!("401 Unauthorized", 21, "refused 1 UnknownKey\n");
 
 #[test]
-fn each_dealer_reads_its_own_funds(rt: HostRuntime) -> Result<(), Fail> {
+fn each_dealer_reads_its_own_funds(rt: HostRuntime) {
     let alloc = rt.alloc();
-    let mut room = Some(with_offer(&rt, alloc)?);
+    let mut room = Some(with_offer(&rt, alloc));
     let before = [PAR_REPLY, NOTHING_REPLY, NO_PAR_REPLY, WHOLE_REPLY];
     let asked = [SELLER_ASKS, BUYER_ASKS];
-    assert!(rt; are_answered(&rt, alloc, &mut room, &asked, 0, &before)?);
-    assert!(rt; are_answered(&rt, alloc, &mut room, &[BUY], 1, &[BUY_REPLY])?);
-    assert!(rt; is_sold_once(&rt, alloc, &mut room)?);
+    assert!(rt; are_answered(&rt, alloc, &mut room, &asked, 0, &before));
+    assert!(rt; are_answered(&rt, alloc, &mut room, &[BUY], 1, &[BUY_REPLY]));
+    assert!(rt; is_sold_once(&rt, alloc, &mut room));
     let others = [OPERATOR_ASKS, STRANGER_ASKS, NOBODY_ASKS];
     let refused = [NOT_PERMITTED_REPLY, UNKNOWN_KEY_REPLY, UNKNOWN_KEY_REPLY];
-    assert!(rt; are_answered(&rt, alloc, &mut room, &others, 0, &refused)?);
-    Ok(())
+    assert!(rt; are_answered(&rt, alloc, &mut room, &others, 0, &refused));
 }

@@ -4,7 +4,6 @@ ghost use Rattle.std.specs.Prelude.{◌≤◌};
 use std::alloc::Global;
 use std::process::Abort;
 use std::sync::Wait;
-use std::test::Fail;
 use std::thread::Threads;
 use tb_desk::Desk;
 use tb_disk::MemoryDisk;
@@ -124,40 +123,33 @@ const CLOSING: u64 = 1_730_737_800;
 pub type Memory = Room<MemoryDisk, ListClock>;
 
 /// A room on this disk, whose clock stands at one moment.
-pub fn room_on(
-    rt: &impl Abort,
-    alloc: Global,
-    disk: MemoryDisk,
-    seconds: u64,
-) -> Result<Memory, Fail> {
+pub fn room_on(rt: &impl Abort, alloc: Global, disk: MemoryDisk, seconds: u64) -> Memory {
     assert!(rt; (946_702_800..=4_102_444_799).contains(&seconds));
-    let moments = vec![in alloc; Moment { seconds }; 1]?;
+    let moments = vec![in alloc; Moment { seconds }; 1].expect(rt, "memory");
     let Ok(desk) = Desk::open(alloc, disk) else {
         panic!(rt; "not opened")
     };
-    Ok(Room {
+    Room {
         desk,
         clock: ListClock::new(moments),
         operator: Ident::read("root").expect(rt, "a name"),
-    })
+    }
 }
 
 /// A room on an empty disk of which these calls fail.
-fn empty_room(rt: &impl Abort, alloc: Global, fails: Vec<u64>) -> Result<Memory, Fail> {
-    room_on(
-        rt,
-        alloc,
-        MemoryDisk::new(alloc, &[], 1_000_000, 4_000_000, fails, 0)?,
-        MORNING,
-    )
+fn empty_room(rt: &impl Abort, alloc: Global, fails: &[u64]) -> Memory {
+    let fails = fails.to_vec(alloc).expect(rt, "memory");
+    let disk = MemoryDisk::new(alloc, &[], 1_000_000, 4_000_000, fails, 0);
+    room_on(rt, alloc, disk.expect(rt, "memory"), MORNING)
 }
 
 /// A message as it is posted with a key word.
-pub fn post(alloc: Global, key: &str, body: &str) -> Result<String, Fail> {
-    Ok(format!(in alloc;
+pub fn post(rt: &impl Abort, alloc: Global, key: &str, body: &str) -> String {
+    format!(in alloc;
         "POST /messages HTTP/1.1\r\nAuction-Key: {key}\r\nContent-Length: {}\r\n\r\n{body}",
         body.len()
-    )?)
+    )
+    .expect(rt, "memory")
 }
 
 /// What a link gives, in pieces of at most so many bytes, and which of its reads and writes fail.
@@ -179,30 +171,25 @@ pub fn whole(text: &str) -> Given<'_> {
     }
 }
 
-fn link_of(rt: &impl Abort, alloc: Global, given: &Given<'_>) -> Result<PairLink, Fail> {
+fn link_of(rt: &impl Abort, alloc: Global, given: &Given<'_>) -> PairLink {
     assert!(rt; 1 <= given.piece);
-    let text = given.text.as_bytes().to_vec(alloc)?;
-    let failing_reads = given.failing_reads.to_vec(alloc)?;
-    let failing_writes = given.failing_writes.to_vec(alloc)?;
-    Ok(PairLink {
+    let text = given.text.as_bytes().to_vec(alloc).expect(rt, "memory");
+    let failing_reads = given.failing_reads.to_vec(alloc).expect(rt, "memory");
+    let failing_writes = given.failing_writes.to_vec(alloc).expect(rt, "memory");
+    PairLink {
         source: TextSource::new(text, given.piece, failing_reads),
-        sink: TextSink::new(alloc, 200_000, failing_writes)?,
-    })
+        sink: TextSink::new(alloc, 200_000, failing_writes).expect(rt, "memory"),
+    }
 }
 
 /// A gate with these links, of which these calls fail.
-fn gate_of(
-    rt: &impl Abort,
-    alloc: Global,
-    links: &[Given<'_>],
-    fails: &[u64],
-) -> Result<ListGate, Fail> {
+fn gate_of(rt: &impl Abort, alloc: Global, links: &[Given<'_>], fails: &[u64]) -> ListGate {
     let mut made = Vec::new(alloc);
     for given in links {
-        made.push(link_of(rt, alloc, given)?)?;
+        made.push(link_of(rt, alloc, given)).expect(rt, "memory");
     }
     assert!(rt; made.len() <= 1_000_000);
-    Ok(ListGate::new(alloc, made, fails.to_vec(alloc)?)?)
+    ListGate::new(alloc, made, fails.to_vec(alloc).expect(rt, "memory")).expect(rt, "memory")
 }
 
 /// What became of a run: how many links were served, how much longer the history is, whether a gate failed, and the
@@ -216,14 +203,16 @@ pub struct Told {
 }
 
 /// The bytes that the links took which these gates had back.
-fn replies_of(alloc: Global, gates: &[ListGate]) -> Result<Vec<String>, Fail> {
+fn replies_of(rt: &impl Abort, alloc: Global, gates: &[ListGate]) -> Vec<String> {
     let mut replies = Vec::new(alloc);
     for gate in gates {
         for link in gate.finished() {
-            replies.push(String::from_utf8(link.sink.bytes().to_vec(alloc)?)?)?;
+            let bytes = link.sink.bytes().to_vec(alloc).expect(rt, "memory");
+            let reply = String::from_utf8(bytes).expect(rt, "a text");
+            replies.push(reply).expect(rt, "memory");
         }
     }
-    Ok(replies)
+    replies
 }
 
 /// Serves these gates: the room afterwards, and what became of the run.
@@ -232,12 +221,12 @@ fn serve<R: Threads + Wait + Sync + Abort>(
     alloc: Global,
     room: Memory,
     mut gates: Vec<ListGate>,
-) -> Result<(Memory, Told), Fail> {
+) -> (Memory, Told) {
     if gates.len() > 64 {
-        return Err("too many gates")?;
+        panic!(rt; "too many gates")
     }
     if room.desk.unsure() {
-        return Err("a group is in doubt")?;
+        panic!(rt; "a group is in doubt")
     }
     let Ok(
         Ended {
@@ -250,8 +239,8 @@ fn serve<R: Threads + Wait + Sync + Abort>(
     else {
         panic!(rt; "no memory")
     };
-    let replies = replies_of(alloc, &gates)?;
-    Ok((
+    let replies = replies_of(rt, alloc, &gates);
+    (
         room,
         Told {
             served,
@@ -259,7 +248,7 @@ fn serve<R: Threads + Wait + Sync + Abort>(
             failed,
             replies,
         },
-    ))
+    )
 }
 
 /// Serves each text on a link of its own, each link at a gate of its own.
@@ -268,10 +257,12 @@ pub fn serve_texts<R: Threads + Wait + Sync + Abort>(
     alloc: Global,
     room: Memory,
     texts: &[&str],
-) -> Result<(Memory, Told), Fail> {
+) -> (Memory, Told) {
     let mut gates = Vec::new(alloc);
     for text in texts {
-        gates.push(gate_of(rt, alloc, &[whole(text)], &[])?)?;
+        gates
+            .push(gate_of(rt, alloc, &[whole(text)], &[]))
+            .expect(rt, "memory");
     }
     serve(rt, alloc, room, gates)
 }
@@ -291,18 +282,15 @@ fn are_told(told: &[String], replies: &[&str]) -> bool {
 }
 
 /// A room in which the operator has opened the auction. These calls of its disk fail.
-pub fn opened<R: Threads + Wait + Sync + Abort>(
-    rt: &R,
-    alloc: Global,
-    fails: Vec<u64>,
-) -> Result<Memory, Fail> {
+pub fn opened<R: Threads + Wait + Sync + Abort>(rt: &R, alloc: Global, fails: &[u64]) -> Memory {
     let mut text = String::new(alloc);
     for message in &OPENING {
-        text.push_str(&post(alloc, "op:root", message)?)?;
+        text.push_str(&post(rt, alloc, "op:root", message))
+            .expect(rt, "memory");
     }
-    let (room, told) = serve_texts(rt, alloc, empty_room(rt, alloc, fails)?, &[text.as_str()])?;
+    let (room, told) = serve_texts(rt, alloc, empty_room(rt, alloc, fails), &[text.as_str()]);
     assert!(rt; told.served == 1 && told.accepted == 5);
-    Ok(room)
+    room
 }
 
 /// Serves each text on a link of its own in a new room. So many messages are accepted, no gate fails, and these are the
@@ -313,32 +301,31 @@ fn serves<R: Threads + Wait + Sync + Abort>(
     texts: &[&str],
     accepted: u64,
     replies: &[&str],
-) -> Result<bool, Fail> {
-    let room = opened(rt, alloc, Vec::new(alloc))?;
-    let (_, told) = serve_texts(rt, alloc, room, texts)?;
-    Ok(tells(&told, (texts.len() as u64, accepted, false), replies))
+) -> bool {
+    let room = opened(rt, alloc, &[]);
+    let (_, told) = serve_texts(rt, alloc, room, texts);
+    tells(&told, (texts.len() as u64, accepted, false), replies)
 }
 
 /// How many calls of the disk open the auction.
-pub fn opening_calls<R: Threads + Wait + Sync + Abort>(rt: &R, alloc: Global) -> Result<u64, Fail> {
-    Ok(opened(rt, alloc, Vec::new(alloc))?.desk.into_disk().calls())
+pub fn opening_calls<R: Threads + Wait + Sync + Abort>(rt: &R, alloc: Global) -> u64 {
+    opened(rt, alloc, &[]).desk.into_disk().calls()
 }
 
 #[test]
-fn two_workers_take_a_bid_each(rt: HostRuntime) -> Result<(), Fail> {
-    let room = opened(&rt, rt.alloc(), Vec::new(rt.alloc()))?;
-    let (room, told) = serve_texts(&rt, rt.alloc(), room, &[FIRST, SECOND])?;
+fn two_workers_take_a_bid_each(rt: HostRuntime) {
+    let room = opened(&rt, rt.alloc(), &[]);
+    let (room, told) = serve_texts(&rt, rt.alloc(), room, &[FIRST, SECOND]);
     assert!(rt; tells(&told, (2, 2, false), &[FIRST_REPLY, SECOND_REPLY]));
     // The disk has both, each once, and so they stand after it is opened again. Past the closing a new bid is late.
-    let room = room_on(&rt, rt.alloc(), room.desk.into_disk(), CLOSING)?;
+    let room = room_on(&rt, rt.alloc(), room.desk.into_disk(), CLOSING);
     assert!(rt; room.desk.entries() == 7);
-    let (_, told) = serve_texts(&rt, rt.alloc(), room, &[THIRD, FIRST])?;
+    let (_, told) = serve_texts(&rt, rt.alloc(), room, &[THIRD, FIRST]);
     assert!(rt; tells(&told, (2, 0, false), &[LATE_REPLY, FIRST_REPLY]));
-    Ok(())
 }
 
 #[test]
-fn one_message_on_two_links_stands_once(rt: HostRuntime) -> Result<(), Fail> {
+fn one_message_on_two_links_stands_once(rt: HostRuntime) {
     assert!(rt;
         serves(
             &rt,
@@ -346,9 +333,8 @@ fn one_message_on_two_links_stands_once(rt: HostRuntime) -> Result<(), Fail> {
             &[FIRST, FIRST],
             1,
             &[FIRST_REPLY, FIRST_REPLY]
-        )?
+        )
     );
-    Ok(())
 }
 
 /// An add-on of the auction for the second dealer, as the operator posts it, and another one.
@@ -387,20 +373,19 @@ const AWARDS: &str = "GET /awards/bill13 HTTP/1.1\r\nAuction-Key: k2\r\n\r\n";
 const AWARDS_REPLY: &str = replied!("200 OK", 27, "+ 5000000000 4945652800.00\n");
 
 #[test]
-fn an_auction_has_one_add_on(rt: HostRuntime) -> Result<(), Fail> {
+fn an_auction_has_one_add_on(rt: HostRuntime) {
     let alloc = rt.alloc();
-    let sent = joined(alloc, &[FIRST, ADD_ON, ADD_ON, OTHER_ADD_ON])?;
+    let sent = joined(&rt, alloc, &[FIRST, ADD_ON, ADD_ON, OTHER_ADD_ON]);
     let replies = [FIRST_REPLY, ADD_ON_REPLY, ADD_ON_REPLY, OTHER_ADD_ON_REPLY];
-    let told_first = joined(alloc, &replies)?;
-    let room = opened(&rt, alloc, Vec::new(alloc))?;
-    let (room, told) = serve_texts(&rt, alloc, room, &[sent.as_str()])?;
+    let told_first = joined(&rt, alloc, &replies);
+    let room = opened(&rt, alloc, &[]);
+    let (room, told) = serve_texts(&rt, alloc, room, &[sent.as_str()]);
     assert!(rt; tells(&told, (1, 2, false), &[told_first.as_str()]));
-    let room = room_on(&rt, alloc, room.desk.into_disk(), CLOSING)?;
-    let asked = joined(alloc, &[PUBLICATION, AWARDS])?;
-    let told_then = joined(alloc, &[PUBLICATION_REPLY, AWARDS_REPLY])?;
-    let (_, told) = serve_texts(&rt, alloc, room, &[asked.as_str()])?;
+    let room = room_on(&rt, alloc, room.desk.into_disk(), CLOSING);
+    let asked = joined(&rt, alloc, &[PUBLICATION, AWARDS]);
+    let told_then = joined(&rt, alloc, &[PUBLICATION_REPLY, AWARDS_REPLY]);
+    let (_, told) = serve_texts(&rt, alloc, room, &[asked.as_str()]);
     assert!(rt; tells(&told, (1, 1, false), &[told_then.as_str()]));
-    Ok(())
 }
 
 /// Requests of one link.
@@ -433,12 +418,12 @@ const REPLIES: [&str; 8] = [
 ];
 
 /// Texts one behind the other.
-pub fn joined(alloc: Global, texts: &[&str]) -> Result<String, Fail> {
+pub fn joined(rt: &impl Abort, alloc: Global, texts: &[&str]) -> String {
     let mut all = String::new(alloc);
     for text in texts {
-        all.push_str(text)?;
+        all.push_str(text).expect(rt, "memory");
     }
-    Ok(all)
+    all
 }
 
 /// Whether the first so many requests have the first so many replies, on one link.
@@ -446,24 +431,23 @@ fn first_are_answered<R: Threads + Wait + Sync + Abort>(
     rt: &R,
     alloc: Global,
     count: usize,
-) -> Result<bool, Fail> {
+) -> bool {
     assert!(rt; count <= 8);
-    let text = joined(alloc, &REQUESTS[..count])?;
-    let replies = joined(alloc, &REPLIES[..count])?;
+    let text = joined(rt, alloc, &REQUESTS[..count]);
+    let replies = joined(rt, alloc, &REPLIES[..count]);
     serves(rt, alloc, &[text.as_str()], 1, &[replies.as_str()])
 }
 
 #[test]
-fn a_link_is_answered_request_by_request(rt: HostRuntime) -> Result<(), Fail> {
-    assert!(rt; first_are_answered(&rt, rt.alloc(), 1)?);
-    assert!(rt; first_are_answered(&rt, rt.alloc(), 2)?);
-    assert!(rt; first_are_answered(&rt, rt.alloc(), 3)?);
-    assert!(rt; first_are_answered(&rt, rt.alloc(), 4)?);
-    assert!(rt; first_are_answered(&rt, rt.alloc(), 5)?);
-    assert!(rt; first_are_answered(&rt, rt.alloc(), 6)?);
-    assert!(rt; first_are_answered(&rt, rt.alloc(), 7)?);
-    assert!(rt; first_are_answered(&rt, rt.alloc(), 8)?);
-    Ok(())
+fn a_link_is_answered_request_by_request(rt: HostRuntime) {
+    assert!(rt; first_are_answered(&rt, rt.alloc(), 1));
+    assert!(rt; first_are_answered(&rt, rt.alloc(), 2));
+    assert!(rt; first_are_answered(&rt, rt.alloc(), 3));
+    assert!(rt; first_are_answered(&rt, rt.alloc(), 4));
+    assert!(rt; first_are_answered(&rt, rt.alloc(), 5));
+    assert!(rt; first_are_answered(&rt, rt.alloc(), 6));
+    assert!(rt; first_are_answered(&rt, rt.alloc(), 7));
+    assert!(rt; first_are_answered(&rt, rt.alloc(), 8));
 }
 
 // Serves a link in a room: how it ended, and the room afterwards.
@@ -505,10 +489,10 @@ pub fn ends<R: Wait + Abort>(
     given: &Given<'_>,
     ended: End,
     reply: &str,
-) -> Result<bool, Fail> {
-    let mut link = link_of(rt, alloc, given)?;
+) -> bool {
+    let mut link = link_of(rt, alloc, given);
     let end = serve_one(rt, alloc, room, &mut link);
-    Ok(end == ended && link.sink.bytes() == reply.as_bytes())
+    end == ended && link.sink.bytes() == reply.as_bytes()
 }
 
 /// The same of a link that gives this text.
@@ -519,7 +503,7 @@ fn text_ends<R: Wait + Abort>(
     text: &str,
     ended: End,
     reply: &str,
-) -> Result<bool, Fail> {
+) -> bool {
     ends(rt, alloc, room, &whole(text), ended, reply)
 }
 
@@ -544,10 +528,10 @@ const LAST: &str =
 const LAST_REPLY: &str = replied_last!("400 Bad Request", 26, "refused 6 BadShape number\n");
 
 #[test]
-fn a_link_ends_as_its_bytes_do(rt: HostRuntime) -> Result<(), Fail> {
+fn a_link_ends_as_its_bytes_do(rt: HostRuntime) {
     let alloc = rt.alloc();
-    let mut room = Some(opened(&rt, alloc, Vec::new(alloc))?);
-    assert!(rt; text_ends(&rt, alloc, &mut room, "", End::EndOfInput, "")?);
+    let mut room = Some(opened(&rt, alloc, &[]));
+    assert!(rt; text_ends(&rt, alloc, &mut room, "", End::EndOfInput, ""));
     assert!(rt;
         text_ends(
             &rt,
@@ -556,9 +540,9 @@ fn a_link_ends_as_its_bytes_do(rt: HostRuntime) -> Result<(), Fail> {
             SHAPELESS,
             End::EndOfInput,
             SHAPELESS_REPLY
-        )?
+        )
     );
-    assert!(rt; text_ends(&rt, alloc, &mut room, CUT, End::CutShort, "")?);
+    assert!(rt; text_ends(&rt, alloc, &mut room, CUT, End::CutShort, ""));
     assert!(rt;
         text_ends(
             &rt,
@@ -567,7 +551,7 @@ fn a_link_ends_as_its_bytes_do(rt: HostRuntime) -> Result<(), Fail> {
             TOO_LONG,
             End::BadRequest(413),
             TOO_LONG_REPLY
-        )?
+        )
     );
     assert!(rt;
         text_ends(
@@ -577,7 +561,7 @@ fn a_link_ends_as_its_bytes_do(rt: HostRuntime) -> Result<(), Fail> {
             CHUNKED,
             End::BadRequest(501),
             CHUNKED_REPLY
-        )?
+        )
     );
     assert!(rt;
         text_ends(
@@ -587,10 +571,9 @@ fn a_link_ends_as_its_bytes_do(rt: HostRuntime) -> Result<(), Fail> {
             WITHOUT_LENGTH,
             End::BadRequest(411),
             WITHOUT_LENGTH_REPLY
-        )?
+        )
     );
-    assert!(rt; text_ends(&rt, alloc, &mut room, LAST, End::Asked, LAST_REPLY)?);
-    Ok(())
+    assert!(rt; text_ends(&rt, alloc, &mut room, LAST, End::Asked, LAST_REPLY));
 }
 
 /// A link with this text, of which these calls fail.
@@ -610,17 +593,16 @@ fn fails<R: Wait + Abort>(
     failing_reads: &[u64],
     failing_writes: &[u64],
     ended: End,
-) -> Result<bool, Fail> {
+) -> bool {
     let given = failing(SHAPELESS, failing_reads, failing_writes);
     ends(rt, alloc, room, &given, ended, "")
 }
 
 #[test]
-fn a_link_ends_at_a_failing_call(rt: HostRuntime) -> Result<(), Fail> {
-    let mut room = Some(opened(&rt, rt.alloc(), Vec::new(rt.alloc()))?);
-    assert!(rt; fails(&rt, rt.alloc(), &mut room, &[0], &[], End::ReadFault)?);
-    assert!(rt; fails(&rt, rt.alloc(), &mut room, &[], &[0], End::WriteFault)?);
-    Ok(())
+fn a_link_ends_at_a_failing_call(rt: HostRuntime) {
+    let mut room = Some(opened(&rt, rt.alloc(), &[]));
+    assert!(rt; fails(&rt, rt.alloc(), &mut room, &[0], &[], End::ReadFault));
+    assert!(rt; fails(&rt, rt.alloc(), &mut room, &[], &[0], End::WriteFault));
 }
 
 /// Whether a message that comes in pieces of so many bytes has its reply.
@@ -629,7 +611,7 @@ fn comes_in_pieces<R: Wait + Abort>(
     alloc: Global,
     room: &mut Option<Memory>,
     piece: usize,
-) -> Result<bool, Fail> {
+) -> bool {
     let given = Given {
         piece,
         ..whole(SHAPELESS)
@@ -639,12 +621,11 @@ fn comes_in_pieces<R: Wait + Abort>(
 
 // However the bytes are cut, the reply is the same.
 #[test]
-fn a_request_comes_in_pieces(rt: HostRuntime) -> Result<(), Fail> {
-    let mut room = Some(opened(&rt, rt.alloc(), Vec::new(rt.alloc()))?);
+fn a_request_comes_in_pieces(rt: HostRuntime) {
+    let mut room = Some(opened(&rt, rt.alloc(), &[]));
     for piece in 1..SHAPELESS.len() {
-        assert!(rt; comes_in_pieces(&rt, rt.alloc(), &mut room, piece)?);
+        assert!(rt; comes_in_pieces(&rt, rt.alloc(), &mut room, piece));
     }
-    Ok(())
 }
 
 /// Serves two requests on a link that fails, by three reads, beside a link with a bid: the failing one is replied this,
@@ -656,24 +637,28 @@ fn fails_beside<R: Threads + Wait + Sync + Abort>(
     failing: Given<'_>,
     expected: &str,
     new: u64,
-) -> Result<bool, Fail> {
+) -> bool {
     let mut gates = Vec::new(alloc);
-    gates.push(gate_of(rt, alloc, &[failing], &[])?)?;
-    gates.push(gate_of(rt, alloc, &[whole(FIRST)], &[])?)?;
+    gates
+        .push(gate_of(rt, alloc, &[failing], &[]))
+        .expect(rt, "memory");
+    gates
+        .push(gate_of(rt, alloc, &[whole(FIRST)], &[]))
+        .expect(rt, "memory");
     let found = room.take().expect(rt, "a room");
-    let (after, told) = serve(rt, alloc, found, gates)?;
+    let (after, told) = serve(rt, alloc, found, gates);
     *room = Some(after);
-    Ok(tells(&told, (2, new, false), &[expected, FIRST_REPLY]))
+    tells(&told, (2, new, false), &[expected, FIRST_REPLY])
 }
 
 #[test]
-fn a_failing_link_leaves_the_others_whole(rt: HostRuntime) -> Result<(), Fail> {
+fn a_failing_link_leaves_the_others_whole(rt: HostRuntime) {
     let alloc = rt.alloc();
-    let mut room = Some(opened(&rt, alloc, Vec::new(alloc))?);
-    let text = joined(alloc, &[OTHER_SHAPELESS, OTHER_SHAPELESS])?;
-    let both = joined(alloc, &[SHAPELESS_REPLY, SHAPELESS_REPLY])?;
-    assert!(rt; fails_beside(&rt, alloc, &mut room, failing(&text, &[0], &[]), "", 1)?);
-    assert!(rt; fails_beside(&rt, alloc, &mut room, failing(&text, &[1], &[]), "", 0)?);
+    let mut room = Some(opened(&rt, alloc, &[]));
+    let text = joined(&rt, alloc, &[OTHER_SHAPELESS, OTHER_SHAPELESS]);
+    let both = joined(&rt, alloc, &[SHAPELESS_REPLY, SHAPELESS_REPLY]);
+    assert!(rt; fails_beside(&rt, alloc, &mut room, failing(&text, &[0], &[]), "", 1));
+    assert!(rt; fails_beside(&rt, alloc, &mut room, failing(&text, &[1], &[]), "", 0));
     assert!(rt;
         fails_beside(
             &rt,
@@ -682,10 +667,10 @@ fn a_failing_link_leaves_the_others_whole(rt: HostRuntime) -> Result<(), Fail> {
             failing(&text, &[2], &[]),
             SHAPELESS_REPLY,
             0
-        )?
+        )
     );
-    assert!(rt; fails_beside(&rt, alloc, &mut room, failing(&text, &[3], &[]), &both, 0)?);
-    assert!(rt; fails_beside(&rt, alloc, &mut room, failing(&text, &[], &[0]), "", 0)?);
+    assert!(rt; fails_beside(&rt, alloc, &mut room, failing(&text, &[3], &[]), &both, 0));
+    assert!(rt; fails_beside(&rt, alloc, &mut room, failing(&text, &[], &[0]), "", 0));
     assert!(rt;
         fails_beside(
             &rt,
@@ -694,9 +679,8 @@ fn a_failing_link_leaves_the_others_whole(rt: HostRuntime) -> Result<(), Fail> {
             failing(&text, &[], &[1]),
             SHAPELESS_REPLY,
             0
-        )?
+        )
     );
-    Ok(())
 }
 
 /// Serves two links at one gate, of which these calls fail.
@@ -705,49 +689,50 @@ fn serve_at_one<R: Threads + Wait + Sync + Abort>(
     alloc: Global,
     room: Memory,
     fails: &[u64],
-) -> Result<(Memory, Told), Fail> {
+) -> (Memory, Told) {
     let mut gates = Vec::new(alloc);
-    gates.push(gate_of(rt, alloc, &[whole(FIRST), whole(SECOND)], fails)?)?;
+    gates
+        .push(gate_of(rt, alloc, &[whole(FIRST), whole(SECOND)], fails))
+        .expect(rt, "memory");
     serve(rt, alloc, room, gates)
 }
 
 #[test]
-fn a_gate_is_served_until_it_fails(rt: HostRuntime) -> Result<(), Fail> {
-    let room = opened(&rt, rt.alloc(), Vec::new(rt.alloc()))?;
-    let (room, told) = serve_at_one(&rt, rt.alloc(), room, &[1])?;
+fn a_gate_is_served_until_it_fails(rt: HostRuntime) {
+    let room = opened(&rt, rt.alloc(), &[]);
+    let (room, told) = serve_at_one(&rt, rt.alloc(), room, &[1]);
     assert!(rt; tells(&told, (1, 1, true), &[FIRST_REPLY]));
     // A gate that doesn't fail gives all links.
-    let (_, told) = serve_at_one(&rt, rt.alloc(), room, &[])?;
+    let (_, told) = serve_at_one(&rt, rt.alloc(), room, &[]);
     assert!(rt; tells(&told, (2, 1, false), &[FIRST_REPLY, SECOND_REPLY]));
-    Ok(())
 }
 
 pub const FAULT_REPLY: &str = replied!("503 Service Unavailable", 22, "unavailable DiskFault\n");
 
 #[test]
-fn a_disk_fault_is_told_and_the_link_goes_on(rt: HostRuntime) -> Result<(), Fail> {
-    let text = joined(rt.alloc(), &[FIRST, FIRST])?;
-    let replies = joined(rt.alloc(), &[FAULT_REPLY, FIRST_REPLY])?;
+fn a_disk_fault_is_told_and_the_link_goes_on(rt: HostRuntime) {
+    let text = joined(&rt, rt.alloc(), &[FIRST, FIRST]);
+    let replies = joined(&rt, rt.alloc(), &[FAULT_REPLY, FIRST_REPLY]);
     // The last of the four calls of the disk at a new message fails, so its entry stands at the next turn.
-    let calls = opening_calls(&rt, rt.alloc())?;
-    let fails = vec![in rt.alloc(); calls.saturating_add(3); 1]?;
-    let room = opened(&rt, rt.alloc(), fails)?;
-    let (_, told) = serve_texts(&rt, rt.alloc(), room, &[text.as_str()])?;
+    let calls = opening_calls(&rt, rt.alloc());
+    let room = opened(&rt, rt.alloc(), &[calls.saturating_add(3)]);
+    let (_, told) = serve_texts(&rt, rt.alloc(), room, &[text.as_str()]);
     assert!(rt; tells(&told, (1, 1, false), &[replies.as_str()]));
-    Ok(())
 }
 
 /// The bids of the second dealer, so many.
-fn other_bids(alloc: Global, count: u64) -> Result<String, Fail> {
+fn other_bids(rt: &impl Abort, alloc: Global, count: u64) -> String {
     let mut text = String::new(alloc);
     for number in 1..=count {
         let bid = format!(in alloc;
             "{{\"number\":{number},\"kind\":\"bid\",\"auction\":\"bill13\",\"bidder\":\"fund2\",\"rate\":\"4.310\",\
             \"amount\":100}}"
-        )?;
-        text.push_str(&post(alloc, "k2", &bid)?)?;
+        )
+        .expect(rt, "memory");
+        text.push_str(&post(rt, alloc, "k2", &bid))
+            .expect(rt, "memory");
     }
-    Ok(text)
+    text
 }
 
 /// What a dealer sends, and asks.
@@ -768,31 +753,29 @@ fn first_reply<R: Threads + Wait + Sync + Abort>(
     alloc: Global,
     texts: &[&str],
     accepted: u64,
-) -> Result<String, Fail> {
-    let room = opened(rt, alloc, Vec::new(alloc))?;
-    let (_, told) = serve_texts(rt, alloc, room, texts)?;
+) -> String {
+    let room = opened(rt, alloc, &[]);
+    let (_, told) = serve_texts(rt, alloc, room, texts);
     assert!(rt; told.accepted == accepted && told.replies.len() == texts.len());
     let reply = told.replies.first().expect(rt, "a reply");
-    Ok(reply.clone()?)
+    reply.clone().expect(rt, "memory")
 }
 
 #[test]
-fn a_dealer_learns_nothing_of_the_others(rt: HostRuntime) -> Result<(), Fail> {
-    let own = joined(rt.alloc(), &OWN)?;
-    let bids = other_bids(rt.alloc(), 1000)?;
-    let alone = first_reply(&rt, rt.alloc(), &[own.as_str()], 1)?;
-    let beside = first_reply(&rt, rt.alloc(), &[own.as_str(), bids.as_str()], 1001)?;
+fn a_dealer_learns_nothing_of_the_others(rt: HostRuntime) {
+    let own = joined(&rt, rt.alloc(), &OWN);
+    let bids = other_bids(&rt, rt.alloc(), 1000);
+    let alone = first_reply(&rt, rt.alloc(), &[own.as_str()], 1);
+    let beside = first_reply(&rt, rt.alloc(), &[own.as_str(), bids.as_str()], 1001);
     assert!(rt; alone.as_str() == beside.as_str());
-    Ok(())
 }
 
 #[test]
-fn a_room_is_called_by_a_key(rt: HostRuntime) -> Result<(), Fail> {
+fn a_room_is_called_by_a_key(rt: HostRuntime) {
     let dealer = Key::read("k1").expect(&rt, "a key");
     let nobody = Key::read("k9").expect(&rt, "a key");
-    let mut room = opened(&rt, rt.alloc(), Vec::new(rt.alloc()))?;
+    let mut room = opened(&rt, rt.alloc(), &[]);
     assert!(rt; room.knows(&dealer) && !room.knows(&nobody));
     let answer = room.read(rt.alloc(), &dealer, &Query::Holdings);
     assert!(rt; matches!(answer, Answer::Reading(_)));
-    Ok(())
 }

@@ -7,7 +7,6 @@ use crate::tests::{
 use std::alloc::Global;
 use std::process::Abort;
 use std::sync::Wait;
-use std::test::Fail;
 use tb_gates::{Link, PairLink};
 use tb_link::{Failed, Faults, Sink, Source, TextSink, TextSource};
 use tb_session::*;
@@ -92,16 +91,17 @@ fn link_of(
     request: &str,
     count: usize,
     piece: usize,
-) -> Result<WaitingLink, Fail> {
+) -> WaitingLink {
     assert!(rt; 1 <= piece);
     let mut text = Vec::new(alloc);
     for _ in 0..count {
-        text.extend_from_slice(request.as_bytes())?;
+        text.extend_from_slice(request.as_bytes())
+            .expect(rt, "memory");
     }
-    Ok(WaitingLink {
+    WaitingLink {
         pair: PairLink {
             source: TextSource::new(text, piece, Vec::new(alloc)),
-            sink: TextSink::new(alloc, 1_000, Vec::new(alloc))?,
+            sink: TextSink::new(alloc, 1_000, Vec::new(alloc)).expect(rt, "memory"),
         },
         size: request.len(),
         given: 0,
@@ -109,7 +109,7 @@ fn link_of(
         reads: 0,
         lost: false,
         faults: Faults::none(),
-    })
+    }
 }
 
 /// Three requests with this text come in pieces of so many bytes. Whether each has this reply, and one read more finds
@@ -121,23 +121,23 @@ fn three_are_answered<R: Wait + Abort>(
     request: &str,
     piece: usize,
     reply: &str,
-) -> Result<bool, Fail> {
-    let mut link = link_of(rt, alloc, request, 3, piece)?;
+) -> bool {
+    let mut link = link_of(rt, alloc, request, 3, piece);
     let ended = serve_one(rt, alloc, room, &mut link);
-    let expected = joined(alloc, &[reply, reply, reply])?;
+    let expected = joined(rt, alloc, &[reply, reply, reply]);
     let taken = link.pair.sink.bytes();
-    Ok(!link.lost && ended == End::EndOfInput && taken == expected.as_bytes())
+    !link.lost && ended == End::EndOfInput && taken == expected.as_bytes()
 }
 
 // Two of them come in one piece, or parts of them.
 #[test]
-fn a_client_that_waits_for_its_replies_is_answered(rt: HostRuntime) -> Result<(), Fail> {
+fn a_client_that_waits_for_its_replies_is_answered(rt: HostRuntime) {
     let alloc = rt.alloc();
-    let mut room = Some(opened(&rt, alloc, Vec::new(alloc))?);
+    let mut room = Some(opened(&rt, alloc, &[]));
     let shapeless = SHAPELESS.len();
-    assert!(rt; three_are_answered(&rt, alloc, &mut room, SHAPELESS, 1, SHAPELESS_REPLY)?);
-    assert!(rt; three_are_answered(&rt, alloc, &mut room, SHAPELESS, 50, SHAPELESS_REPLY)?);
-    assert!(rt; three_are_answered(&rt, alloc, &mut room, SHAPELESS, shapeless, SHAPELESS_REPLY)?);
+    assert!(rt; three_are_answered(&rt, alloc, &mut room, SHAPELESS, 1, SHAPELESS_REPLY));
+    assert!(rt; three_are_answered(&rt, alloc, &mut room, SHAPELESS, 50, SHAPELESS_REPLY));
+    assert!(rt; three_are_answered(&rt, alloc, &mut room, SHAPELESS, shapeless, SHAPELESS_REPLY));
     assert!(rt;
         three_are_answered(
             &rt,
@@ -146,14 +146,13 @@ fn a_client_that_waits_for_its_replies_is_answered(rt: HostRuntime) -> Result<()
             SHAPELESS,
             shapeless * 2,
             SHAPELESS_REPLY
-        )?
+        )
     );
     let bid = FIRST.len();
-    assert!(rt; three_are_answered(&rt, alloc, &mut room, FIRST, 1, FIRST_REPLY)?);
-    assert!(rt; three_are_answered(&rt, alloc, &mut room, FIRST, 50, FIRST_REPLY)?);
-    assert!(rt; three_are_answered(&rt, alloc, &mut room, FIRST, bid, FIRST_REPLY)?);
-    assert!(rt; three_are_answered(&rt, alloc, &mut room, FIRST, bid * 2, FIRST_REPLY)?);
-    Ok(())
+    assert!(rt; three_are_answered(&rt, alloc, &mut room, FIRST, 1, FIRST_REPLY));
+    assert!(rt; three_are_answered(&rt, alloc, &mut room, FIRST, 50, FIRST_REPLY));
+    assert!(rt; three_are_answered(&rt, alloc, &mut room, FIRST, bid, FIRST_REPLY));
+    assert!(rt; three_are_answered(&rt, alloc, &mut room, FIRST, bid * 2, FIRST_REPLY));
 }
 
 /// A request after whose reply the link closes.
@@ -161,11 +160,10 @@ const CLOSING: &str = "GET /elsewhere HTTP/1.1\r\nConnection: close\r\n\r\n";
 
 // The bytes come one by one, so that there is a read for each byte of the first request.
 #[test]
-fn nothing_is_read_behind_the_reply_that_closes(rt: HostRuntime) -> Result<(), Fail> {
+fn nothing_is_read_behind_the_reply_that_closes(rt: HostRuntime) {
     let alloc = rt.alloc();
-    let mut room = Some(opened(&rt, alloc, Vec::new(alloc))?);
-    let mut link = link_of(&rt, alloc, CLOSING, 2, 1)?;
+    let mut room = Some(opened(&rt, alloc, &[]));
+    let mut link = link_of(&rt, alloc, CLOSING, 2, 1);
     assert!(rt; serve_one(&rt, alloc, &mut room, &mut link) == End::Asked);
     assert!(rt; link.reads == CLOSING.len() as u64);
-    Ok(())
 }
