@@ -1,7 +1,8 @@
 //! Runs in which bills are settled, moved and redeemed. The replies are worked out by hand from the rules.
 use crate::run_tests::{WORDS, are_replied};
-use crate::tests::{Host, runs};
-use std::test::Fail;
+use crate::tests::{Host, joined, runs};
+use std::alloc::Global;
+use std::process::Abort;
 
 /// A bill of 1,000: 400 and 400 are transferred, 500 are pledged and 300 of them released. It matures on a Saturday
 /// before a holiday, and is paid on the Tuesday.
@@ -219,37 +220,48 @@ const REOPENED: [(&str, &str); 25] = [
 ];
 
 #[test]
-fn bills_are_settled_moved_and_redeemed(rt: HostRuntime) -> Result<(), Fail> {
+fn bills_are_settled_moved_and_redeemed(rt: HostRuntime) {
     let host = Host {
         rt: &rt,
         alloc: rt.alloc(),
     };
-    assert!(rt; are_replied(&host, "", "", &WORKED)?);
-    assert!(rt; are_replied(&host, "", "", &REOPENED)?);
-    Ok(())
+    assert!(rt; are_replied(&host, "", "", &WORKED));
+    assert!(rt; are_replied(&host, "", "", &REOPENED));
+}
+
+// The registrations of so many submitters.
+fn registrations(rt: &impl Abort, alloc: Global, count: u64) -> String {
+    let mut text = String::new(alloc);
+    for number in 1..=count {
+        let line = format!(in alloc;
+            "1730700000 op:root {{\"number\":{number},\"kind\":\"register\",\"submitter\":\"s{number}\",\
+            \"key\":\"k{number}\"}}\n"
+        )
+        .expect(rt, "memory");
+        text.push_str(&line).expect(rt, "memory");
+    }
+    text
+}
+
+// The replies to them.
+fn acceptances(rt: &impl Abort, alloc: Global, count: u64) -> String {
+    let mut text = String::new(alloc);
+    for number in 1..=count {
+        let line = format!(in alloc; "accepted {number} 1730700000\n").expect(rt, "memory");
+        text.push_str(&line).expect(rt, "memory");
+    }
+    text
 }
 
 #[test]
-fn a_roster_of_4096_submitters_is_full(rt: HostRuntime) -> Result<(), Fail> {
+fn a_roster_of_4096_submitters_is_full(rt: HostRuntime) {
     let host = Host {
         rt: &rt,
         alloc: rt.alloc(),
     };
     let alloc = rt.alloc();
-    let mut text = String::new(alloc);
-    let mut told = String::new(alloc);
-    for number in 1..=4097 {
-        text.push_str(format!(in alloc;
-            "1730700000 op:root {{\"number\":{number},\"kind\":\"register\",\"submitter\":\"s{number}\",\
-            \"key\":\"k{number}\"}}\n"
-        )?
-        .as_str())?;
-        if number <= 4096 {
-            told.push_str(format!(in alloc; "accepted {number} 1730700000\n")?.as_str())?;
-        }
-    }
-    text.push_str("end\n")?;
-    told.push_str("refused 51 RosterFull\n")?;
-    assert!(rt; runs(&host, &WORDS, &text, 8192, 0, &told, "")?);
-    Ok(())
+    let text = joined(&rt, alloc, &[&registrations(&rt, alloc, 4097), "end\n"]);
+    let accepted = acceptances(&rt, alloc, 4096);
+    let told = joined(&rt, alloc, &[&accepted, "refused 51 RosterFull\n"]);
+    assert!(rt; runs(&host, &WORDS, &text, 8192, 0, &told, ""));
 }

@@ -4,7 +4,6 @@ use crate::opening::opened;
 use crate::tests::{Host, Outcome, disk_of, run_on, serve_from};
 use std::process::Abort;
 use std::sync::Wait;
-use std::test::Fail;
 use std::thread::Threads;
 use tb_link::TextSource;
 
@@ -39,12 +38,12 @@ const BIDS: &str = "number,auction,bidder,rate,amount\n\
     2,bill13,fund1,4.275,200000\n";
 
 // The parcels, one behind the other.
-fn joined<R>(host: &Host<'_, R>, parcels: &[&[u8]]) -> Result<Vec<u8>, Fail> {
+fn joined<R: Abort>(host: &Host<'_, R>, parcels: &[&[u8]]) -> Vec<u8> {
     let mut bytes = Vec::new(host.alloc);
     for parcel in parcels {
-        bytes.extend_from_slice(parcel)?;
+        bytes.extend_from_slice(parcel).expect(host.rt, "memory");
     }
-    Ok(bytes)
+    bytes
 }
 
 // What comes of the parcels, in pieces of this size, on a disk with these contents. The reads, the writes and the calls
@@ -57,12 +56,12 @@ fn taken<R: Abort + Threads + Wait + Sync>(
     failing_reads: &[u64],
     failing_writes: &[u64],
     failing_calls: &[u64],
-) -> Result<Outcome, Fail> {
-    let disk = disk_of(host.rt, host.alloc, contents, failing_calls, 7)?;
+) -> Outcome {
+    let disk = disk_of(host.rt, host.alloc, contents, failing_calls, 7);
     let mut input = TextSource::new(
-        joined(host, parcels)?,
+        joined(host, parcels),
         piece.max(1),
-        failing_reads.to_vec(host.alloc)?,
+        failing_reads.to_vec(host.alloc).expect(host.rt, "memory"),
     );
     let none = Vec::new(host.alloc);
     let (outcome, _gates) = serve_from(
@@ -73,8 +72,8 @@ fn taken<R: Abort + Threads + Wait + Sync>(
         failing_writes,
         disk,
         none,
-    )?;
-    Ok(outcome)
+    );
+    outcome
 }
 
 // The run ended with this status, and has written these bytes and told this.
@@ -89,14 +88,12 @@ fn takes<R: Abort + Threads + Wait + Sync>(
     status: u8,
     out: &str,
     told: &str,
-) -> Result<bool, Fail> {
-    let slow = taken(host, b"", parcels, 1, &[], &[], &[])?;
-    let fast = taken(host, b"", parcels, 4096, &[], &[], &[])?;
-    Ok(
-        is_ended(&slow, status, out.as_bytes(), told)
-            && is_ended(&fast, status, out.as_bytes(), told)
-            && slow.disk.contents() == fast.disk.contents(),
-    )
+) -> bool {
+    let slow = taken(host, b"", parcels, 1, &[], &[], &[]);
+    let fast = taken(host, b"", parcels, 4096, &[], &[], &[]);
+    is_ended(&slow, status, out.as_bytes(), told)
+        && is_ended(&fast, status, out.as_bytes(), told)
+        && slow.disk.contents() == fast.disk.contents()
 }
 
 // What is sent from a place on of a disk with these contents.
@@ -104,8 +101,8 @@ fn sent<R: Abort + Threads + Wait + Sync>(
     host: &Host<'_, R>,
     contents: &[u8],
     from: &str,
-) -> Result<Outcome, Fail> {
-    let disk = disk_of(host.rt, host.alloc, contents, &[], 0)?;
+) -> Outcome {
+    let disk = disk_of(host.rt, host.alloc, contents, &[], 0);
     let words = ["follow", "send", from];
     run_on(host.rt, host.alloc, &words, "", 1, &[0], &[], disk)
 }
@@ -116,98 +113,94 @@ fn sends<R: Abort + Threads + Wait + Sync>(
     contents: &[u8],
     from: &str,
     parcels: &[&[u8]],
-) -> Result<bool, Fail> {
-    let run = sent(host, contents, from)?;
-    let bytes = joined(host, parcels)?;
-    Ok(is_ended(&run, 0, &bytes, "") && run.disk.contents() == contents)
+) -> bool {
+    let run = sent(host, contents, from);
+    let bytes = joined(host, parcels);
+    is_ended(&run, 0, &bytes, "") && run.disk.contents() == contents
 }
 
 // The journal that the script leaves.
-fn journal<R: Abort + Threads + Wait + Sync>(host: &Host<'_, R>) -> Result<Outcome, Fail> {
-    let disk = disk_of(host.rt, host.alloc, b"", &[], 0)?;
+fn journal<R: Abort + Threads + Wait + Sync>(host: &Host<'_, R>) -> Outcome {
+    let disk = disk_of(host.rt, host.alloc, b"", &[], 0);
     run_on(host.rt, host.alloc, &RUN, OPENING, 4096, &[], &[], disk)
 }
 
 #[test]
-fn entries_are_sent_from_a_place_on(rt: HostRuntime) -> Result<(), Fail> {
+fn entries_are_sent_from_a_place_on(rt: HostRuntime) {
     let host = Host {
         rt: &rt,
         alloc: rt.alloc(),
     };
-    let left = journal(&host)?;
+    let left = journal(&host);
     let file = left.disk.contents();
-    assert!(rt; sends(&host, ONE_ENTRY, "0", &[REGISTER])?);
-    assert!(rt; sends(&host, ONE_ENTRY, "1", &[])?);
-    assert!(rt; sends(&host, ONE_ENTRY, "18446744073709551615", &[])?);
-    assert!(rt; sends(&host, file, "0", &[REGISTER, ENROL, ANNOUNCE])?);
-    assert!(rt; sends(&host, file, "1", &[ENROL, ANNOUNCE])?);
-    assert!(rt; sends(&host, file, "2", &[ANNOUNCE])?);
-    assert!(rt; sends(&host, file, "3", &[])?);
-    Ok(())
+    assert!(rt; sends(&host, ONE_ENTRY, "0", &[REGISTER]));
+    assert!(rt; sends(&host, ONE_ENTRY, "1", &[]));
+    assert!(rt; sends(&host, ONE_ENTRY, "18446744073709551615", &[]));
+    assert!(rt; sends(&host, file, "0", &[REGISTER, ENROL, ANNOUNCE]));
+    assert!(rt; sends(&host, file, "1", &[ENROL, ANNOUNCE]));
+    assert!(rt; sends(&host, file, "2", &[ANNOUNCE]));
+    assert!(rt; sends(&host, file, "3", &[]));
 }
 
 #[test]
-fn parcels_are_taken_however_they_come(rt: HostRuntime) -> Result<(), Fail> {
+fn parcels_are_taken_however_they_come(rt: HostRuntime) {
     let host = Host {
         rt: &rt,
         alloc: rt.alloc(),
     };
-    assert!(rt; takes(&host, &[], 0, "next 0\n", "")?);
-    assert!(rt; takes(&host, &[REGISTER], 0, "next 1\n", "")?);
-    assert!(rt; takes(&host, &[REGISTER, REGISTER], 0, "next 1\n", "")?);
-    assert!(rt; takes(&host, &[ANNOUNCE, REGISTER, ENROL], 0, "next 3\n", "")?);
-    assert!(rt; takes(&host, &[ANNOUNCE, REGISTER], 0, "next 1\n", "")?);
-    assert!(rt; takes(&host, &[REGISTER, REGISTER, ENROL], 0, "next 2\n", "")?);
-    Ok(())
+    assert!(rt; takes(&host, &[], 0, "next 0\n", ""));
+    assert!(rt; takes(&host, &[REGISTER], 0, "next 1\n", ""));
+    assert!(rt; takes(&host, &[REGISTER, REGISTER], 0, "next 1\n", ""));
+    assert!(rt; takes(&host, &[ANNOUNCE, REGISTER, ENROL], 0, "next 3\n", ""));
+    assert!(rt; takes(&host, &[ANNOUNCE, REGISTER], 0, "next 1\n", ""));
+    assert!(rt; takes(&host, &[REGISTER, REGISTER, ENROL], 0, "next 2\n", ""));
 }
 
 #[test]
-fn a_copy_has_the_journal_of_its_original(rt: HostRuntime) -> Result<(), Fail> {
+fn a_copy_has_the_journal_of_its_original(rt: HostRuntime) {
     let host = Host {
         rt: &rt,
         alloc: rt.alloc(),
     };
-    let original = journal(&host)?;
-    let copy = taken(&host, b"", &[ANNOUNCE, ENROL, REGISTER], 7, &[], &[], &[])?;
+    let original = journal(&host);
+    let copy = taken(&host, b"", &[ANNOUNCE, ENROL, REGISTER], 7, &[], &[], &[]);
     assert!(rt; copy.disk.contents() == original.disk.contents());
-    Ok(())
 }
 
 #[test]
-fn both_entries_of_a_group_are_sent(rt: HostRuntime) -> Result<(), Fail> {
+fn both_entries_of_a_group_are_sent(rt: HostRuntime) {
     let host = Host {
         rt: &rt,
         alloc: rt.alloc(),
     };
-    let opening = journal(&host)?;
-    let disk = disk_of(&rt, host.alloc, opening.disk.contents(), &[], 0)?;
+    let opening = journal(&host);
+    let disk = disk_of(&rt, host.alloc, opening.disk.contents(), &[], 0);
     let import = ["import", "--op=root", "--key=k1"];
-    let imported = run_on(&rt, host.alloc, &import, BIDS, 4096, &[], &[], disk)?;
-    let all = sent(&host, imported.disk.contents(), "0")?;
-    let copy = taken(&host, b"", &[all.out.bytes()], 4096, &[], &[], &[])?;
+    let imported = run_on(&rt, host.alloc, &import, BIDS, 4096, &[], &[], disk);
+    let all = sent(&host, imported.disk.contents(), "0");
+    let copy = taken(&host, b"", &[all.out.bytes()], 4096, &[], &[], &[]);
     assert!(rt; is_ended(&copy, 0, b"next 5\n", ""));
-    let again = sent(&host, copy.disk.contents(), "0")?;
+    let again = sent(&host, copy.disk.contents(), "0");
     assert!(rt; again.out.bytes() == all.out.bytes());
-    let last = sent(&host, imported.disk.contents(), "4")?;
+    let last = sent(&host, imported.disk.contents(), "4");
     assert!(rt; all.out.bytes().ends_with(last.out.bytes()));
-    let both = sent(&host, imported.disk.contents(), "3")?;
+    let both = sent(&host, imported.disk.contents(), "3");
     assert!(rt; both.out.bytes().len() > last.out.bytes().len());
     assert!(rt; both.out.bytes().ends_with(last.out.bytes()));
-    Ok(())
 }
 
 #[test]
-fn what_is_no_parcel_ends_it(rt: HostRuntime) -> Result<(), Fail> {
+fn what_is_no_parcel_ends_it(rt: HostRuntime) {
     let host = Host {
         rt: &rt,
         alloc: rt.alloc(),
     };
     let line_1 = "bad input at line 1\n";
     let line_2 = "bad input at line 2\n";
-    assert!(rt; takes(&host, &[&REGISTER[..48]], 3, "", line_1)?);
-    assert!(rt; takes(&host, &[b"\0"], 3, "", line_1)?);
-    assert!(rt; takes(&host, &[b"\0\0\0\0", REGISTER], 3, "", line_1)?);
-    assert!(rt; takes(&host, &[b"\0\0\x02\x01"], 3, "", line_1)?);
+    assert!(rt; takes(&host, &[&REGISTER[..48]], 3, "", line_1));
+    assert!(rt; takes(&host, &[b"\0"], 3, "", line_1));
+    assert!(rt; takes(&host, &[b"\0\0\0\0", REGISTER], 3, "", line_1));
+    assert!(rt; takes(&host, &[b"\0\0\x02\x01"], 3, "", line_1));
     assert!(rt;
         takes(
             &host,
@@ -215,9 +208,9 @@ fn what_is_no_parcel_ends_it(rt: HostRuntime) -> Result<(), Fail> {
             3,
             "",
             line_2
-        )?
+        )
     );
-    assert!(rt; takes(&host, &[REGISTER, &ENROL[..51]], 3, "", line_2)?);
+    assert!(rt; takes(&host, &[REGISTER, &ENROL[..51]], 3, "", line_2));
     let stopped = taken(
         &host,
         b"",
@@ -226,35 +219,33 @@ fn what_is_no_parcel_ends_it(rt: HostRuntime) -> Result<(), Fail> {
         &[],
         &[],
         &[],
-    )?;
+    );
     assert!(rt; stopped.disk.contents() == ONE_ENTRY);
-    Ok(())
 }
 
 #[test]
-fn another_history_is_told_as_a_fork(rt: HostRuntime) -> Result<(), Fail> {
+fn another_history_is_told_as_a_fork(rt: HostRuntime) {
     let host = Host {
         rt: &rt,
         alloc: rt.alloc(),
     };
-    assert!(rt; takes(&host, &[OTHER, REGISTER], 14, "", "forked at 0\n")?);
-    assert!(rt; takes(&host, &[REGISTER, OTHER, ENROL], 14, "", "forked at 0\n")?);
-    let stopped = taken(&host, b"", &[REGISTER, OTHER, ENROL], 4096, &[], &[], &[])?;
+    assert!(rt; takes(&host, &[OTHER, REGISTER], 14, "", "forked at 0\n"));
+    assert!(rt; takes(&host, &[REGISTER, OTHER, ENROL], 14, "", "forked at 0\n"));
+    let stopped = taken(&host, b"", &[REGISTER, OTHER, ENROL], 4096, &[], &[], &[]);
     assert!(rt; stopped.disk.contents() == ONE_ENTRY);
-    Ok(())
 }
 
 #[test]
-fn parcels_before_a_fault_are_taken(rt: HostRuntime) -> Result<(), Fail> {
+fn parcels_before_a_fault_are_taken(rt: HostRuntime) {
     let host = Host {
         rt: &rt,
         alloc: rt.alloc(),
     };
     // The first parcel has 49 bytes, so that the read behind it fails.
-    let unread = taken(&host, b"", &[REGISTER, ENROL], 49, &[1], &[], &[])?;
+    let unread = taken(&host, b"", &[REGISTER, ENROL], 49, &[1], &[], &[]);
     assert!(rt; is_ended(&unread, 4, b"", "read fault\n"));
     assert!(rt; unread.disk.contents() == ONE_ENTRY);
-    let untold = taken(&host, b"", &[REGISTER], 49, &[], &[0], &[])?;
+    let untold = taken(&host, b"", &[REGISTER], 49, &[], &[0], &[]);
     assert!(rt; is_ended(&untold, 5, b"", "write fault\n"));
     assert!(rt; untold.disk.contents() == ONE_ENTRY);
     let refused = taken(
@@ -265,44 +256,38 @@ fn parcels_before_a_fault_are_taken(rt: HostRuntime) -> Result<(), Fail> {
         &[0],
         &[],
         &[],
-    )?;
+    );
     assert!(rt; refused.status == 7);
-    Ok(())
 }
 
 // The parcels where a call of the disk fails: it is told, and later all of them are taken.
-fn goes_on_later<R: Abort + Threads + Wait + Sync>(
-    host: &Host<'_, R>,
-    call: u64,
-) -> Result<bool, Fail> {
+fn goes_on_later<R: Abort + Threads + Wait + Sync>(host: &Host<'_, R>, call: u64) -> bool {
     let parcels = [REGISTER, ENROL, ANNOUNCE];
-    let first = taken(host, b"", &parcels, 4096, &[], &[], &[call])?;
-    let second = taken(host, first.disk.contents(), &parcels, 4096, &[], &[], &[])?;
-    Ok(is_ended(&first, 6, b"", "disk fault\n") && is_ended(&second, 0, b"next 3\n", ""))
+    let first = taken(host, b"", &parcels, 4096, &[], &[], &[call]);
+    let second = taken(host, first.disk.contents(), &parcels, 4096, &[], &[], &[]);
+    is_ended(&first, 6, b"", "disk fault\n") && is_ended(&second, 0, b"next 3\n", "")
 }
 
 // Four calls open an empty disk, and four keep each of the three entries.
 #[test]
-fn a_disk_that_fails_ends_it(rt: HostRuntime) -> Result<(), Fail> {
+fn a_disk_that_fails_ends_it(rt: HostRuntime) {
     let host = Host {
         rt: &rt,
         alloc: rt.alloc(),
     };
     for call in 0..16 {
-        assert!(rt; goes_on_later(&host, call)?);
+        assert!(rt; goes_on_later(&host, call));
     }
-    Ok(())
 }
 
 #[test]
-fn a_write_that_fails_ends_a_sending(rt: HostRuntime) -> Result<(), Fail> {
+fn a_write_that_fails_ends_a_sending(rt: HostRuntime) {
     let host = Host {
         rt: &rt,
         alloc: rt.alloc(),
     };
-    let left = journal(&host)?;
-    let disk = disk_of(&rt, host.alloc, left.disk.contents(), &[], 0)?;
-    let run = run_on(&rt, host.alloc, &SEND, "", 1, &[], &[1], disk)?;
+    let left = journal(&host);
+    let disk = disk_of(&rt, host.alloc, left.disk.contents(), &[], 0);
+    let run = run_on(&rt, host.alloc, &SEND, "", 1, &[], &[1], disk);
     assert!(rt; is_ended(&run, 5, REGISTER, "write fault\n"));
-    Ok(())
 }

@@ -7,7 +7,6 @@ use crate::tests::{Outcome, disk_of, is_ended, joined, keep_from, run};
 use std::alloc::Global;
 use std::process::Abort;
 use std::sync::Wait;
-use std::test::Fail;
 use std::thread::Threads;
 use tb_link::TextSource;
 use tb_register::{Keeper, MemoryKeeper, Row};
@@ -75,9 +74,9 @@ fn file<R: Abort + Threads + Wait + Sync, K: Keeper>(
     words: &[&str],
     keeper: &mut K,
     failing_writes: &[u64],
-) -> Result<Outcome, Fail> {
-    let ran = run(rt, alloc, &WORDS, left, 4096, &[], &[])?;
-    let disk = disk_of(rt, alloc, ran.disk.contents(), &[], 0)?;
+) -> Outcome {
+    let ran = run(rt, alloc, &WORDS, left, 4096, &[], &[]);
+    let disk = disk_of(rt, alloc, ran.disk.contents(), &[], 0);
     let mut input = TextSource::new(Vec::new(alloc), 1, Vec::new(alloc));
     let (outcome, _gates) = keep_from(
         rt,
@@ -88,9 +87,9 @@ fn file<R: Abort + Threads + Wait + Sync, K: Keeper>(
         disk,
         Vec::new(alloc),
         keeper,
-    )?;
-    assert_eq!(rt; outcome.disk.contents(), ran.disk.contents());
-    Ok(outcome)
+    );
+    assert!(rt; outcome.disk.contents() == ran.disk.contents());
+    outcome
 }
 
 // It ends so, with these texts.
@@ -103,9 +102,31 @@ fn files<R: Abort + Threads + Wait + Sync, K: Keeper>(
     status: u8,
     out: &str,
     err: &str,
-) -> Result<bool, Fail> {
-    let outcome = file(rt, alloc, left, words, keeper, &[])?;
-    Ok(is_ended(&outcome, status, out, err))
+) -> bool {
+    let outcome = file(rt, alloc, left, words, keeper, &[]);
+    is_ended(&outcome, status, out, err)
+}
+
+// All is filed, and these counts are told.
+fn files_all<R: Abort + Threads + Wait + Sync, K: Keeper>(
+    rt: &R,
+    alloc: Global,
+    left: &str,
+    keeper: &mut K,
+    counts: &str,
+) -> bool {
+    files(rt, alloc, left, &ALL, keeper, 0, counts, "")
+}
+
+// The ordinary auction is filed, and its row is told behind these counts.
+fn files_bill<R: Abort + Threads + Wait + Sync, K: Keeper>(
+    rt: &R,
+    alloc: Global,
+    keeper: &mut K,
+    counts: &str,
+) -> bool {
+    let text = joined(rt, alloc, &[counts, LINE]);
+    files(rt, alloc, ADDED, &OF_BILL, keeper, 0, &text, "")
 }
 
 // A row of an auction of which so much is offered.
@@ -134,24 +155,10 @@ fn files_once<R: Abort + Threads + Wait + Sync, K: Keeper>(
     rt: &R,
     alloc: Global,
     keeper: &mut K,
-) -> Result<(), Fail> {
-    let first = joined(alloc, &["added 1\npresent 0\n", LINE])?;
-    let second = joined(alloc, &["added 0\npresent 1\n", LINE])?;
-    assert!(rt; files(rt, alloc, ADDED, &OF_BILL, keeper, 0, &first, "")?);
-    assert!(rt; files(rt, alloc, ADDED, &OF_BILL, keeper, 0, &second, "")?);
-    assert!(rt;
-        files(
-            rt,
-            alloc,
-            ADDED,
-            &ALL,
-            keeper,
-            0,
-            "added 0\npresent 1\n",
-            ""
-        )?
-    );
-    Ok(())
+) -> bool {
+    files_bill(rt, alloc, keeper, "added 1\npresent 0\n")
+        && files_bill(rt, alloc, keeper, "added 0\npresent 1\n")
+        && files_all(rt, alloc, ADDED, keeper, "added 0\npresent 1\n")
 }
 
 // The rows of a bill stand in the order of their names, and what was filed before is there.
@@ -159,36 +166,14 @@ fn files_three<R: Abort + Threads + Wait + Sync, K: Keeper>(
     rt: &R,
     alloc: Global,
     keeper: &mut K,
-) -> Result<(), Fail> {
+) -> bool {
     let words = ["register", "--cusip=912797AB3"];
-    let text = joined(alloc, &["added 2\npresent 1\n", LINES])?;
-    assert!(rt; files(rt, alloc, ONE, &ALL, keeper, 0, "added 1\npresent 0\n", "")?);
-    assert!(rt; files(rt, alloc, THREE, &words, keeper, 0, &text, "")?);
-    assert!(rt;
-        files(
-            rt,
-            alloc,
-            THREE,
-            &OF_BILL,
-            keeper,
-            0,
-            "added 0\npresent 3\n",
-            ""
-        )?
-    );
-    assert!(rt;
-        files(
-            rt,
-            alloc,
-            "end\n",
-            &ALL,
-            keeper,
-            0,
-            "added 0\npresent 0\n",
-            ""
-        )?
-    );
-    Ok(())
+    let text = joined(rt, alloc, &["added 2\npresent 1\n", LINES]);
+    let none = "added 0\npresent 3\n";
+    files_all(rt, alloc, ONE, keeper, "added 1\npresent 0\n")
+        && files(rt, alloc, THREE, &words, keeper, 0, &text, "")
+        && files(rt, alloc, THREE, &OF_BILL, keeper, 0, none, "")
+        && files_all(rt, alloc, "end\n", keeper, "added 0\npresent 0\n")
 }
 
 // Another row of the auction is told.
@@ -196,98 +181,64 @@ fn tells_another<R: Abort + Threads + Wait + Sync, K: Keeper>(
     rt: &R,
     alloc: Global,
     keeper: &mut K,
-) -> Result<(), Fail> {
-    assert_eq!(rt; keeper.put(&row(rt, "bill13", 1_000_000)), Ok(None));
+) -> bool {
     let told = "register differs at bill13\n";
-    assert!(rt; files(rt, alloc, ADDED, &OF_BILL, keeper, 12, "", told)?);
-    Ok(())
+    keeper.put(&row(rt, "bill13", 1_000_000)) == Ok(None)
+        && files(rt, alloc, ADDED, &OF_BILL, keeper, 12, "", told)
 }
 
 #[test]
-fn an_auction_is_filed_once(rt: HostRuntime) -> Result<(), Fail> {
-    files_once(&rt, rt.alloc(), &mut no_fails(rt.alloc()))?;
-    files_once(&rt, rt.alloc(), &mut MemorySqlKeeper::in_memory(rt.alloc()))
+fn an_auction_is_filed_once(rt: HostRuntime) {
+    let alloc = rt.alloc();
+    assert!(rt; files_once(&rt, alloc, &mut no_fails(alloc)));
+    assert!(rt; files_once(&rt, alloc, &mut MemorySqlKeeper::in_memory(alloc)));
 }
 
 #[test]
-fn three_auctions_are_filed(rt: HostRuntime) -> Result<(), Fail> {
-    files_three(&rt, rt.alloc(), &mut no_fails(rt.alloc()))?;
-    files_three(&rt, rt.alloc(), &mut MemorySqlKeeper::in_memory(rt.alloc()))
+fn three_auctions_are_filed(rt: HostRuntime) {
+    let alloc = rt.alloc();
+    assert!(rt; files_three(&rt, alloc, &mut no_fails(alloc)));
+    assert!(rt; files_three(&rt, alloc, &mut MemorySqlKeeper::in_memory(alloc)));
 }
 
 #[test]
-fn another_row_of_an_auction_is_told(rt: HostRuntime) -> Result<(), Fail> {
-    tells_another(&rt, rt.alloc(), &mut no_fails(rt.alloc()))?;
-    tells_another(&rt, rt.alloc(), &mut MemorySqlKeeper::in_memory(rt.alloc()))
+fn another_row_of_an_auction_is_told(rt: HostRuntime) {
+    let alloc = rt.alloc();
+    assert!(rt; tells_another(&rt, alloc, &mut no_fails(alloc)));
+    assert!(rt; tells_another(&rt, alloc, &mut MemorySqlKeeper::in_memory(alloc)));
 }
 
 #[test]
-fn the_first_auction_that_differs_is_told(rt: HostRuntime) -> Result<(), Fail> {
+fn the_first_auction_that_differs_is_told(rt: HostRuntime) {
     let alloc = rt.alloc();
     let mut keeper = no_fails(alloc);
-    assert_eq!(rt; keeper.put(&row(&rt, "c", 1)), Ok(None));
-    assert_eq!(rt; keeper.put(&row(&rt, "a", 1)), Ok(None));
+    assert!(rt; keeper.put(&row(&rt, "c", 1)) == Ok(None));
+    assert!(rt; keeper.put(&row(&rt, "a", 1)) == Ok(None));
     let told = "register differs at c\n";
-    assert!(rt; files(&rt, alloc, THREE, &ALL, &mut keeper, 12, "", told)?);
+    assert!(rt; files(&rt, alloc, THREE, &ALL, &mut keeper, 12, "", told));
     // The one before it is filed, and the one behind it isn't looked at.
-    assert!(rt;
-        files(
-            &rt,
-            alloc,
-            ONE,
-            &ALL,
-            &mut keeper,
-            0,
-            "added 0\npresent 1\n",
-            ""
-        )?
-    );
-    Ok(())
+    assert!(rt; files_all(&rt, alloc, ONE, &mut keeper, "added 0\npresent 1\n"));
 }
 
 // The keeper fails at this call, and nothing is printed.
-fn tells_a_fault<R: Abort + Threads + Wait + Sync>(
-    rt: &R,
-    alloc: Global,
-    call: u64,
-) -> Result<bool, Fail> {
-    let mut keeper = MemoryKeeper::new(alloc, vec![in alloc; call]?);
-    files(
-        rt,
-        alloc,
-        ADDED,
-        &OF_BILL,
-        &mut keeper,
-        13,
-        "",
-        "keeper fault\n",
-    )
+fn tells_a_fault<R: Abort + Threads + Wait + Sync>(rt: &R, alloc: Global, call: u64) -> bool {
+    let fails = vec![in alloc; call].expect(rt, "memory");
+    let mut keeper = MemoryKeeper::new(alloc, fails);
+    let told = "keeper fault\n";
+    files(rt, alloc, ADDED, &OF_BILL, &mut keeper, 13, "", told)
 }
 
 #[test]
-fn a_keeper_that_fails_is_told(rt: HostRuntime) -> Result<(), Fail> {
-    assert!(rt; tells_a_fault(&rt, rt.alloc(), 0)?);
-    assert!(rt; tells_a_fault(&rt, rt.alloc(), 1)?);
-    Ok(())
+fn a_keeper_that_fails_is_told(rt: HostRuntime) {
+    assert!(rt; tells_a_fault(&rt, rt.alloc(), 0));
+    assert!(rt; tells_a_fault(&rt, rt.alloc(), 1));
 }
 
 #[test]
-fn a_write_that_fails_ends_register_when_all_is_filed(rt: HostRuntime) -> Result<(), Fail> {
+fn a_write_that_fails_ends_register_when_all_is_filed(rt: HostRuntime) {
     let alloc = rt.alloc();
     let mut keeper = no_fails(alloc);
-    let failed = file(&rt, alloc, ADDED, &OF_BILL, &mut keeper, &[0])?;
+    let failed = file(&rt, alloc, ADDED, &OF_BILL, &mut keeper, &[0]);
     assert!(rt; is_ended(&failed, 5, "", "write fault\n"));
-    assert!(rt;
-        files(
-            &rt,
-            alloc,
-            ADDED,
-            &ALL,
-            &mut keeper,
-            0,
-            "added 0\npresent 1\n",
-            ""
-        )?
-    );
-    Ok(())
+    assert!(rt; files_all(&rt, alloc, ADDED, &mut keeper, "added 0\npresent 1\n"));
 }

@@ -1,11 +1,10 @@
 //! `report` on what a script left. The texts are worked out by hand from the rules.
 use crate::opening::{RESULTS, registered};
 use crate::run_tests::{ORDINARY, WORDS};
-use crate::tests::{Outcome, disk_of, ended, run, run_on};
+use crate::tests::{Outcome, disk_of, is_ended, run, run_on};
 use std::alloc::Global;
 use std::process::Abort;
 use std::sync::Wait;
-use std::test::Fail;
 use std::thread::Threads;
 
 /// A bill of 1,000, of which 800 went to another, and of the rest all is pledged.
@@ -30,12 +29,12 @@ fn ask<R: Abort + Threads + Wait + Sync>(
     left: &str,
     words: &[&str],
     failing_writes: &[u64],
-) -> Result<Outcome, Fail> {
-    let ran = run(rt, alloc, &WORDS, left, 4096, &[], &[])?;
-    let disk = disk_of(rt, alloc, ran.disk.contents(), &[], 0)?;
-    let report = run_on(rt, alloc, words, "", 1, &[0], failing_writes, disk)?;
-    assert_eq!(rt; report.disk.contents(), ran.disk.contents());
-    Ok(report)
+) -> Outcome {
+    let ran = run(rt, alloc, &WORDS, left, 4096, &[], &[]);
+    let disk = disk_of(rt, alloc, ran.disk.contents(), &[], 0);
+    let report = run_on(rt, alloc, words, "", 1, &[0], failing_writes, disk);
+    assert!(rt; report.disk.contents() == ran.disk.contents());
+    report
 }
 
 /// The question to what the script left ends so, with this text.
@@ -46,52 +45,44 @@ fn is_told<R: Abort + Threads + Wait + Sync>(
     words: &[&str],
     status: u8,
     text: &str,
-) -> Result<(), Fail> {
-    let report = ask(rt, alloc, left, words, &[])?;
-    assert_eq!(rt; report.status, status);
-    assert_eq!(rt; report.out.bytes(), text.as_bytes());
-    Ok(())
+) -> bool {
+    let report = ask(rt, alloc, left, words, &[]);
+    report.status == status && report.out.bytes() == text.as_bytes()
 }
 
 #[test]
-fn results_and_awards_are_told_from_the_disk(rt: HostRuntime) -> Result<(), Fail> {
+fn results_and_awards_are_told_from_the_disk(rt: HostRuntime) {
     let results = ["report", "results", "bill13", "--op=root", "--key=k1"];
-    is_told(&rt, rt.alloc(), ORDINARY, &results, 0, RESULTS)?;
+    assert!(rt; is_told(&rt, rt.alloc(), ORDINARY, &results, 0, RESULTS));
     let awards = [
         "report", "--csv", "awards", "bill13", "--op", "root", "--key", "k1",
     ];
     let table = "bidder,amount,payment\nfund1,20000000000,19784127800.00\n";
-    is_told(&rt, rt.alloc(), ORDINARY, &awards, 0, table)
+    assert!(rt; is_told(&rt, rt.alloc(), ORDINARY, &awards, 0, table));
 }
 
 #[test]
-fn holdings_are_told_to_their_holder(rt: HostRuntime) -> Result<(), Fail> {
+fn holdings_are_told_to_their_holder(rt: HostRuntime) {
     let table = ["report", "holdings", "--key", "k1", "--op", "root", "--csv"];
     let pledged = "cusip,held,pledged,free\n912797AB3,200,200,0\n";
-    is_told(&rt, rt.alloc(), HELD, &table, 0, pledged)?;
+    assert!(rt; is_told(&rt, rt.alloc(), HELD, &table, 0, pledged));
     let lines = ["report", "holdings", "--key", "k2", "--op", "root"];
-    is_told(&rt, rt.alloc(), HELD, &lines, 0, "912797AB3 800 0 800\n")
+    assert!(rt; is_told(&rt, rt.alloc(), HELD, &lines, 0, "912797AB3 800 0 800\n"));
 }
 
 #[test]
-fn refusals_are_told_as_lines(rt: HostRuntime) -> Result<(), Fail> {
+fn refusals_are_told_as_lines(rt: HostRuntime) {
     let unknown = [
         "report", "awards", "sat2", "--key", "k1", "--op", "root", "--csv",
     ];
-    is_told(
-        &rt,
-        rt.alloc(),
-        HELD,
-        &unknown,
-        0,
-        "refused 10 UnknownAuction\n",
-    )?;
+    let refused = "refused 10 UnknownAuction\n";
+    assert!(rt; is_told(&rt, rt.alloc(), HELD, &unknown, 0, refused));
     let nobody = ["report", "holdings", "--key", "k3", "--op", "root"];
-    is_told(&rt, rt.alloc(), HELD, &nobody, 0, "refused 1 UnknownKey\n")
+    assert!(rt; is_told(&rt, rt.alloc(), HELD, &nobody, 0, "refused 1 UnknownKey\n"));
 }
 
 #[test]
-fn results_are_no_table(rt: HostRuntime) -> Result<(), Fail> {
+fn results_are_no_table(rt: HostRuntime) {
     let words = [
         "report",
         "results",
@@ -100,13 +91,12 @@ fn results_are_no_table(rt: HostRuntime) -> Result<(), Fail> {
         "--key=k1",
         "--csv",
     ];
-    is_told(&rt, rt.alloc(), ORDINARY, &words, 2, "")
+    assert!(rt; is_told(&rt, rt.alloc(), ORDINARY, &words, 2, ""));
 }
 
 #[test]
-fn a_write_that_fails_ends_a_report(rt: HostRuntime) -> Result<(), Fail> {
+fn a_write_that_fails_ends_a_report(rt: HostRuntime) {
     let words = ["report", "results", "bill13", "--op=root", "--key=k1"];
-    let failed = ask(&rt, rt.alloc(), ORDINARY, &words, &[0])?;
-    ended(&rt, &failed, 5, "", "write fault\n");
-    Ok(())
+    let failed = ask(&rt, rt.alloc(), ORDINARY, &words, &[0]);
+    assert!(rt; is_ended(&failed, 5, "", "write fault\n"));
 }

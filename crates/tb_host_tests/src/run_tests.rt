@@ -4,7 +4,6 @@ use crate::tests::{Host, ends, joined, runs};
 use std::alloc::Global;
 use std::process::Abort;
 use std::sync::Wait;
-use std::test::Fail;
 use std::thread::Threads;
 
 /// The words of a run whose operator is `root`.
@@ -260,47 +259,41 @@ const ANNOUNCEMENTS: [(&str, &str); 6] = [
 ];
 
 // The ordinary auction, in pieces of this size.
-fn goes_through<R: Abort + Threads + Wait + Sync>(
-    host: &Host<'_, R>,
-    piece: usize,
-) -> Result<bool, Fail> {
-    let told = joined(host.alloc, &[ORDINARY_REPLIES, RESULTS])?;
+fn goes_through<R: Abort + Threads + Wait + Sync>(host: &Host<'_, R>, piece: usize) -> bool {
+    let told = joined(host.rt, host.alloc, &[ORDINARY_REPLIES, RESULTS]);
     runs(host, &WORDS, ORDINARY, piece, 0, &told, "")
 }
 
 #[test]
-fn an_ordinary_auction_goes_from_its_announcement_to_its_awards(
-    rt: HostRuntime,
-) -> Result<(), Fail> {
+fn an_ordinary_auction_goes_from_its_announcement_to_its_awards(rt: HostRuntime) {
     let host = Host {
         rt: &rt,
         alloc: rt.alloc(),
     };
-    assert!(rt; goes_through(&host, 1)?);
-    assert!(rt; goes_through(&host, 100)?);
-    assert!(rt; goes_through(&host, ORDINARY.len())?);
-    Ok(())
+    assert!(rt; goes_through(&host, 1));
+    assert!(rt; goes_through(&host, 100));
+    assert!(rt; goes_through(&host, ORDINARY.len()));
 }
 
 /// The lines behind the first ones, and the end of the script.
-fn script(alloc: Global, first: &str, cases: &[(&str, &str)]) -> Result<String, Fail> {
-    let mut text = first.to_string(alloc)?;
+fn script(rt: &impl Abort, alloc: Global, first: &str, cases: &[(&str, &str)]) -> String {
+    let mut text = first.to_string(alloc).expect(rt, "memory");
     for (line, _) in cases {
-        text.push_str(line)?;
-        text.push('\n')?;
+        text.push_str(line).expect(rt, "memory");
+        text.push('\n').expect(rt, "memory");
     }
-    text.push_str("end\n")?;
-    Ok(text)
+    text.push_str("end\n").expect(rt, "memory");
+    text
 }
 
 /// The replies to them, behind those to the first ones.
-fn replies(alloc: Global, first: &str, cases: &[(&str, &str)]) -> Result<String, Fail> {
-    let mut text = first.to_string(alloc)?;
+fn replies(rt: &impl Abort, alloc: Global, first: &str, cases: &[(&str, &str)]) -> String {
+    let mut text = first.to_string(alloc).expect(rt, "memory");
     for (_, reply) in cases {
-        text.push_str(reply)?;
-        text.push('\n')?;
+        text.push_str(reply).expect(rt, "memory");
+        text.push('\n').expect(rt, "memory");
     }
-    Ok(text)
+    text
 }
 
 /// The first lines are replied to so, and each of the others as it says.
@@ -309,24 +302,23 @@ pub fn are_replied<R: Abort + Threads + Wait + Sync>(
     first: &str,
     first_replies: &str,
     cases: &[(&str, &str)],
-) -> Result<bool, Fail> {
-    let text = script(host.alloc, first, cases)?;
-    let told = replies(host.alloc, first_replies, cases)?;
+) -> bool {
+    let text = script(host.rt, host.alloc, first, cases);
+    let told = replies(host.rt, host.alloc, first_replies, cases);
     runs(host, &WORDS, &text, 4096, 0, &told, "")
 }
 
 #[test]
-fn each_line_has_its_reply(rt: HostRuntime) -> Result<(), Fail> {
+fn each_line_has_its_reply(rt: HostRuntime) {
     let host = Host {
         rt: &rt,
         alloc: rt.alloc(),
     };
-    assert!(rt; are_replied(&host, OPENED, OPENED_REPLIES, &BID_RULES)?);
-    assert!(rt; are_replied(&host, OPENED, OPENED_REPLIES, &CLOSINGS)?);
-    assert!(rt; are_replied(&host, OPENED, OPENED_REPLIES, &READINGS)?);
-    assert!(rt; are_replied(&host, OPENED, OPENED_REPLIES, &ANNOUNCEMENTS)?);
-    assert!(rt; are_replied(&host, ANNOUNCED, ANNOUNCED_REPLIES, &ADD_ONS)?);
-    Ok(())
+    assert!(rt; are_replied(&host, OPENED, OPENED_REPLIES, &BID_RULES));
+    assert!(rt; are_replied(&host, OPENED, OPENED_REPLIES, &CLOSINGS));
+    assert!(rt; are_replied(&host, OPENED, OPENED_REPLIES, &READINGS));
+    assert!(rt; are_replied(&host, OPENED, OPENED_REPLIES, &ANNOUNCEMENTS));
+    assert!(rt; are_replied(&host, ANNOUNCED, ANNOUNCED_REPLIES, &ADD_ONS));
 }
 
 const FIRST: &str = registered!();
@@ -337,61 +329,57 @@ fn stops<R: Abort + Threads + Wait + Sync>(
     rest: &str,
     out: &str,
     told: &str,
-) -> Result<bool, Fail> {
-    let text = joined(host.alloc, &[FIRST, rest])?;
-    let out = joined(host.alloc, &["accepted 1 1730700000\n", out])?;
+) -> bool {
+    let text = joined(host.rt, host.alloc, &[FIRST, rest]);
+    let out = joined(host.rt, host.alloc, &["accepted 1 1730700000\n", out]);
     runs(host, &WORDS, &text, 7, 3, &out, told)
 }
 
 #[test]
-fn lines_before_a_bad_one_are_acted_on(rt: HostRuntime) -> Result<(), Fail> {
+fn lines_before_a_bad_one_are_acted_on(rt: HostRuntime) {
     let host = Host {
         rt: &rt,
         alloc: rt.alloc(),
     };
     let second = "bad input at line 2\n";
-    assert!(rt; stops(&host, "\nk1 {}\nend\n", "", second)?);
-    assert!(rt; stops(&host, "\n", "", second)?);
-    assert!(rt; stops(&host, "", "", second)?);
-    assert!(rt; stops(&host, "\n1730700000 k1 \nend\n", "", second)?);
-    assert!(rt; stops(&host, "\n1730700000  k1 {}\nend\n", "", second)?);
-    assert!(rt; stops(&host, "\n946702799 k1 {}\nend\n", "", second)?);
-    assert!(rt; stops(&host, "\nend \n", "", second)?);
+    assert!(rt; stops(&host, "\nk1 {}\nend\n", "", second));
+    assert!(rt; stops(&host, "\n", "", second));
+    assert!(rt; stops(&host, "", "", second));
+    assert!(rt; stops(&host, "\n1730700000 k1 \nend\n", "", second));
+    assert!(rt; stops(&host, "\n1730700000  k1 {}\nend\n", "", second));
+    assert!(rt; stops(&host, "\n946702799 k1 {}\nend\n", "", second));
+    assert!(rt; stops(&host, "\nend \n", "", second));
     assert!(rt;
         stops(
             &host,
             "\n1730700000 k1 {\n\n",
             "refused 5 BadJson\n",
             "bad input at line 3\n",
-        )?
+        )
     );
-    Ok(())
 }
 
 #[test]
-fn a_script_may_be_empty_and_its_last_line_may_lack_the_line_feed(
-    rt: HostRuntime,
-) -> Result<(), Fail> {
+fn a_script_may_be_empty_and_its_last_line_may_lack_the_line_feed(rt: HostRuntime) {
     let host = Host {
         rt: &rt,
         alloc: rt.alloc(),
     };
     let words = ["run", "--op=root"];
-    assert!(rt; runs(&host, &words, "end\n", 3, 0, "", "")?);
-    assert!(rt; runs(&host, &words, "end", 3, 0, "", "")?);
-    assert!(rt; runs(&host, &words, "end\r\nwhat comes behind", 3, 0, "", "")?);
-    assert!(rt; runs(&host, &words, "end\nend\n", 3, 0, "", "")?);
-    Ok(())
+    assert!(rt; runs(&host, &words, "end\n", 3, 0, "", ""));
+    assert!(rt; runs(&host, &words, "end", 3, 0, "", ""));
+    assert!(rt; runs(&host, &words, "end\r\nwhat comes behind", 3, 0, "", ""));
+    assert!(rt; runs(&host, &words, "end\nend\n", 3, 0, "", ""));
 }
 
 #[test]
-fn faulty_words_are_told(rt: HostRuntime) -> Result<(), Fail> {
+fn faulty_words_are_told(rt: HostRuntime) {
     let host = Host {
         rt: &rt,
         alloc: rt.alloc(),
     };
-    assert!(rt; runs(&host, &["run"], "end\n", 3, 2, "", "usage\n")?);
-    assert!(rt; runs(&host, &["run", "--op"], "end\n", 3, 2, "", "usage\n")?);
+    assert!(rt; runs(&host, &["run"], "end\n", 3, 2, "", "usage\n"));
+    assert!(rt; runs(&host, &["run", "--op"], "end\n", 3, 2, "", "usage\n"));
     assert!(rt;
         runs(
             &host,
@@ -401,7 +389,7 @@ fn faulty_words_are_told(rt: HostRuntime) -> Result<(), Fail> {
             2,
             "",
             "usage\n"
-        )?
+        )
     );
     assert!(rt;
         runs(
@@ -412,7 +400,7 @@ fn faulty_words_are_told(rt: HostRuntime) -> Result<(), Fail> {
             2,
             "",
             "usage\n"
-        )?
+        )
     );
     assert!(rt;
         runs(
@@ -423,9 +411,9 @@ fn faulty_words_are_told(rt: HostRuntime) -> Result<(), Fail> {
             2,
             "",
             "usage\n"
-        )?
+        )
     );
-    assert!(rt; runs(&host, &["trial", "1", "0"], "end\n", 3, 2, "", "usage\n")?);
+    assert!(rt; runs(&host, &["trial", "1", "0"], "end\n", 3, 2, "", "usage\n"));
     assert!(rt;
         runs(
             &host,
@@ -435,9 +423,8 @@ fn faulty_words_are_told(rt: HostRuntime) -> Result<(), Fail> {
             2,
             "",
             "usage\n"
-        )?
+        )
     );
-    Ok(())
 }
 
 pub const TWO: &str = registered!("\n1730700000 k1 {}\nend\n");
@@ -445,43 +432,37 @@ pub const TWO: &str = registered!("\n1730700000 k1 {}\nend\n");
 const TWO_REPLIES: &str = "accepted 1 1730700000\nrefused 6 BadShape number\n";
 
 // Each byte is a read, and this one fails.
-fn is_cut_off<R: Abort + Threads + Wait + Sync>(
-    host: &Host<'_, R>,
-    read: u64,
-    out: &str,
-) -> Result<bool, Fail> {
+fn is_cut_off<R: Abort + Threads + Wait + Sync>(host: &Host<'_, R>, read: u64, out: &str) -> bool {
     ends(host, &WORDS, TWO, 1, &[read], &[], 4, out, "read fault\n")
 }
 
 // The lines end behind 83, 100 and 104 bytes, and nothing is read behind them.
 #[test]
-fn whole_lines_are_acted_on_where_a_read_fails(rt: HostRuntime) -> Result<(), Fail> {
+fn whole_lines_are_acted_on_where_a_read_fails(rt: HostRuntime) {
     let host = Host {
         rt: &rt,
         alloc: rt.alloc(),
     };
-    assert!(rt; is_cut_off(&host, 0, "")?);
-    assert!(rt; is_cut_off(&host, 82, "")?);
-    assert!(rt; is_cut_off(&host, 83, "accepted 1 1730700000\n")?);
-    assert!(rt; is_cut_off(&host, 99, "accepted 1 1730700000\n")?);
-    assert!(rt; is_cut_off(&host, 100, TWO_REPLIES)?);
-    assert!(rt; is_cut_off(&host, 103, TWO_REPLIES)?);
-    assert!(rt; ends(&host, &WORDS, TWO, 1, &[104], &[], 0, TWO_REPLIES, "")?);
-    Ok(())
+    assert!(rt; is_cut_off(&host, 0, ""));
+    assert!(rt; is_cut_off(&host, 82, ""));
+    assert!(rt; is_cut_off(&host, 83, "accepted 1 1730700000\n"));
+    assert!(rt; is_cut_off(&host, 99, "accepted 1 1730700000\n"));
+    assert!(rt; is_cut_off(&host, 100, TWO_REPLIES));
+    assert!(rt; is_cut_off(&host, 103, TWO_REPLIES));
+    assert!(rt; ends(&host, &WORDS, TWO, 1, &[104], &[], 0, TWO_REPLIES, ""));
 }
 
 // Each line has one write.
 #[test]
-fn a_write_that_fails_ends_the_run(rt: HostRuntime) -> Result<(), Fail> {
+fn a_write_that_fails_ends_the_run(rt: HostRuntime) {
     let host = Host {
         rt: &rt,
         alloc: rt.alloc(),
     };
     let first = "accepted 1 1730700000\n";
-    assert!(rt; ends(&host, &WORDS, TWO, 64, &[], &[0], 5, "", "write fault\n")?);
-    assert!(rt; ends(&host, &WORDS, TWO, 64, &[], &[1], 5, first, "write fault\n")?);
-    assert!(rt; ends(&host, &WORDS, TWO, 64, &[], &[2], 0, TWO_REPLIES, "")?);
-    Ok(())
+    assert!(rt; ends(&host, &WORDS, TWO, 64, &[], &[0], 5, "", "write fault\n"));
+    assert!(rt; ends(&host, &WORDS, TWO, 64, &[], &[1], 5, first, "write fault\n"));
+    assert!(rt; ends(&host, &WORDS, TWO, 64, &[], &[2], 0, TWO_REPLIES, ""));
 }
 
 // What dealer1 sends before the others' bids, and behind them.
@@ -516,19 +497,28 @@ lines 2
 2 b n 100 live
 ";
 
-/// A thousand bids of another dealer, and the replies to them.
-fn other_bids(alloc: Global) -> Result<(String, String), Fail> {
+// A thousand bids of another dealer.
+fn other_bids(rt: &impl Abort, alloc: Global) -> String {
     let mut bids = String::new(alloc);
-    let mut accepted = String::new(alloc);
     for number in 1..=1000 {
-        bids.push_str(format!(in alloc;
+        let bid = format!(in alloc;
             "1730700001 k2 {{\"number\":{number},\"kind\":\"bid\",\"auction\":\"x\",\"bidder\":\"c\",\
             \"rate\":\"4.000\",\"amount\":100}}\n"
-        )?
-        .as_str())?;
-        accepted.push_str(format!(in alloc; "accepted {number} 1730700001\n")?.as_str())?;
+        )
+        .expect(rt, "memory");
+        bids.push_str(&bid).expect(rt, "memory");
     }
-    Ok((bids, accepted))
+    bids
+}
+
+// The replies to them.
+fn other_replies(rt: &impl Abort, alloc: Global) -> String {
+    let mut accepted = String::new(alloc);
+    for number in 1..=1000 {
+        let reply = format!(in alloc; "accepted {number} 1730700001\n").expect(rt, "memory");
+        accepted.push_str(&reply).expect(rt, "memory");
+    }
+    accepted
 }
 
 // Dealer1's lines with those of others between, and the replies.
@@ -536,23 +526,24 @@ fn is_told_the_same<R: Abort + Threads + Wait + Sync>(
     host: &Host<'_, R>,
     others: &str,
     replies: &str,
-) -> Result<bool, Fail> {
-    let text = joined(host.alloc, &[OPENED, BEFORE, others, BEHIND])?;
+) -> bool {
+    let text = joined(host.rt, host.alloc, &[OPENED, BEFORE, others, BEHIND]);
     let told = joined(
+        host.rt,
         host.alloc,
         &[OPENED_REPLIES, BEFORE_REPLIES, replies, BEHIND_REPLIES],
-    )?;
+    );
     runs(host, &WORDS, &text, 8192, 0, &told, "")
 }
 
 #[test]
-fn replies_are_the_same_where_others_send_a_thousand_bids(rt: HostRuntime) -> Result<(), Fail> {
+fn replies_are_the_same_where_others_send_a_thousand_bids(rt: HostRuntime) {
     let host = Host {
         rt: &rt,
         alloc: rt.alloc(),
     };
-    let (bids, accepted) = other_bids(rt.alloc())?;
-    assert!(rt; is_told_the_same(&host, "", "")?);
-    assert!(rt; is_told_the_same(&host, &bids, &accepted)?);
-    Ok(())
+    let bids = other_bids(&rt, rt.alloc());
+    let accepted = other_replies(&rt, rt.alloc());
+    assert!(rt; is_told_the_same(&host, "", ""));
+    assert!(rt; is_told_the_same(&host, &bids, &accepted));
 }

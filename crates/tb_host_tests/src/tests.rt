@@ -2,7 +2,6 @@
 use std::alloc::Global;
 use std::process::Abort;
 use std::sync::Wait;
-use std::test::Fail;
 use std::thread::Threads;
 use tb_disk::MemoryDisk;
 use tb_gates::{ListClock, ListGate};
@@ -152,7 +151,7 @@ pub fn runs<R: Abort + Threads + Wait + Sync>(
     status: u8,
     out: &str,
     err: &str,
-) -> Result<bool, Fail> {
+) -> bool {
     ends(host, words, text, piece, &[], &[], status, out, err)
 }
 
@@ -167,7 +166,7 @@ pub fn ends<R: Abort + Threads + Wait + Sync>(
     status: u8,
     out: &str,
     err: &str,
-) -> Result<bool, Fail> {
+) -> bool {
     let run = run(
         host.rt,
         host.alloc,
@@ -176,8 +175,8 @@ pub fn ends<R: Abort + Threads + Wait + Sync>(
         piece,
         failing_reads,
         failing_writes,
-    )?;
-    Ok(is_ended(&run, status, out, err))
+    );
+    is_ended(&run, status, out, err)
 }
 
 /// The run ended with this status, and has written this to its output and this to its errors.
@@ -186,25 +185,17 @@ pub fn is_ended(run: &Outcome, status: u8, out: &str, err: &str) -> bool {
 }
 
 /// The texts, one behind the other.
-pub fn joined(alloc: Global, texts: &[&str]) -> Result<String, Fail> {
+pub fn joined(rt: &impl Abort, alloc: Global, texts: &[&str]) -> String {
     let mut whole = String::new(alloc);
     for text in texts {
-        whole.push_str(text)?;
+        whole.push_str(text).expect(rt, "memory");
     }
-    Ok(whole)
-}
-
-/// The same, told of each part.
-pub fn ended(rt: &impl Abort, run: &Outcome, status: u8, out: &str, err: &str) {
-    assert_eq!(rt; run.status, status);
-    assert_eq!(rt; run.out.bytes(), out.as_bytes());
-    assert_eq!(rt; run.err.bytes(), err.as_bytes());
+    whole
 }
 
 /// The run ended so, and its disk has these contents.
-pub fn leaves(rt: &impl Abort, run: &Outcome, status: u8, out: &str, err: &str, contents: &[u8]) {
-    ended(rt, run, status, out, err);
-    assert_eq!(rt; run.disk.contents(), contents);
+pub fn leaves(run: &Outcome, status: u8, out: &str, err: &str, contents: &[u8]) -> bool {
+    is_ended(run, status, out, err) && run.disk.contents() == contents
 }
 
 /// A disk with these contents and some room, of which the calls of these numbers fail: a failed write leaves the byte
@@ -215,13 +206,14 @@ pub fn disk_of(
     contents: &[u8],
     fails: &[u64],
     torn: u8,
-) -> Result<MemoryDisk, Fail> {
+) -> MemoryDisk {
     assert!(rt; contents.len() < 10_000);
-    Ok(MemoryDisk::new(alloc, contents, 10_000, 100_000, fails.to_vec(alloc)?, torn)?)
+    let fails = fails.to_vec(alloc).expect(rt, "memory");
+    MemoryDisk::new(alloc, contents, 10_000, 100_000, fails, torn).expect(rt, "memory")
 }
 
 /// Runs the host on an empty disk. The reads and writes of these numbers fail.
-pub fn run<R: Threads + Wait + Sync>(
+pub fn run<R: Abort + Threads + Wait + Sync>(
     rt: &R,
     alloc: Global,
     words: &[&str],
@@ -229,8 +221,9 @@ pub fn run<R: Threads + Wait + Sync>(
     piece: usize,
     failing_reads: &[u64],
     failing_writes: &[u64],
-) -> Result<Outcome, Fail> {
-    let disk = MemoryDisk::new(alloc, b"", 300_000, 1_000_000, Vec::new(alloc), 0)?;
+) -> Outcome {
+    let none = Vec::new(alloc);
+    let disk = MemoryDisk::new(alloc, b"", 300_000, 1_000_000, none, 0).expect(rt, "memory");
     run_on(
         rt,
         alloc,
@@ -244,7 +237,7 @@ pub fn run<R: Threads + Wait + Sync>(
 }
 
 /// Runs the host on a disk.
-pub fn run_on<R: Threads + Wait + Sync>(
+pub fn run_on<R: Abort + Threads + Wait + Sync>(
     rt: &R,
     alloc: Global,
     words: &[&str],
@@ -253,7 +246,7 @@ pub fn run_on<R: Threads + Wait + Sync>(
     failing_reads: &[u64],
     failing_writes: &[u64],
     disk: MemoryDisk,
-) -> Result<Outcome, Fail> {
+) -> Outcome {
     let (outcome, _gates) = serve_on(
         rt,
         alloc,
@@ -264,12 +257,12 @@ pub fn run_on<R: Threads + Wait + Sync>(
         failing_writes,
         disk,
         Vec::new(alloc),
-    )?;
-    Ok(outcome)
+    );
+    outcome
 }
 
 /// Runs the host on a disk and these gates, which are as many as the words say.
-pub fn serve_on<R: Threads + Wait + Sync>(
+pub fn serve_on<R: Abort + Threads + Wait + Sync>(
     rt: &R,
     alloc: Global,
     words: &[&str],
@@ -279,17 +272,17 @@ pub fn serve_on<R: Threads + Wait + Sync>(
     failing_writes: &[u64],
     disk: MemoryDisk,
     gates: Vec<ListGate>,
-) -> Result<(Outcome, Vec<ListGate>), Fail> {
+) -> (Outcome, Vec<ListGate>) {
     let mut input = TextSource::new(
-        text.as_bytes().to_vec(alloc)?,
+        text.as_bytes().to_vec(alloc).expect(rt, "memory"),
         piece.max(1),
-        failing_reads.to_vec(alloc)?,
+        failing_reads.to_vec(alloc).expect(rt, "memory"),
     );
     serve_from(rt, alloc, words, &mut input, failing_writes, disk, gates)
 }
 
 /// Runs the host on an input, a disk and these gates, with an empty register.
-pub fn serve_from<R: Threads + Wait + Sync, I: Source>(
+pub fn serve_from<R: Abort + Threads + Wait + Sync, I: Source>(
     rt: &R,
     alloc: Global,
     words: &[&str],
@@ -297,7 +290,7 @@ pub fn serve_from<R: Threads + Wait + Sync, I: Source>(
     failing_writes: &[u64],
     disk: MemoryDisk,
     gates: Vec<ListGate>,
-) -> Result<(Outcome, Vec<ListGate>), Fail> {
+) -> (Outcome, Vec<ListGate>) {
     let mut keeper = MemoryKeeper::new(alloc, Vec::new(alloc));
     keep_from(
         rt,
@@ -311,8 +304,24 @@ pub fn serve_from<R: Threads + Wait + Sync, I: Source>(
     )
 }
 
+// The words, as the host takes them.
+fn owned(rt: &impl Abort, alloc: Global, words: &[&str]) -> Vec<String> {
+    let mut owned = Vec::new(alloc);
+    for word in words {
+        let word = word.to_string(alloc).expect(rt, "memory");
+        owned.push(word).expect(rt, "memory");
+    }
+    owned
+}
+
+// A sink of which the writes of these numbers fail.
+fn sink(rt: &impl Abort, alloc: Global, fails: &[u64]) -> TextSink {
+    let fails = fails.to_vec(alloc).expect(rt, "memory");
+    TextSink::new(alloc, ROOM, fails).expect(rt, "memory")
+}
+
 /// Runs the host on an input, a disk, these gates and this register.
-pub fn keep_from<R: Threads + Wait + Sync, I: Source, K: Keeper>(
+pub fn keep_from<R: Abort + Threads + Wait + Sync, I: Source, K: Keeper>(
     rt: &R,
     alloc: Global,
     words: &[&str],
@@ -321,20 +330,19 @@ pub fn keep_from<R: Threads + Wait + Sync, I: Source, K: Keeper>(
     disk: MemoryDisk,
     mut gates: Vec<ListGate>,
     keeper: &mut K,
-) -> Result<(Outcome, Vec<ListGate>), Fail> {
-    let mut owned = Vec::new(alloc);
-    for word in words {
-        owned.push(word.to_string(alloc)?)?;
-    }
+) -> (Outcome, Vec<ListGate>) {
+    let owned = owned(rt, alloc, words);
     let owned = owned.as_slice();
-    let plan = plan(alloc, owned)?;
+    let Ok(plan) = plan(alloc, owned) else {
+        panic!(rt; "memory");
+    };
     if gates.len() != plan.workers as usize {
-        return Err("other gates")?;
+        panic!(rt; "other gates");
     }
-    let mut out = TextSink::new(alloc, ROOM, failing_writes.to_vec(alloc)?)?;
-    let mut err = TextSink::new(alloc, ROOM, Vec::new(alloc))?;
-    let mut spare = MemoryDisk::new(alloc, b"spare", 5, 0, Vec::new(alloc), 0)?;
-    let clock = ListClock::new(Vec::from_array(alloc, [NOON])?);
+    let mut out = sink(rt, alloc, failing_writes);
+    let mut err = sink(rt, alloc, &[]);
+    let mut spare = MemoryDisk::new(alloc, b"spare", 5, 0, Vec::new(alloc), 0).expect(rt, "memory");
+    let clock = ListClock::new(Vec::from_array(alloc, [NOON]).expect(rt, "memory"));
     let ended = host_main(
         rt, alloc, owned, input, &mut out, &mut err, disk, &mut spare, &mut gates, clock, keeper,
     );
@@ -344,49 +352,47 @@ pub fn keep_from<R: Threads + Wait + Sync, I: Source, K: Keeper>(
         err,
         disk: ended.disk,
     };
-    Ok((outcome, gates))
+    (outcome, gates)
 }
 
 const FULL: [&str; 2] = ["award", "full"];
 
 #[test]
-fn the_text_is_printed_however_the_book_is_cut_into_pieces(rt: HostRuntime) -> Result<(), Fail> {
+fn the_text_is_printed_however_the_book_is_cut_into_pieces(rt: HostRuntime) {
     let host = Host {
         rt: &rt,
         alloc: rt.alloc(),
     };
-    assert!(rt; runs(&host, &["award"], BOOK, 1, 0, TEXT, "")?);
-    assert!(rt; runs(&host, &["award"], BOOK, 2, 0, TEXT, "")?);
-    assert!(rt; runs(&host, &["award"], BOOK, 7, 0, TEXT, "")?);
-    assert!(rt; runs(&host, &["award"], BOOK, BOOK.len(), 0, TEXT, "")?);
-    assert!(rt; runs(&host, &FULL, BOOK, 1, 0, FULL_TEXT, "")?);
-    assert!(rt; runs(&host, &FULL, BOOK, 2, 0, FULL_TEXT, "")?);
-    assert!(rt; runs(&host, &FULL, BOOK, 7, 0, FULL_TEXT, "")?);
-    assert!(rt; runs(&host, &FULL, BOOK, BOOK.len(), 0, FULL_TEXT, "")?);
-    Ok(())
+    assert!(rt; runs(&host, &["award"], BOOK, 1, 0, TEXT, ""));
+    assert!(rt; runs(&host, &["award"], BOOK, 2, 0, TEXT, ""));
+    assert!(rt; runs(&host, &["award"], BOOK, 7, 0, TEXT, ""));
+    assert!(rt; runs(&host, &["award"], BOOK, BOOK.len(), 0, TEXT, ""));
+    assert!(rt; runs(&host, &FULL, BOOK, 1, 0, FULL_TEXT, ""));
+    assert!(rt; runs(&host, &FULL, BOOK, 2, 0, FULL_TEXT, ""));
+    assert!(rt; runs(&host, &FULL, BOOK, 7, 0, FULL_TEXT, ""));
+    assert!(rt; runs(&host, &FULL, BOOK, BOOK.len(), 0, FULL_TEXT, ""));
 }
 
 #[test]
-fn worked_books_have_their_texts(rt: HostRuntime) -> Result<(), Fail> {
+fn worked_books_have_their_texts(rt: HostRuntime) {
     let host = Host {
         rt: &rt,
         alloc: rt.alloc(),
     };
-    assert!(rt; runs(&host, &FULL, CUT_BOOK, 64, 0, CUT_TEXT, "")?);
-    assert!(rt; runs(&host, &FULL, LOWERED_BOOK, 64, 0, LOWERED_TEXT, "")?);
-    assert!(rt; runs(&host, &FULL, SHORT_BOOK, 64, 0, SHORT_TEXT, "")?);
-    assert!(rt; runs(&host, &FULL, FLOOR_BOOK, 64, 0, FLOOR_TEXT, "")?);
-    assert!(rt; runs(&host, &FULL, THIRD_BOOK, 64, 0, THIRD_TEXT, "")?);
-    Ok(())
+    assert!(rt; runs(&host, &FULL, CUT_BOOK, 64, 0, CUT_TEXT, ""));
+    assert!(rt; runs(&host, &FULL, LOWERED_BOOK, 64, 0, LOWERED_TEXT, ""));
+    assert!(rt; runs(&host, &FULL, SHORT_BOOK, 64, 0, SHORT_TEXT, ""));
+    assert!(rt; runs(&host, &FULL, FLOOR_BOOK, 64, 0, FLOOR_TEXT, ""));
+    assert!(rt; runs(&host, &FULL, THIRD_BOOK, 64, 0, THIRD_TEXT, ""));
 }
 
 #[test]
-fn nobody_gets_an_award_where_nothing_is_recognised(rt: HostRuntime) -> Result<(), Fail> {
+fn nobody_gets_an_award_where_nothing_is_recognised(rt: HostRuntime) {
     let host = Host {
         rt: &rt,
         alloc: rt.alloc(),
     };
-    assert!(rt; runs(&host, &["award"], POSITION_ALONE, 7, 0, "no awards\n", "")?);
+    assert!(rt; runs(&host, &["award"], POSITION_ALONE, 7, 0, "no awards\n", ""));
     assert!(rt;
         runs(
             &host,
@@ -396,42 +402,37 @@ fn nobody_gets_an_award_where_nothing_is_recognised(rt: HostRuntime) -> Result<(
             0,
             "no awards\naward z 0 0.00\n",
             ""
-        )?
+        )
     );
-    Ok(())
 }
 
 // Each byte of the book is a read: so one of them fails.
-fn tells_each_read<R: Abort + Threads + Wait + Sync>(
-    host: &Host<'_, R>,
-    words: &[&str],
-) -> Result<bool, Fail> {
+fn tells_each_read<R: Abort + Threads + Wait + Sync>(host: &Host<'_, R>, words: &[&str]) -> bool {
     for call in 0..BOOK.len() as u64 {
-        if !ends(host, words, BOOK, 1, &[call], &[], 4, "", "read fault\n")? {
-            return Ok(false);
+        if !ends(host, words, BOOK, 1, &[call], &[], 4, "", "read fault\n") {
+            return false;
         }
     }
-    Ok(true)
+    true
 }
 
 #[test]
-fn each_read_that_fails_ends_the_run(rt: HostRuntime) -> Result<(), Fail> {
+fn each_read_that_fails_ends_the_run(rt: HostRuntime) {
     let host = Host {
         rt: &rt,
         alloc: rt.alloc(),
     };
     let reads = BOOK.len() as u64;
-    assert!(rt; tells_each_read(&host, &["award"])?);
-    assert!(rt; tells_each_read(&host, &FULL)?);
+    assert!(rt; tells_each_read(&host, &["award"]));
+    assert!(rt; tells_each_read(&host, &FULL));
     // Nothing is read behind them.
-    assert!(rt; ends(&host, &["award"], BOOK, 1, &[reads], &[], 0, TEXT, "")?);
-    assert!(rt; ends(&host, &FULL, BOOK, 1, &[reads], &[], 0, FULL_TEXT, "")?);
-    Ok(())
+    assert!(rt; ends(&host, &["award"], BOOK, 1, &[reads], &[], 0, TEXT, ""));
+    assert!(rt; ends(&host, &FULL, BOOK, 1, &[reads], &[], 0, FULL_TEXT, ""));
 }
 
 // There is one write.
 #[test]
-fn each_write_that_fails_ends_the_run(rt: HostRuntime) -> Result<(), Fail> {
+fn each_write_that_fails_ends_the_run(rt: HostRuntime) {
     let host = Host {
         rt: &rt,
         alloc: rt.alloc(),
@@ -447,9 +448,9 @@ fn each_write_that_fails_ends_the_run(rt: HostRuntime) -> Result<(), Fail> {
             5,
             "",
             "write fault\n"
-        )?
+        )
     );
-    assert!(rt; ends(&host, &["award"], BOOK, BOOK.len(), &[], &[1], 0, TEXT, "")?);
+    assert!(rt; ends(&host, &["award"], BOOK, BOOK.len(), &[], &[1], 0, TEXT, ""));
     assert!(rt;
         ends(
             &host,
@@ -461,26 +462,25 @@ fn each_write_that_fails_ends_the_run(rt: HostRuntime) -> Result<(), Fail> {
             5,
             "",
             "write fault\n"
-        )?
+        )
     );
-    assert!(rt; ends(&host, &FULL, BOOK, BOOK.len(), &[], &[1], 0, FULL_TEXT, "")?);
-    Ok(())
+    assert!(rt; ends(&host, &FULL, BOOK, BOOK.len(), &[], &[1], 0, FULL_TEXT, ""));
 }
 
 // The award of a book of two lines, without an end or with a bid too many, ends at the third.
 #[test]
-fn faulty_words_and_books_are_told(rt: HostRuntime) -> Result<(), Fail> {
+fn faulty_words_and_books_are_told(rt: HostRuntime) {
     let host = Host {
         rt: &rt,
         alloc: rt.alloc(),
     };
     let unended = "offering 1000000000 1000000 91\nn a 100\n";
     let mixed = "offering 1000000000 1000000 91\nn a 100\nc a 5.000 100\nend\n";
-    assert!(rt; runs(&host, &[], BOOK, 7, 2, "", "usage\n")?);
-    assert!(rt; runs(&host, &["award", "more"], BOOK, 7, 2, "", "usage\n")?);
-    assert!(rt; runs(&host, &["award", "full", "full"], BOOK, 7, 2, "", "usage\n")?);
-    assert!(rt; runs(&host, &["trial", "1", "0"], BOOK, 7, 2, "", "usage\n")?);
-    assert!(rt; runs(&host, &["award"], "", 7, 3, "", "bad input at line 1\n")?);
+    assert!(rt; runs(&host, &[], BOOK, 7, 2, "", "usage\n"));
+    assert!(rt; runs(&host, &["award", "more"], BOOK, 7, 2, "", "usage\n"));
+    assert!(rt; runs(&host, &["award", "full", "full"], BOOK, 7, 2, "", "usage\n"));
+    assert!(rt; runs(&host, &["trial", "1", "0"], BOOK, 7, 2, "", "usage\n"));
+    assert!(rt; runs(&host, &["award"], "", 7, 3, "", "bad input at line 1\n"));
     assert!(rt;
         runs(
             &host,
@@ -490,14 +490,13 @@ fn faulty_words_and_books_are_told(rt: HostRuntime) -> Result<(), Fail> {
             3,
             "",
             "bad input at line 3\n"
-        )?
+        )
     );
-    assert!(rt; runs(&host, &FULL, mixed, 7, 3, "", "bad input at line 3\n")?);
-    Ok(())
+    assert!(rt; runs(&host, &FULL, mixed, 7, 3, "", "bad input at line 3\n"));
 }
 
 #[test]
-fn a_trial_prints_its_figures(rt: HostRuntime) -> Result<(), Fail> {
+fn a_trial_prints_its_figures(rt: HostRuntime) {
     let host = Host {
         rt: &rt,
         alloc: rt.alloc(),
@@ -505,7 +504,6 @@ fn a_trial_prints_its_figures(rt: HostRuntime) -> Result<(), Fail> {
     let words = ["trial", "1", "1"];
     let text = "bids 1\nhigh 5.050\nallotted 100.00\nprice 98.723472\nawarded 27200\n";
     // No read is made.
-    assert!(rt; ends(&host, &words, BOOK, 7, &[0], &[1], 0, text, "")?);
-    assert!(rt; ends(&host, &words, BOOK, 7, &[], &[0], 5, "", "write fault\n")?);
-    Ok(())
+    assert!(rt; ends(&host, &words, BOOK, 7, &[0], &[1], 0, text, ""));
+    assert!(rt; ends(&host, &words, BOOK, 7, &[], &[0], 5, "", "write fault\n"));
 }
