@@ -1,8 +1,8 @@
 //! The worked auction: its script, what it is told, and the bytes that it leaves. All of it is worked out by hand from
 //! the formats and the rules.
 use crate::trying::{Host, disk_of, is_ended, run};
+use std::process::Abort;
 use std::sync::Wait;
-use std::test::Fail;
 use std::thread::Threads;
 
 pub const RUN: [&str; 3] = ["run", "--op", "root"];
@@ -118,50 +118,53 @@ pub const ALL: [&[u8]; 5] = [REGISTER, ENROL, ANNOUNCE, BID, PUBLISH];
 /// The journal of no entry.
 pub const EMPTY: &[u8] = b"TBHOSTJOURNAL002\x01\0";
 
-// The length of a record, in the four bytes of the formats.
-fn length_of(record: &[u8]) -> Result<[u8; 4], Fail> {
-    match u32::try_from(record.len()) {
-        Ok(length) => Ok(length.to_be_bytes()),
-        Err(_) => Err("too long a record")?,
-    }
+// The length of a record, the number of those before it, and the record, in the bytes of the formats.
+fn push_record(rt: &impl Abort, bytes: &mut Vec<u8>, before: u64, record: &[u8]) {
+    let length = u32::try_from(record.len()).expect(rt, "too long a record");
+    bytes
+        .extend_from_slice(&length.to_be_bytes())
+        .expect(rt, "memory");
+    bytes
+        .extend_from_slice(&before.to_be_bytes())
+        .expect(rt, "memory");
+    bytes.extend_from_slice(record).expect(rt, "memory");
 }
 
 /// The journal of these entries, each under a gate of its own.
-pub fn journal<R>(host: &Host<'_, R>, records: &[&[u8]]) -> Result<Vec<u8>, Fail> {
-    let mut file = b"TBHOSTJOURNAL002\x01".to_vec(host.alloc)?;
+pub fn journal<R: Abort>(host: &Host<'_, R>, records: &[&[u8]]) -> Vec<u8> {
+    let rt = host.rt;
+    let mut file = b"TBHOSTJOURNAL002\x01"
+        .to_vec(host.alloc)
+        .expect(rt, "memory");
     let mut before = 0u64;
     for record in records {
-        file.push(1)?;
-        file.extend_from_slice(&length_of(record)?)?;
-        file.extend_from_slice(&before.to_be_bytes())?;
-        file.extend_from_slice(record)?;
+        file.push(1).expect(rt, "memory");
+        push_record(rt, &mut file, before, record);
         before = before.saturating_add(1);
     }
-    file.push(0)?;
-    Ok(file)
+    file.push(0).expect(rt, "memory");
+    file
 }
 
 /// The parcels of these entries.
-pub fn parcels<R>(host: &Host<'_, R>, records: &[&[u8]]) -> Result<Vec<u8>, Fail> {
+pub fn parcels<R: Abort>(host: &Host<'_, R>, records: &[&[u8]]) -> Vec<u8> {
     let mut parcels = Vec::new(host.alloc);
     let mut before = 0u64;
     for record in records {
-        parcels.extend_from_slice(&length_of(record)?)?;
-        parcels.extend_from_slice(&before.to_be_bytes())?;
-        parcels.extend_from_slice(record)?;
+        push_record(host.rt, &mut parcels, before, record);
         before = before.saturating_add(1);
     }
-    Ok(parcels)
+    parcels
 }
 
 /// A new disk with these contents is opened by a run of `end`, and has these entries, each once and in this order.
-pub fn keeps<R: Threads + Wait + Sync>(
+pub fn keeps<R: Abort + Threads + Wait + Sync>(
     host: &Host<'_, R>,
     contents: &[u8],
     records: &[&[u8]],
-) -> Result<bool, Fail> {
-    let opened = run(host, &RUN, "end\n", disk_of(host, contents)?)?;
-    let sent = run(host, &SEND, "", disk_of(host, opened.disk.contents())?)?;
-    let parcels = parcels(host, records)?;
-    Ok(is_ended(&opened, 0, b"", "") && is_ended(&sent, 0, &parcels, ""))
+) -> bool {
+    let opened = run(host, &RUN, "end\n", disk_of(host, contents));
+    let sent = run(host, &SEND, "", disk_of(host, opened.disk.contents()));
+    let parcels = parcels(host, records);
+    is_ended(&opened, 0, b"", "") && is_ended(&sent, 0, &parcels, "")
 }

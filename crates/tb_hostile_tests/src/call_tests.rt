@@ -8,8 +8,8 @@ use crate::auction::{
     ORDINARY, PUBLISH, PUBLISHED, REGISTER, REGISTERED, RESULTS, RUN, SCRIPT, journal, keeps,
 };
 use crate::trying::{Host, Outcome, disk_of, disk_with, is_ended, joined, run};
+use std::process::Abort;
 use std::sync::Wait;
-use std::test::Fail;
 use std::thread::Threads;
 
 const FAULT: &str = "unavailable DiskFault\n";
@@ -102,58 +102,48 @@ const UNPUBLISHED: [&str; 6] = [
 ];
 
 // The script on an empty disk of which these calls fail.
-fn tried<R: Threads + Wait + Sync>(
-    host: &Host<'_, R>,
-    fails: &[u64],
-    torn: u8,
-) -> Result<Outcome, Fail> {
+fn tried<R: Abort + Threads + Wait + Sync>(host: &Host<'_, R>, fails: &[u64], torn: u8) -> Outcome {
     run(
         host,
         &RUN,
         SCRIPT,
-        disk_with(host, b"", 10_000, fails, torn)?,
+        disk_with(host, b"", 10_000, fails, torn),
     )
 }
 
 // The script where this call fails is told these texts, and these entries stand.
-fn meets<R: Threads + Wait + Sync>(
+fn meets<R: Abort + Threads + Wait + Sync>(
     host: &Host<'_, R>,
     call: u64,
     torn: u8,
     told: &[&str],
     records: &[&[u8]],
-) -> Result<bool, Fail> {
-    let first = tried(host, &[call], torn)?;
-    let told = joined(host, told)?;
-    Ok(is_ended(&first, 0, told.as_bytes(), "") && keeps(host, first.disk.contents(), records)?)
+) -> bool {
+    let first = tried(host, &[call], torn);
+    let told = joined(host, told);
+    is_ended(&first, 0, told.as_bytes(), "") && keeps(host, first.disk.contents(), records)
 }
 
 // The script ended with 6 and told nothing, and what it left opens as an empty history.
-fn did_not_open<R: Threads + Wait + Sync>(
-    host: &Host<'_, R>,
-    first: &Outcome,
-) -> Result<bool, Fail> {
-    Ok(is_ended(first, 6, b"", "disk fault\n") && keeps(host, first.disk.contents(), &[])?)
+fn did_not_open<R: Abort + Threads + Wait + Sync>(host: &Host<'_, R>, first: &Outcome) -> bool {
+    is_ended(first, 6, b"", "disk fault\n") && keeps(host, first.disk.contents(), &[])
 }
 
 #[test]
-fn a_call_that_fails_while_an_empty_disk_is_opened_ends_the_run(
-    rt: HostRuntime,
-) -> Result<(), Fail> {
+fn a_call_that_fails_while_an_empty_disk_is_opened_ends_the_run(rt: HostRuntime) {
     let host = Host {
         rt: &rt,
         alloc: rt.alloc(),
     };
-    assert!(rt; did_not_open(&host, &tried(&host, &[0], CLOSED)?)?);
-    assert!(rt; did_not_open(&host, &tried(&host, &[1], CLOSED)?)?);
-    assert!(rt; did_not_open(&host, &tried(&host, &[2], CLOSED)?)?);
-    assert!(rt; did_not_open(&host, &tried(&host, &[3], CLOSED)?)?);
-    assert!(rt; did_not_open(&host, &tried(&host, &[2], OPEN)?)?);
-    Ok(())
+    assert!(rt; did_not_open(&host, &tried(&host, &[0], CLOSED)));
+    assert!(rt; did_not_open(&host, &tried(&host, &[1], CLOSED)));
+    assert!(rt; did_not_open(&host, &tried(&host, &[2], CLOSED)));
+    assert!(rt; did_not_open(&host, &tried(&host, &[3], CLOSED)));
+    assert!(rt; did_not_open(&host, &tried(&host, &[2], OPEN)));
 }
 
 #[test]
-fn one_call_fails_at_the_registration(rt: HostRuntime) -> Result<(), Fail> {
+fn one_call_fails_at_the_registration(rt: HostRuntime) {
     let host = Host {
         rt: &rt,
         alloc: rt.alloc(),
@@ -163,17 +153,16 @@ fn one_call_fails_at_the_registration(rt: HostRuntime) -> Result<(), Fail> {
     let stood = [
         FAULT, ENROLLED, ANNOUNCED, BIDDEN, BETWEEN, PUBLISHED, AWARDS, RESULTS,
     ];
-    assert!(rt; meets(&host, 4, CLOSED, &lost, &left)?);
-    assert!(rt; meets(&host, 4, OPEN, &lost, &left)?);
-    assert!(rt; meets(&host, 5, CLOSED, &lost, &left)?);
-    assert!(rt; meets(&host, 6, CLOSED, &lost, &left)?);
-    assert!(rt; meets(&host, 6, OPEN, &stood, &ALL)?);
-    assert!(rt; meets(&host, 7, CLOSED, &stood, &ALL)?);
-    Ok(())
+    assert!(rt; meets(&host, 4, CLOSED, &lost, &left));
+    assert!(rt; meets(&host, 4, OPEN, &lost, &left));
+    assert!(rt; meets(&host, 5, CLOSED, &lost, &left));
+    assert!(rt; meets(&host, 6, CLOSED, &lost, &left));
+    assert!(rt; meets(&host, 6, OPEN, &stood, &ALL));
+    assert!(rt; meets(&host, 7, CLOSED, &stood, &ALL));
 }
 
 #[test]
-fn one_call_fails_at_the_enrolment(rt: HostRuntime) -> Result<(), Fail> {
+fn one_call_fails_at_the_enrolment(rt: HostRuntime) {
     let host = Host {
         rt: &rt,
         alloc: rt.alloc(),
@@ -183,17 +172,16 @@ fn one_call_fails_at_the_enrolment(rt: HostRuntime) -> Result<(), Fail> {
     let stood = [
         REGISTERED, FAULT, ANNOUNCED, BIDDEN, BETWEEN, PUBLISHED, AWARDS, RESULTS,
     ];
-    assert!(rt; meets(&host, 8, CLOSED, &lost, &left)?);
-    assert!(rt; meets(&host, 8, OPEN, &lost, &left)?);
-    assert!(rt; meets(&host, 9, CLOSED, &lost, &left)?);
-    assert!(rt; meets(&host, 10, CLOSED, &lost, &left)?);
-    assert!(rt; meets(&host, 10, OPEN, &stood, &ALL)?);
-    assert!(rt; meets(&host, 11, CLOSED, &stood, &ALL)?);
-    Ok(())
+    assert!(rt; meets(&host, 8, CLOSED, &lost, &left));
+    assert!(rt; meets(&host, 8, OPEN, &lost, &left));
+    assert!(rt; meets(&host, 9, CLOSED, &lost, &left));
+    assert!(rt; meets(&host, 10, CLOSED, &lost, &left));
+    assert!(rt; meets(&host, 10, OPEN, &stood, &ALL));
+    assert!(rt; meets(&host, 11, CLOSED, &stood, &ALL));
 }
 
 #[test]
-fn one_call_fails_at_the_announcement(rt: HostRuntime) -> Result<(), Fail> {
+fn one_call_fails_at_the_announcement(rt: HostRuntime) {
     let host = Host {
         rt: &rt,
         alloc: rt.alloc(),
@@ -203,17 +191,16 @@ fn one_call_fails_at_the_announcement(rt: HostRuntime) -> Result<(), Fail> {
     let stood = [
         REGISTERED, ENROLLED, FAULT, BIDDEN, BETWEEN, PUBLISHED, AWARDS, RESULTS,
     ];
-    assert!(rt; meets(&host, 12, CLOSED, &lost, &left)?);
-    assert!(rt; meets(&host, 12, OPEN, &lost, &left)?);
-    assert!(rt; meets(&host, 13, CLOSED, &lost, &left)?);
-    assert!(rt; meets(&host, 14, CLOSED, &lost, &left)?);
-    assert!(rt; meets(&host, 14, OPEN, &stood, &ALL)?);
-    assert!(rt; meets(&host, 15, CLOSED, &stood, &ALL)?);
-    Ok(())
+    assert!(rt; meets(&host, 12, CLOSED, &lost, &left));
+    assert!(rt; meets(&host, 12, OPEN, &lost, &left));
+    assert!(rt; meets(&host, 13, CLOSED, &lost, &left));
+    assert!(rt; meets(&host, 14, CLOSED, &lost, &left));
+    assert!(rt; meets(&host, 14, OPEN, &stood, &ALL));
+    assert!(rt; meets(&host, 15, CLOSED, &stood, &ALL));
 }
 
 #[test]
-fn one_call_fails_at_the_bid(rt: HostRuntime) -> Result<(), Fail> {
+fn one_call_fails_at_the_bid(rt: HostRuntime) {
     let host = Host {
         rt: &rt,
         alloc: rt.alloc(),
@@ -223,85 +210,86 @@ fn one_call_fails_at_the_bid(rt: HostRuntime) -> Result<(), Fail> {
     let stood = [
         REGISTERED, ENROLLED, ANNOUNCED, FAULT, BETWEEN, PUBLISHED, AWARDS, RESULTS,
     ];
-    assert!(rt; meets(&host, 16, CLOSED, &lost, &left)?);
-    assert!(rt; meets(&host, 16, OPEN, &lost, &left)?);
-    assert!(rt; meets(&host, 17, CLOSED, &lost, &left)?);
-    assert!(rt; meets(&host, 18, CLOSED, &lost, &left)?);
-    assert!(rt; meets(&host, 18, OPEN, &stood, &ALL)?);
-    assert!(rt; meets(&host, 19, CLOSED, &stood, &ALL)?);
-    Ok(())
+    assert!(rt; meets(&host, 16, CLOSED, &lost, &left));
+    assert!(rt; meets(&host, 16, OPEN, &lost, &left));
+    assert!(rt; meets(&host, 17, CLOSED, &lost, &left));
+    assert!(rt; meets(&host, 18, CLOSED, &lost, &left));
+    assert!(rt; meets(&host, 18, OPEN, &stood, &ALL));
+    assert!(rt; meets(&host, 19, CLOSED, &stood, &ALL));
 }
 
 #[test]
-fn one_call_fails_at_the_publication(rt: HostRuntime) -> Result<(), Fail> {
+fn one_call_fails_at_the_publication(rt: HostRuntime) {
     let host = Host {
         rt: &rt,
         alloc: rt.alloc(),
     };
     let left = [REGISTER, ENROL, ANNOUNCE, BID];
-    assert!(rt; meets(&host, 20, CLOSED, &UNPUBLISHED, &left)?);
-    assert!(rt; meets(&host, 20, OPEN, &UNPUBLISHED, &left)?);
-    assert!(rt; meets(&host, 21, CLOSED, &UNPUBLISHED, &left)?);
-    assert!(rt; meets(&host, 22, CLOSED, &UNPUBLISHED, &left)?);
-    assert!(rt; meets(&host, 22, OPEN, &UNPUBLISHED, &ALL)?);
-    assert!(rt; meets(&host, 23, CLOSED, &UNPUBLISHED, &ALL)?);
-    Ok(())
+    assert!(rt; meets(&host, 20, CLOSED, &UNPUBLISHED, &left));
+    assert!(rt; meets(&host, 20, OPEN, &UNPUBLISHED, &left));
+    assert!(rt; meets(&host, 21, CLOSED, &UNPUBLISHED, &left));
+    assert!(rt; meets(&host, 22, CLOSED, &UNPUBLISHED, &left));
+    assert!(rt; meets(&host, 22, OPEN, &UNPUBLISHED, &ALL));
+    assert!(rt; meets(&host, 23, CLOSED, &UNPUBLISHED, &ALL));
 }
 
 // There are 24 calls, so that none fails where the next one would.
 #[test]
-fn no_call_is_left_that_fails(rt: HostRuntime) -> Result<(), Fail> {
+fn no_call_is_left_that_fails(rt: HostRuntime) {
     let host = Host {
         rt: &rt,
         alloc: rt.alloc(),
     };
-    assert!(rt; meets(&host, 24, CLOSED, &ORDINARY, &ALL)?);
-    assert!(rt; tried(&host, &[24], CLOSED)?.disk.calls() == 24);
-    Ok(())
+    assert!(rt; meets(&host, 24, CLOSED, &ORDINARY, &ALL));
+    assert!(rt; tried(&host, &[24], CLOSED).disk.calls() == 24);
 }
 
 // The script on the journal of all entries, where this call fails.
-fn tried_again<R: Threads + Wait + Sync>(host: &Host<'_, R>, call: u64) -> Result<Outcome, Fail> {
-    let whole = journal(host, &ALL)?;
+fn tried_again<R: Abort + Threads + Wait + Sync>(host: &Host<'_, R>, call: u64) -> Outcome {
+    let whole = journal(host, &ALL);
     run(
         host,
         &RUN,
         SCRIPT,
-        disk_with(host, &whole, 10_000, &[call], CLOSED)?,
+        disk_with(host, &whole, 10_000, &[call], CLOSED),
     )
 }
 
 // That run ended so, and the journal stays.
-fn leaves_all<R>(
+fn leaves_all<R: Abort>(
     host: &Host<'_, R>,
     again: &Outcome,
     status: u8,
     told: &[&str],
     err: &str,
-) -> Result<bool, Fail> {
-    let told = joined(host, told)?;
-    let whole = journal(host, &ALL)?;
-    Ok(is_ended(again, status, told.as_bytes(), err) && again.disk.contents() == whole.as_slice())
+) -> bool {
+    let told = joined(host, told);
+    let whole = journal(host, &ALL);
+    is_ended(again, status, told.as_bytes(), err) && again.disk.contents() == whole.as_slice()
+}
+
+// Each run on the journal ends where a call fails, up to the first one that makes fewer calls.
+fn each_call_ends_it<R: Abort + Threads + Wait + Sync>(host: &Host<'_, R>) -> bool {
+    for call in 0..1_000 {
+        let again = tried_again(host, call);
+        if again.disk.calls() <= call {
+            return leaves_all(host, &again, 0, &AGAIN, "");
+        }
+        if !leaves_all(host, &again, 6, &[], "disk fault\n") {
+            return false;
+        }
+    }
+    false
 }
 
 // A second run adds nothing, so that all of its calls open the journal.
 #[test]
-fn a_call_that_fails_while_a_whole_journal_is_opened_ends_the_run(
-    rt: HostRuntime,
-) -> Result<(), Fail> {
+fn a_call_that_fails_while_a_whole_journal_is_opened_ends_the_run(rt: HostRuntime) {
     let host = Host {
         rt: &rt,
         alloc: rt.alloc(),
     };
-    for call in 0..1_000 {
-        let again = tried_again(&host, call)?;
-        if again.disk.calls() <= call {
-            assert!(rt; leaves_all(&host, &again, 0, &AGAIN, "")?);
-            return Ok(());
-        }
-        assert!(rt; leaves_all(&host, &again, 6, &[], "disk fault\n")?);
-    }
-    Err("each run met a fault")?
+    assert!(rt; each_call_ends_it(&host));
 }
 
 /// Where every call fails from one of the registration's on, its key stays nobody's.
@@ -354,149 +342,140 @@ refused 62 NotPublished
 ";
 
 // The numbers of the calls from one on: more than the script makes.
-fn calls_from<R>(host: &Host<'_, R>, call: u64) -> Result<Vec<u64>, Fail> {
+fn calls_from<R: Abort>(host: &Host<'_, R>, call: u64) -> Vec<u64> {
     let mut fails = Vec::new(host.alloc);
     for later in call..200 {
-        fails.push(later)?;
+        fails.push(later).expect(host.rt, "memory");
     }
-    Ok(fails)
+    fails
 }
 
 // The script on what was left, on a new disk: it is told these texts, and then all entries stand.
-fn goes_on<R: Threads + Wait + Sync>(
+fn goes_on<R: Abort + Threads + Wait + Sync>(
     host: &Host<'_, R>,
     contents: &[u8],
     told: &[&str],
-) -> Result<bool, Fail> {
-    let again = run(host, &RUN, SCRIPT, disk_of(host, contents)?)?;
-    let told = joined(host, told)?;
-    Ok(is_ended(&again, 0, told.as_bytes(), "") && keeps(host, again.disk.contents(), &ALL)?)
+) -> bool {
+    let again = run(host, &RUN, SCRIPT, disk_of(host, contents));
+    let told = joined(host, told);
+    is_ended(&again, 0, told.as_bytes(), "") && keeps(host, again.disk.contents(), &ALL)
 }
 
 // The script where every call fails from this one on is told these texts, and these entries stand on a new disk, on
 // which the script is then told the others.
-fn meets_all<R: Threads + Wait + Sync>(
+fn meets_all<R: Abort + Threads + Wait + Sync>(
     host: &Host<'_, R>,
     call: u64,
     torn: u8,
     told: &[&str],
     records: &[&[u8]],
     again: &[&str],
-) -> Result<bool, Fail> {
-    let first = tried(host, &calls_from(host, call)?, torn)?;
-    let told = joined(host, told)?;
-    Ok(
-        is_ended(&first, 0, told.as_bytes(), "")
-            && keeps(host, first.disk.contents(), records)?
-            && goes_on(host, first.disk.contents(), again)?,
-    )
+) -> bool {
+    let first = tried(host, &calls_from(host, call), torn);
+    let told = joined(host, told);
+    is_ended(&first, 0, told.as_bytes(), "")
+        && keeps(host, first.disk.contents(), records)
+        && goes_on(host, first.disk.contents(), again)
 }
 
 // The script where every call fails from one of the opening on ends, and a new disk is opened as an empty one.
-fn opens_later<R: Threads + Wait + Sync>(host: &Host<'_, R>, call: u64) -> Result<bool, Fail> {
-    let first = tried(host, &calls_from(host, call)?, OPEN)?;
-    Ok(did_not_open(host, &first)? && goes_on(host, first.disk.contents(), &ORDINARY)?)
+fn opens_later<R: Abort + Threads + Wait + Sync>(host: &Host<'_, R>, call: u64) -> bool {
+    let first = tried(host, &calls_from(host, call), OPEN);
+    did_not_open(host, &first) && goes_on(host, first.disk.contents(), &ORDINARY)
 }
 
 #[test]
-fn every_call_fails_from_the_opening_on(rt: HostRuntime) -> Result<(), Fail> {
+fn every_call_fails_from_the_opening_on(rt: HostRuntime) {
     let host = Host {
         rt: &rt,
         alloc: rt.alloc(),
     };
-    assert!(rt; opens_later(&host, 0)?);
-    assert!(rt; opens_later(&host, 1)?);
-    assert!(rt; opens_later(&host, 2)?);
-    assert!(rt; opens_later(&host, 3)?);
-    Ok(())
+    assert!(rt; opens_later(&host, 0));
+    assert!(rt; opens_later(&host, 1));
+    assert!(rt; opens_later(&host, 2));
+    assert!(rt; opens_later(&host, 3));
 }
 
 #[test]
-fn every_call_fails_from_the_registration_on(rt: HostRuntime) -> Result<(), Fail> {
+fn every_call_fails_from_the_registration_on(rt: HostRuntime) {
     let host = Host {
         rt: &rt,
         alloc: rt.alloc(),
     };
     let told = [ALL_UNAVAILABLE];
-    assert!(rt; meets_all(&host, 4, CLOSED, &told, &[], &ORDINARY)?);
-    assert!(rt; meets_all(&host, 5, CLOSED, &told, &[], &ORDINARY)?);
-    assert!(rt; meets_all(&host, 6, CLOSED, &told, &[], &ORDINARY)?);
-    assert!(rt; meets_all(&host, 6, OPEN, &told, &ALL[..1], &ORDINARY)?);
-    assert!(rt; meets_all(&host, 7, CLOSED, &told, &ALL[..1], &ORDINARY)?);
-    Ok(())
+    assert!(rt; meets_all(&host, 4, CLOSED, &told, &[], &ORDINARY));
+    assert!(rt; meets_all(&host, 5, CLOSED, &told, &[], &ORDINARY));
+    assert!(rt; meets_all(&host, 6, CLOSED, &told, &[], &ORDINARY));
+    assert!(rt; meets_all(&host, 6, OPEN, &told, &ALL[..1], &ORDINARY));
+    assert!(rt; meets_all(&host, 7, CLOSED, &told, &ALL[..1], &ORDINARY));
 }
 
 #[test]
-fn every_call_fails_from_the_enrolment_on(rt: HostRuntime) -> Result<(), Fail> {
+fn every_call_fails_from_the_enrolment_on(rt: HostRuntime) {
     let host = Host {
         rt: &rt,
         alloc: rt.alloc(),
     };
     let told = [REGISTERED, FROM_ENROLMENT];
-    assert!(rt; meets_all(&host, 8, CLOSED, &told, &ALL[..1], &ORDINARY)?);
-    assert!(rt; meets_all(&host, 9, CLOSED, &told, &ALL[..1], &ORDINARY)?);
-    assert!(rt; meets_all(&host, 10, CLOSED, &told, &ALL[..1], &ORDINARY)?);
-    assert!(rt; meets_all(&host, 10, OPEN, &told, &ALL[..2], &ORDINARY)?);
-    assert!(rt; meets_all(&host, 11, CLOSED, &told, &ALL[..2], &ORDINARY)?);
-    Ok(())
+    assert!(rt; meets_all(&host, 8, CLOSED, &told, &ALL[..1], &ORDINARY));
+    assert!(rt; meets_all(&host, 9, CLOSED, &told, &ALL[..1], &ORDINARY));
+    assert!(rt; meets_all(&host, 10, CLOSED, &told, &ALL[..1], &ORDINARY));
+    assert!(rt; meets_all(&host, 10, OPEN, &told, &ALL[..2], &ORDINARY));
+    assert!(rt; meets_all(&host, 11, CLOSED, &told, &ALL[..2], &ORDINARY));
 }
 
 #[test]
-fn every_call_fails_from_the_announcement_on(rt: HostRuntime) -> Result<(), Fail> {
+fn every_call_fails_from_the_announcement_on(rt: HostRuntime) {
     let host = Host {
         rt: &rt,
         alloc: rt.alloc(),
     };
     let told = [REGISTERED, ENROLLED, FROM_ANNOUNCEMENT];
-    assert!(rt; meets_all(&host, 12, CLOSED, &told, &ALL[..2], &ORDINARY)?);
-    assert!(rt; meets_all(&host, 13, CLOSED, &told, &ALL[..2], &ORDINARY)?);
-    assert!(rt; meets_all(&host, 14, CLOSED, &told, &ALL[..2], &ORDINARY)?);
-    assert!(rt; meets_all(&host, 14, OPEN, &told, &ALL[..3], &ORDINARY)?);
-    assert!(rt; meets_all(&host, 15, CLOSED, &told, &ALL[..3], &ORDINARY)?);
-    Ok(())
+    assert!(rt; meets_all(&host, 12, CLOSED, &told, &ALL[..2], &ORDINARY));
+    assert!(rt; meets_all(&host, 13, CLOSED, &told, &ALL[..2], &ORDINARY));
+    assert!(rt; meets_all(&host, 14, CLOSED, &told, &ALL[..2], &ORDINARY));
+    assert!(rt; meets_all(&host, 14, OPEN, &told, &ALL[..3], &ORDINARY));
+    assert!(rt; meets_all(&host, 15, CLOSED, &told, &ALL[..3], &ORDINARY));
 }
 
 #[test]
-fn every_call_fails_from_the_bid_on(rt: HostRuntime) -> Result<(), Fail> {
+fn every_call_fails_from_the_bid_on(rt: HostRuntime) {
     let host = Host {
         rt: &rt,
         alloc: rt.alloc(),
     };
     let told = [REGISTERED, ENROLLED, ANNOUNCED, FROM_BID];
-    assert!(rt; meets_all(&host, 16, CLOSED, &told, &ALL[..3], &ORDINARY)?);
-    assert!(rt; meets_all(&host, 17, CLOSED, &told, &ALL[..3], &ORDINARY)?);
-    assert!(rt; meets_all(&host, 18, CLOSED, &told, &ALL[..3], &ORDINARY)?);
-    assert!(rt; meets_all(&host, 18, OPEN, &told, &ALL[..4], &ORDINARY)?);
-    assert!(rt; meets_all(&host, 19, CLOSED, &told, &ALL[..4], &ORDINARY)?);
-    Ok(())
+    assert!(rt; meets_all(&host, 16, CLOSED, &told, &ALL[..3], &ORDINARY));
+    assert!(rt; meets_all(&host, 17, CLOSED, &told, &ALL[..3], &ORDINARY));
+    assert!(rt; meets_all(&host, 18, CLOSED, &told, &ALL[..3], &ORDINARY));
+    assert!(rt; meets_all(&host, 18, OPEN, &told, &ALL[..4], &ORDINARY));
+    assert!(rt; meets_all(&host, 19, CLOSED, &told, &ALL[..4], &ORDINARY));
 }
 
 // Behind the publication stand queries alone, so that the script is told the same as where one call fails. Where it
 // stands, no moment of the next run is before it.
 #[test]
-fn every_call_fails_from_the_publication_on(rt: HostRuntime) -> Result<(), Fail> {
+fn every_call_fails_from_the_publication_on(rt: HostRuntime) {
     let host = Host {
         rt: &rt,
         alloc: rt.alloc(),
     };
-    assert!(rt; meets_all(&host, 20, CLOSED, &UNPUBLISHED, &ALL[..4], &ORDINARY)?);
-    assert!(rt; meets_all(&host, 21, CLOSED, &UNPUBLISHED, &ALL[..4], &ORDINARY)?);
-    assert!(rt; meets_all(&host, 22, CLOSED, &UNPUBLISHED, &ALL[..4], &ORDINARY)?);
-    assert!(rt; meets_all(&host, 22, OPEN, &UNPUBLISHED, &ALL, &AGAIN)?);
-    assert!(rt; meets_all(&host, 23, CLOSED, &UNPUBLISHED, &ALL, &AGAIN)?);
-    assert!(rt; meets_all(&host, 24, CLOSED, &ORDINARY, &ALL, &AGAIN)?);
-    Ok(())
+    assert!(rt; meets_all(&host, 20, CLOSED, &UNPUBLISHED, &ALL[..4], &ORDINARY));
+    assert!(rt; meets_all(&host, 21, CLOSED, &UNPUBLISHED, &ALL[..4], &ORDINARY));
+    assert!(rt; meets_all(&host, 22, CLOSED, &UNPUBLISHED, &ALL[..4], &ORDINARY));
+    assert!(rt; meets_all(&host, 22, OPEN, &UNPUBLISHED, &ALL, &AGAIN));
+    assert!(rt; meets_all(&host, 23, CLOSED, &UNPUBLISHED, &ALL, &AGAIN));
+    assert!(rt; meets_all(&host, 24, CLOSED, &ORDINARY, &ALL, &AGAIN));
 }
 
 // What a journal of the first entries is: the bytes of its format.
 #[test]
-fn an_undisturbed_run_leaves_the_journal_of_its_entries(rt: HostRuntime) -> Result<(), Fail> {
+fn an_undisturbed_run_leaves_the_journal_of_its_entries(rt: HostRuntime) {
     let host = Host {
         rt: &rt,
         alloc: rt.alloc(),
     };
-    let whole = tried(&host, &[], CLOSED)?;
-    assert!(rt; whole.disk.contents() == journal(&host, &ALL)?.as_slice());
-    assert!(rt; EMPTY == journal(&host, &[])?.as_slice());
-    Ok(())
+    let whole = tried(&host, &[], CLOSED);
+    assert!(rt; whole.disk.contents() == journal(&host, &ALL).as_slice());
+    assert!(rt; EMPTY == journal(&host, &[]).as_slice());
 }

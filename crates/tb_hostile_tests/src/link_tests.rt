@@ -1,8 +1,10 @@
 //! Links of `serve` that fail, beside others. The replies are worked out by hand from the formats.
 use crate::auction::{ANNOUNCE, ENROL, REGISTER, journal, keeps};
-use crate::trying::{Given, Host, Outcome, disk_of, gate, is_ended, joined, serve, takes, whole};
+use crate::trying::{
+    Given, Host, Outcome, disk_of, gate, is_ended, joined, one_gate, serve, takes, whole,
+};
+use std::process::Abort;
 use std::sync::Wait;
-use std::test::Fail;
 use std::thread::Threads;
 
 /// The words of `serve` with one worker, and with two.
@@ -79,14 +81,13 @@ const ALL_ACCEPTED: &str = "served 3\naccepted 3\n";
 const TWO_ACCEPTED: &str = "served 3\naccepted 2\n";
 
 /// Serves these links at one gate, from the disk on which the auction was announced.
-pub fn served<R: Threads + Wait + Sync>(
+pub fn served<R: Abort + Threads + Wait + Sync>(
     host: &Host<'_, R>,
     links: &[Given<'_>],
-) -> Result<Outcome, Fail> {
-    let announced = journal(host, &[REGISTER, ENROL, ANNOUNCE])?;
-    let mut gates = Vec::new(host.alloc);
-    gates.push(gate(host, links)?)?;
-    serve(host, &SERVE, "", disk_of(host, &announced)?, gates)
+) -> Outcome {
+    let announced = journal(host, &[REGISTER, ENROL, ANNOUNCE]);
+    let gates = one_gate(host, links);
+    serve(host, &SERVE, "", disk_of(host, &announced), gates)
 }
 
 // The third bid and a message without its members, one behind the other in 22 pieces of ten bytes. These calls fail.
@@ -101,77 +102,71 @@ fn failing<'a>(text: &'a str, reads: &'a [u64], writes: &'a [u64]) -> Given<'a> 
 
 // The link on which these calls fail takes this reply, those before and behind it take theirs whole, and this is told
 // in the end, of these entries.
-fn fails_between<R: Threads + Wait + Sync>(
+fn fails_between<R: Abort + Threads + Wait + Sync>(
     host: &Host<'_, R>,
     reads: &[u64],
     writes: &[u64],
     reply: &str,
     told: &str,
     records: &[&[u8]],
-) -> Result<bool, Fail> {
-    let text = joined(host, &[THIRD, SHAPELESS])?;
+) -> bool {
+    let text = joined(host, &[THIRD, SHAPELESS]);
     let run = served(
         host,
         &[whole(FIRST), failing(&text, reads, writes), whole(SECOND)],
-    )?;
-    Ok(
-        is_ended(&run, 0, told.as_bytes(), "")
-            && takes(&run, 0, &[FIRST_REPLY, reply, SECOND_REPLY])
-            && keeps(host, run.disk.contents(), records)?,
-    )
+    );
+    is_ended(&run, 0, told.as_bytes(), "")
+        && takes(&run, 0, &[FIRST_REPLY, reply, SECOND_REPLY])
+        && keeps(host, run.disk.contents(), records)
 }
 
 // The bid is whole with the sixteenth read, the other message with the twenty-second, and the next finds the end.
 // Each of the reads from one on, up to another, fails so.
-fn each_read_fails<R: Threads + Wait + Sync>(
+fn each_read_fails<R: Abort + Threads + Wait + Sync>(
     host: &Host<'_, R>,
     from: u64,
     until: u64,
     reply: &str,
     told: &str,
     records: &[&[u8]],
-) -> Result<bool, Fail> {
+) -> bool {
     for read in from..until {
-        if !fails_between(host, &[read], &[], reply, told, records)? {
-            return Ok(false);
+        if !fails_between(host, &[read], &[], reply, told, records) {
+            return false;
         }
     }
-    Ok(true)
+    true
 }
 
 #[test]
-fn one_link_has_a_read_that_fails_and_the_others_are_answered(rt: HostRuntime) -> Result<(), Fail> {
+fn one_link_has_a_read_that_fails_and_the_others_are_answered(rt: HostRuntime) {
     let host = Host {
         rt: &rt,
         alloc: rt.alloc(),
     };
-    let both = joined(&host, &[THIRD_REPLY, SHAPELESS_REPLY])?;
-    assert!(rt; each_read_fails(&host, 0, 16, "", TWO_ACCEPTED, &TWO_STAND)?);
-    assert!(rt; each_read_fails(&host, 16, 22, THIRD_REPLY, ALL_ACCEPTED, &ALL_STAND)?);
+    let both = joined(&host, &[THIRD_REPLY, SHAPELESS_REPLY]);
+    assert!(rt; each_read_fails(&host, 0, 16, "", TWO_ACCEPTED, &TWO_STAND));
+    assert!(rt; each_read_fails(&host, 16, 22, THIRD_REPLY, ALL_ACCEPTED, &ALL_STAND));
     // The read that finds the end, and one that isn't made.
-    assert!(rt; each_read_fails(&host, 22, 24, &both, ALL_ACCEPTED, &ALL_STAND)?);
-    Ok(())
+    assert!(rt; each_read_fails(&host, 22, 24, &both, ALL_ACCEPTED, &ALL_STAND));
 }
 
 // A bid whose reply isn't taken stands.
 #[test]
-fn one_link_has_a_write_that_fails_and_the_others_are_answered(
-    rt: HostRuntime,
-) -> Result<(), Fail> {
+fn one_link_has_a_write_that_fails_and_the_others_are_answered(rt: HostRuntime) {
     let host = Host {
         rt: &rt,
         alloc: rt.alloc(),
     };
-    let both = joined(&host, &[THIRD_REPLY, SHAPELESS_REPLY])?;
-    assert!(rt; fails_between(&host, &[], &[0], "", ALL_ACCEPTED, &ALL_STAND)?);
-    assert!(rt; fails_between(&host, &[], &[1], THIRD_REPLY, ALL_ACCEPTED, &ALL_STAND)?);
-    assert!(rt; fails_between(&host, &[], &[2], &both, ALL_ACCEPTED, &ALL_STAND)?);
-    Ok(())
+    let both = joined(&host, &[THIRD_REPLY, SHAPELESS_REPLY]);
+    assert!(rt; fails_between(&host, &[], &[0], "", ALL_ACCEPTED, &ALL_STAND));
+    assert!(rt; fails_between(&host, &[], &[1], THIRD_REPLY, ALL_ACCEPTED, &ALL_STAND));
+    assert!(rt; fails_between(&host, &[], &[2], &both, ALL_ACCEPTED, &ALL_STAND));
 }
 
 // A bid whose reply was not taken is told again on another link, and stands once.
 #[test]
-fn a_bid_whose_reply_was_not_taken_is_told_on_the_next_link(rt: HostRuntime) -> Result<(), Fail> {
+fn a_bid_whose_reply_was_not_taken_is_told_on_the_next_link(rt: HostRuntime) {
     let host = Host {
         rt: &rt,
         alloc: rt.alloc(),
@@ -179,44 +174,40 @@ fn a_bid_whose_reply_was_not_taken_is_told_on_the_next_link(rt: HostRuntime) -> 
     let run = served(
         &host,
         &[failing(FIRST, &[], &[0]), whole(FIRST), whole(SECOND)],
-    )?;
+    );
     assert!(rt; is_ended(&run, 0, TWO_ACCEPTED.as_bytes(), ""));
     assert!(rt; takes(&run, 0, &["", FIRST_REPLY, SECOND_REPLY]));
-    assert!(rt; keeps(&host, run.disk.contents(), &TWO_STAND)?);
-    Ok(())
+    assert!(rt; keeps(&host, run.disk.contents(), &TWO_STAND));
 }
 
 // The same with two workers: the link that fails is one's, and the others the other's.
-fn fails_beside<R: Threads + Wait + Sync>(
+fn fails_beside<R: Abort + Threads + Wait + Sync>(
     host: &Host<'_, R>,
     reads: &[u64],
     writes: &[u64],
     reply: &str,
     told: &str,
-) -> Result<bool, Fail> {
-    let text = joined(host, &[THIRD, SHAPELESS])?;
-    let announced = journal(host, &[REGISTER, ENROL, ANNOUNCE])?;
-    let mut gates = Vec::new(host.alloc);
-    gates.push(gate(host, &[failing(&text, reads, writes)])?)?;
-    gates.push(gate(host, &[whole(FIRST), whole(SECOND)])?)?;
-    let run = serve(host, &SERVE_BY_TWO, "", disk_of(host, &announced)?, gates)?;
-    Ok(
-        is_ended(&run, 0, told.as_bytes(), "")
-            && takes(&run, 0, &[reply])
-            && takes(&run, 1, &[FIRST_REPLY, SECOND_REPLY]),
-    )
+) -> bool {
+    let text = joined(host, &[THIRD, SHAPELESS]);
+    let announced = journal(host, &[REGISTER, ENROL, ANNOUNCE]);
+    let one = gate(host, &[failing(&text, reads, writes)]);
+    let other = gate(host, &[whole(FIRST), whole(SECOND)]);
+    let gates = Vec::from_array(host.alloc, [one, other]).expect(host.rt, "memory");
+    let run = serve(host, &SERVE_BY_TWO, "", disk_of(host, &announced), gates);
+    is_ended(&run, 0, told.as_bytes(), "")
+        && takes(&run, 0, &[reply])
+        && takes(&run, 1, &[FIRST_REPLY, SECOND_REPLY])
 }
 
 #[test]
-fn one_link_fails_beside_those_of_another_worker(rt: HostRuntime) -> Result<(), Fail> {
+fn one_link_fails_beside_those_of_another_worker(rt: HostRuntime) {
     let host = Host {
         rt: &rt,
         alloc: rt.alloc(),
     };
-    assert!(rt; fails_beside(&host, &[0], &[], "", TWO_ACCEPTED)?);
-    assert!(rt; fails_beside(&host, &[15], &[], "", TWO_ACCEPTED)?);
-    assert!(rt; fails_beside(&host, &[16], &[], THIRD_REPLY, ALL_ACCEPTED)?);
-    assert!(rt; fails_beside(&host, &[], &[0], "", ALL_ACCEPTED)?);
-    assert!(rt; fails_beside(&host, &[], &[1], THIRD_REPLY, ALL_ACCEPTED)?);
-    Ok(())
+    assert!(rt; fails_beside(&host, &[0], &[], "", TWO_ACCEPTED));
+    assert!(rt; fails_beside(&host, &[15], &[], "", TWO_ACCEPTED));
+    assert!(rt; fails_beside(&host, &[16], &[], THIRD_REPLY, ALL_ACCEPTED));
+    assert!(rt; fails_beside(&host, &[], &[0], "", ALL_ACCEPTED));
+    assert!(rt; fails_beside(&host, &[], &[1], THIRD_REPLY, ALL_ACCEPTED));
 }

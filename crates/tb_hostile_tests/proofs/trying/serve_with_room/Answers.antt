@@ -5,5 +5,5 @@ use Rattle.tb_hostile_tests.proofs.trying.serve_with_room.Goals as goal
 
 pub host_main-ended-requires-clause-gates : goal.host_main-ended-requires-clause-gates
 host_main-ended-requires-clause-gates g c κs within = λ said are.
-    HasGates-planned said c.in_ok-plan.plan _ (c.in_ok-plan.ensures.command said are)
+    HasGates-planned said c.in-Ok.plan _ (c.in-Ok.ensures.command said are)
     (omega (arith, c.len.ensures, c.if-len-plan.false))
