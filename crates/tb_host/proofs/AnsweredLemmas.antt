@@ -16,11 +16,11 @@ use Rattle.tb_history.proofs.HistoryLemmas.{IsLegal-front}
 use Rattle.tb_desk.specs.Turn.{Asked, Held, Replies, added, added_by, group, group_on, verdicts, verdicts_on}
 use Rattle.tb_session.proofs.CallerLemmas.{accepted-is, repeat-is}
 use Rattle.tb_host.specs.Headline.{Begins}
-use Rattle.tb_host.specs.ImportRun.{SentRow}
+use Rattle.tb_commands.specs.ImportRun.{SentRow}
 use Rattle.tb_host.specs.ScriptHeadline.{HasAccepted, IsBetween, IsRowAccepted, accepted_line}
-use Rattle.tb_host.specs.Standings.{Standing, held_at}
-use Rattle.tb_host.specs.Turns.{GoesOneWay, MakesTurn, told}
-use Rattle.tb_host.proofs.ScriptLineLemmas.{moment-one}
+use Rattle.tb_commands.specs.Standings.{Standing, held_at}
+use Rattle.tb_commands.specs.Turns.{GoesOneWay, MakesTurn, told}
+use Rattle.tb_commands.proofs.ScriptLineLemmas.{moment-one}
 
 -- ---- histories that begin one another
 

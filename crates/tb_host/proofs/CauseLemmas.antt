@@ -9,40 +9,40 @@ use Rattle.tb_desk.specs.declared.fault.MigrateFault.TheVariants as migrate_faul
 use Rattle.tb_desk.specs.declared.fault.OpenFault.{OpenFault}
 use Rattle.tb_desk.specs.declared.fault.OpenFault.TheVariants as fault
 use Rattle.tb_terms.specs.declared.cusip.Cusip.{Cusip}
-use Rattle.tb_host.specs.AwardRun.{AwardEnds}
-use Rattle.tb_host.specs.DiskRun.{Unopened}
-use Rattle.tb_host.specs.Endings.{ending_of, of_disk, of_migrate, of_print, of_register, of_send, of_serve}
-use Rattle.tb_host.specs.Endings.{of_take, of_text}
-use Rattle.tb_host.specs.FollowSendRun.{FollowSendEnds}
-use Rattle.tb_host.specs.FollowTakeRun.{FollowTakeEnds}
+use Rattle.tb_commands.specs.AwardRun.{AwardEnds}
+use Rattle.tb_commands.specs.DiskRun.{Unopened}
+use Rattle.tb_commands.specs.Endings.{ending_of, of_disk, of_migrate, of_print, of_register, of_send, of_serve}
+use Rattle.tb_commands.specs.Endings.{of_take, of_text}
+use Rattle.tb_commands.specs.FollowSendRun.{FollowSendEnds}
+use Rattle.tb_commands.specs.FollowTakeRun.{FollowTakeEnds}
 use Rattle.tb_host.specs.HostRun.{HasCause, Objects, devices, handed, moved, registry}
-use Rattle.tb_host.specs.ImportRun.{ImportEnds}
-use Rattle.tb_host.specs.MigrateRun.{MigrateEnds}
-use Rattle.tb_host.specs.RegisterRun.{RegisterEnds}
-use Rattle.tb_host.specs.ReportRun.{ReportEnds}
-use Rattle.tb_host.specs.RunEnds.{RunEnds}
+use Rattle.tb_commands.specs.ImportRun.{ImportEnds}
+use Rattle.tb_commands.specs.MigrateRun.{MigrateEnds}
+use Rattle.tb_commands.specs.RegisterRun.{RegisterEnds}
+use Rattle.tb_commands.specs.ReportRun.{ReportEnds}
+use Rattle.tb_commands.specs.RunEnds.{RunEnds}
 use Rattle.tb_host.specs.ServeRun.{ServeEnds, ToldEnds, served_text}
-use Rattle.tb_host.specs.TrialRun.{TrialEnds}
-use Rattle.tb_host.specs.declared.command_endings.DiskEnding.{DiskEnding}
-use Rattle.tb_host.specs.declared.command_endings.DiskEnding.TheVariants as disk_ending
-use Rattle.tb_host.specs.declared.command_endings.MigrateEnding.{MigrateEnding}
-use Rattle.tb_host.specs.declared.command_endings.MigrateEnding.TheVariants as migrate_ending
-use Rattle.tb_host.specs.declared.command_endings.PrintEnding.{PrintEnding}
-use Rattle.tb_host.specs.declared.command_endings.PrintEnding.TheVariants as print_ending
-use Rattle.tb_host.specs.declared.command_endings.RegisterEnding.{RegisterEnding}
-use Rattle.tb_host.specs.declared.command_endings.RegisterEnding.TheVariants as register_ending
-use Rattle.tb_host.specs.declared.command_endings.SendEnding.{SendEnding}
-use Rattle.tb_host.specs.declared.command_endings.SendEnding.TheVariants as send_ending
-use Rattle.tb_host.specs.declared.command_endings.ServeEnding.{ServeEnding}
-use Rattle.tb_host.specs.declared.command_endings.ServeEnding.TheVariants as serve_ending
-use Rattle.tb_host.specs.declared.command_endings.TakeEnding.{TakeEnding}
-use Rattle.tb_host.specs.declared.command_endings.TakeEnding.TheVariants as take_ending
-use Rattle.tb_host.specs.declared.command_endings.TextEnding.{TextEnding}
-use Rattle.tb_host.specs.declared.command_endings.TextEnding.TheVariants as text_ending
-use Rattle.tb_host.specs.declared.ending.Ending.{Ending}
-use Rattle.tb_host.specs.declared.ending.Ending.TheVariants as ending
-use Rattle.tb_host.specs.declared.report_command.Inquiry.{Inquiry}
-use Rattle.tb_host.specs.declared.sender.Sender.{Sender}
+use Rattle.tb_commands.specs.TrialRun.{TrialEnds}
+use Rattle.tb_commands.specs.declared.command_endings.DiskEnding.{DiskEnding}
+use Rattle.tb_commands.specs.declared.command_endings.DiskEnding.TheVariants as disk_ending
+use Rattle.tb_commands.specs.declared.command_endings.MigrateEnding.{MigrateEnding}
+use Rattle.tb_commands.specs.declared.command_endings.MigrateEnding.TheVariants as migrate_ending
+use Rattle.tb_commands.specs.declared.command_endings.PrintEnding.{PrintEnding}
+use Rattle.tb_commands.specs.declared.command_endings.PrintEnding.TheVariants as print_ending
+use Rattle.tb_commands.specs.declared.command_endings.RegisterEnding.{RegisterEnding}
+use Rattle.tb_commands.specs.declared.command_endings.RegisterEnding.TheVariants as register_ending
+use Rattle.tb_commands.specs.declared.command_endings.SendEnding.{SendEnding}
+use Rattle.tb_commands.specs.declared.command_endings.SendEnding.TheVariants as send_ending
+use Rattle.tb_commands.specs.declared.command_endings.ServeEnding.{ServeEnding}
+use Rattle.tb_commands.specs.declared.command_endings.ServeEnding.TheVariants as serve_ending
+use Rattle.tb_commands.specs.declared.command_endings.TakeEnding.{TakeEnding}
+use Rattle.tb_commands.specs.declared.command_endings.TakeEnding.TheVariants as take_ending
+use Rattle.tb_commands.specs.declared.command_endings.TextEnding.{TextEnding}
+use Rattle.tb_commands.specs.declared.command_endings.TextEnding.TheVariants as text_ending
+use Rattle.tb_commands.specs.declared.ending.Ending.{Ending}
+use Rattle.tb_commands.specs.declared.ending.Ending.TheVariants as ending
+use Rattle.tb_commands.specs.declared.report_command.Inquiry.{Inquiry}
+use Rattle.tb_commands.specs.declared.sender.Sender.{Sender}
 use Rattle.tb_host.proofs.ServeLemmas.{OneRose-runs}
 
 module _ {G K : Type 0} (gate : G → GateState K) (old new : Objects G) where

@@ -42,10 +42,10 @@ use Rattle.tb_session.specs.declared.called.Outcome.{Outcome}
 use Rattle.tb_session.specs.declared.called.Outcome.TheVariants as outcome
 use Rattle.tb_session.specs.Calls.{caller_on, ComesOut, IsAnswerBy, Tells, TellsQuery}
 use Rattle.tb_session.specs.Codes.{Made, operator_in}
-use Rattle.tb_host.specs.DiskRun.{Stays}
+use Rattle.tb_commands.specs.DiskRun.{Stays}
 use Rattle.tb_host.specs.Headline.{IsAnsweredIn, OneHistory, Acknowledges, KeepsOnce, KeepsAcknowledged, ReadsPublished, IsInTime, IsByTheRule, TellsByTheRule, AsksSealed, RunAlike, IsDecided, AreSealed, AddsUp, Headline, HoldingsAddUp}
 use Rattle.tb_host.specs.ScriptHeadline.{CameInTime}
-use Rattle.tb_host.specs.Standings.{Standing}
+use Rattle.tb_commands.specs.Standings.{Standing}
 use Rattle.tb_host.proofs.SealedLemmas.{verdict-own}
 
 -- ---- acknowledged messages are kept

@@ -14,43 +14,43 @@ use Rattle.tb_words.specs.Commands.{AreWordsOf}
 use Rattle.tb_words.specs.declared.command.Command.{Command}
 use Rattle.tb_words.specs.declared.command.Command.TheVariants as command
 use Rattle.tb_words.proofs.OneCommandLemmas.{one_command}
-use Rattle.tb_host.specs.Completeness.{Completes}
-use Rattle.tb_host.specs.Endings.{IsUnopened, ending_of, of_disk, of_migrate, of_print, of_register, of_send}
-use Rattle.tb_host.specs.Endings.{of_serve, of_take, of_text}
-use Rattle.tb_host.specs.FollowSendRun.{FollowSendEnds}
+use Rattle.tb_commands.specs.Completeness.{Completes}
+use Rattle.tb_commands.specs.Endings.{IsUnopened, ending_of, of_disk, of_migrate, of_print, of_register, of_send}
+use Rattle.tb_commands.specs.Endings.{of_serve, of_take, of_text}
+use Rattle.tb_commands.specs.FollowSendRun.{FollowSendEnds}
 use Rattle.tb_host.specs.HostRun.{EndsAs, Objects, Reports, devices, handed, moved, registry}
-use Rattle.tb_host.specs.RegisterRun.{RegisterEnds}
-use Rattle.tb_host.specs.ReportRun.{ReportEnds, inquiry}
-use Rattle.tb_host.specs.RunEnds.{Devices, NotBegun}
-use Rattle.tb_host.specs.declared.command_endings.DiskEnding.{DiskEnding}
-use Rattle.tb_host.specs.declared.command_endings.DiskEnding.TheVariants as disk_ending
-use Rattle.tb_host.specs.declared.command_endings.MigrateEnding.{MigrateEnding}
-use Rattle.tb_host.specs.declared.command_endings.MigrateEnding.TheVariants as migrate_ending
-use Rattle.tb_host.specs.declared.command_endings.PrintEnding.{PrintEnding}
-use Rattle.tb_host.specs.declared.command_endings.PrintEnding.TheVariants as print_ending
-use Rattle.tb_host.specs.declared.command_endings.RegisterEnding.{RegisterEnding}
-use Rattle.tb_host.specs.declared.command_endings.RegisterEnding.TheVariants as register_ending
-use Rattle.tb_host.specs.declared.command_endings.SendEnding.{SendEnding}
-use Rattle.tb_host.specs.declared.command_endings.SendEnding.TheVariants as send_ending
-use Rattle.tb_host.specs.declared.command_endings.ServeEnding.{ServeEnding}
-use Rattle.tb_host.specs.declared.command_endings.ServeEnding.TheVariants as serve_ending
-use Rattle.tb_host.specs.declared.command_endings.TakeEnding.{TakeEnding}
-use Rattle.tb_host.specs.declared.command_endings.TakeEnding.TheVariants as take_ending
-use Rattle.tb_host.specs.declared.command_endings.TextEnding.{TextEnding}
-use Rattle.tb_host.specs.declared.command_endings.TextEnding.TheVariants as text_ending
-use Rattle.tb_host.specs.declared.ending.Ending.{Ending}
-use Rattle.tb_host.specs.declared.ending.Ending.TheVariants as ending
-use Rattle.tb_host.specs.declared.report_command.Inquiry.{Inquiry}
-use Rattle.tb_host.proofs.CompleteLemmas.{award-completes}
-use Rattle.tb_host.proofs.DiskLemmas.{Unopened-untouched}
-use Rattle.tb_host.proofs.FollowEndLemmas.{send-completes, take-completes}
-use Rattle.tb_host.proofs.ImportEndLemmas.{import-completes}
-use Rattle.tb_host.proofs.MigrateLemmas.{migrate-completes, migrate-untouched}
-use Rattle.tb_host.proofs.RegisterLemmas.{register-completes}
-use Rattle.tb_host.proofs.ReportLemmas.{report-completes}
-use Rattle.tb_host.proofs.ScriptLawLemmas.{run-completes}
+use Rattle.tb_commands.specs.RegisterRun.{RegisterEnds}
+use Rattle.tb_commands.specs.ReportRun.{ReportEnds, inquiry}
+use Rattle.tb_commands.specs.RunEnds.{Devices, NotBegun}
+use Rattle.tb_commands.specs.declared.command_endings.DiskEnding.{DiskEnding}
+use Rattle.tb_commands.specs.declared.command_endings.DiskEnding.TheVariants as disk_ending
+use Rattle.tb_commands.specs.declared.command_endings.MigrateEnding.{MigrateEnding}
+use Rattle.tb_commands.specs.declared.command_endings.MigrateEnding.TheVariants as migrate_ending
+use Rattle.tb_commands.specs.declared.command_endings.PrintEnding.{PrintEnding}
+use Rattle.tb_commands.specs.declared.command_endings.PrintEnding.TheVariants as print_ending
+use Rattle.tb_commands.specs.declared.command_endings.RegisterEnding.{RegisterEnding}
+use Rattle.tb_commands.specs.declared.command_endings.RegisterEnding.TheVariants as register_ending
+use Rattle.tb_commands.specs.declared.command_endings.SendEnding.{SendEnding}
+use Rattle.tb_commands.specs.declared.command_endings.SendEnding.TheVariants as send_ending
+use Rattle.tb_commands.specs.declared.command_endings.ServeEnding.{ServeEnding}
+use Rattle.tb_commands.specs.declared.command_endings.ServeEnding.TheVariants as serve_ending
+use Rattle.tb_commands.specs.declared.command_endings.TakeEnding.{TakeEnding}
+use Rattle.tb_commands.specs.declared.command_endings.TakeEnding.TheVariants as take_ending
+use Rattle.tb_commands.specs.declared.command_endings.TextEnding.{TextEnding}
+use Rattle.tb_commands.specs.declared.command_endings.TextEnding.TheVariants as text_ending
+use Rattle.tb_commands.specs.declared.ending.Ending.{Ending}
+use Rattle.tb_commands.specs.declared.ending.Ending.TheVariants as ending
+use Rattle.tb_commands.specs.declared.report_command.Inquiry.{Inquiry}
+use Rattle.tb_commands.proofs.CompleteLemmas.{award-completes}
+use Rattle.tb_commands.proofs.DiskLemmas.{Unopened-untouched}
+use Rattle.tb_commands.proofs.FollowEndLemmas.{send-completes, take-completes}
+use Rattle.tb_commands.proofs.ImportEndLemmas.{import-completes}
+use Rattle.tb_commands.proofs.MigrateLemmas.{migrate-completes, migrate-untouched}
+use Rattle.tb_commands.proofs.RegisterLemmas.{register-completes}
+use Rattle.tb_commands.proofs.ReportLemmas.{report-completes}
+use Rattle.tb_commands.proofs.ScriptLawLemmas.{run-completes}
 use Rattle.tb_host.proofs.ServeHostLemmas.{serve-completes}
-use Rattle.tb_host.proofs.TrialLemmas.{trial-completes}
+use Rattle.tb_commands.proofs.TrialLemmas.{trial-completes}
 
 -- what is told of an ending
 pub reports-as : (one other : Ending) (err err' : SinkState) → one ≡ other → Reports one err err'

@@ -13,16 +13,16 @@ use Rattle.tb_history.specs.Legal.{IsLegal, running}
 use Rattle.tb_history.specs.OwnPart.{depends_on_others, own_part}
 use Rattle.tb_desk.specs.Turn.{AreBids, Asked, DependOnNoOthers, group, verdicts, verdicts_on}
 use Rattle.tb_desk.proofs.JudgeLemmas.{sealed-all}
-use Rattle.tb_host.specs.DiskRun.{Stays}
+use Rattle.tb_commands.specs.DiskRun.{Stays}
 use Rattle.tb_host.specs.Headline.{Begins}
-use Rattle.tb_host.specs.ImportRun.{AreSent, IsImport, SentRow}
+use Rattle.tb_commands.specs.ImportRun.{AreSent, IsImport, SentRow}
 use Rattle.tb_host.specs.ScriptHeadline.{AreAnsweredBy, AreRepliedIn, AreSealedReplies, AreSentAt, HasAccepted, IsRowAcknowledged, RowsHeadline, RunHasHeadline, SentTurn}
-use Rattle.tb_host.specs.Standings.{Standing}
-use Rattle.tb_host.specs.declared.sender.Sender.{Sender}
+use Rattle.tb_commands.specs.Standings.{Standing}
+use Rattle.tb_commands.specs.declared.sender.Sender.{Sender}
 use Rattle.tb_host.proofs.AnsweredLemmas.{Begins-both, Contains-begins, IsBetween-here, IsLegal-begins, answered-on, rows-stand}
 use Rattle.tb_host.proofs.HeadlineLemmas.{AddsUp-legal, bids-in-time, kept-told}
-use Rattle.tb_host.proofs.ImportLemmas.{import-grown}
-use Rattle.tb_host.proofs.TurnLemmas.{at-grown}
+use Rattle.tb_commands.proofs.ImportLemmas.{import-grown}
+use Rattle.tb_commands.proofs.TurnLemmas.{at-grown}
 
 -- a bid doesn't depend on others
 bid-still : (m : Message) → IsBid m → depends_on_others m ≡ false

@@ -16,7 +16,7 @@ use Rattle.tb_session.specs.declared.called.Outcome.TheVariants as outcome
 use Rattle.tb_session.specs.Codes.{Made, IsAnswered, HasRange, spelled_all}
 use Rattle.tb_session.specs.Serve.{AreApart, IsHistoryOf, MayHaveMade}
 use Rattle.tb_host.specs.Headline.{AddOthers, Begins, IsAnsweredIn, MayHaveAdded, OneHistory}
-use Rattle.tb_host.specs.Standings.{Standing}
+use Rattle.tb_commands.specs.Standings.{Standing}
 
 -- a list whose records begin those of another begins it
 pub Begins-spelled : (front whole : List Entry)

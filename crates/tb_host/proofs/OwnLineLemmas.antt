@@ -20,13 +20,13 @@ use Rattle.tb_desk.specs.Turn.{Asked, Held, Replies, added_by, group}
 use Rattle.tb_session.specs.Calls.{caller_on}
 use Rattle.tb_session.proofs.CallerLemmas.{caller_on-append}
 use Rattle.tb_host.specs.Headline.{Begins}
-use Rattle.tb_host.specs.Replies.{Asks, IsAnswered, IsReply, asked_by}
+use Rattle.tb_commands.specs.Replies.{Asks, IsAnswered, IsReply, asked_by}
 use Rattle.tb_host.specs.ScriptHeadline.{IsOfLine}
-use Rattle.tb_host.specs.ScriptRun.{IsActedOn, IsRun}
-use Rattle.tb_host.specs.Standings.{Standing, held_at}
-use Rattle.tb_host.specs.Turns.{GoesOneWay, MakesTurn}
+use Rattle.tb_commands.specs.ScriptRun.{IsActedOn, IsRun}
+use Rattle.tb_commands.specs.Standings.{Standing, held_at}
+use Rattle.tb_commands.specs.Turns.{GoesOneWay, MakesTurn}
 use Rattle.tb_host.proofs.AnsweredLemmas.{Begins-both}
-use Rattle.tb_host.proofs.GrownLemmas.{run-goes}
+use Rattle.tb_commands.proofs.GrownLemmas.{run-goes}
 
 -- the entry of a caller's message, at a moment
 abbrev pub entry_of : List ℕ → ℕ → Message → Moment → Entry

@@ -14,12 +14,12 @@ use Rattle.tb_desk.specs.Turn.{Asked, added, group_on}
 use Rattle.tb_session.specs.Calls.{caller_on}
 use Rattle.tb_session.proofs.CallerLemmas.{caller_on-append}
 use Rattle.tb_host.specs.Headline.{Begins}
-use Rattle.tb_host.specs.ImportRun.{AreSent, IsImport, SentRow}
+use Rattle.tb_commands.specs.ImportRun.{AreSent, IsImport, SentRow}
 use Rattle.tb_host.specs.ScriptHeadline.{IsOfRow}
-use Rattle.tb_host.specs.Standings.{Standing}
-use Rattle.tb_host.specs.declared.sender.Sender.{Sender}
+use Rattle.tb_commands.specs.Standings.{Standing}
+use Rattle.tb_commands.specs.declared.sender.Sender.{Sender}
 use Rattle.tb_host.proofs.AnsweredLemmas.{Begins-both}
-use Rattle.tb_host.proofs.ImportLemmas.{import-grown}
+use Rattle.tb_commands.proofs.ImportLemmas.{import-grown}
 use Rattle.tb_host.proofs.OwnLineLemmas.{AddsOwn, added-own, both-own, entry_of, same-own, turn-own}
 
 module _ (P : Entry → Type 0) where

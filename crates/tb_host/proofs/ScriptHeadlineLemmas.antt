@@ -17,19 +17,19 @@ use Rattle.tb_desk.specs.Desks.{replies_of}
 use Rattle.tb_desk.specs.Turn.{group, verdicts}
 use Rattle.tb_desk.specs.declared.reply.Reply.{Reply}
 use Rattle.tb_desk.specs.declared.reply.Reply.TheVariants as turned
-use Rattle.tb_host.specs.DiskRun.{Stays}
+use Rattle.tb_commands.specs.DiskRun.{Stays}
 use Rattle.tb_host.specs.Headline.{Begins}
-use Rattle.tb_host.specs.Replies.{Asks, IsAnswered, IsReply, IsSaid, IsTold, asked_by, refused}
+use Rattle.tb_commands.specs.Replies.{Asks, IsAnswered, IsReply, IsSaid, IsTold, asked_by, refused}
 use Rattle.tb_host.specs.ScriptHeadline.{HasHeadline, IsAcknowledged, IsActedOnAt, IsRepliedIn, IsRowAccepted, IsSealedReply, IsToldByTheRule, LineHeadline, Replied, Says, accepted_line}
-use Rattle.tb_host.specs.ScriptRun.{IsRun}
-use Rattle.tb_host.specs.Standings.{Standing}
-use Rattle.tb_host.specs.Turns.{told, turn_text, unavailable}
+use Rattle.tb_commands.specs.ScriptRun.{IsRun}
+use Rattle.tb_commands.specs.Standings.{Standing}
+use Rattle.tb_commands.specs.Turns.{told, turn_text, unavailable}
 use Rattle.tb_host.proofs.AnsweredLemmas.{Begins-both, Contains-begins, IsBetween-here, IsLegal-begins, answered-on, rows-stand}
-use Rattle.tb_host.proofs.GrownLemmas.{run-goes}
+use Rattle.tb_commands.proofs.GrownLemmas.{run-goes}
 use Rattle.tb_host.proofs.HeadlineLemmas.{AddsUp-legal, by-the-rule, kept-told}
-use Rattle.tb_host.proofs.OneRunLemmas.{asks-one}
+use Rattle.tb_commands.proofs.OneRunLemmas.{asks-one}
 use Rattle.tb_host.proofs.SealedLemmas.{IsSaid-own}
-use Rattle.tb_host.proofs.TurnLemmas.{at-grown}
+use Rattle.tb_commands.proofs.TurnLemmas.{at-grown}
 
 -- ---- the history on which a line is answered
 

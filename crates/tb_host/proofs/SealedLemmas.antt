@@ -16,8 +16,8 @@ use Rattle.tb_history.specs.Verdict.{verdict_on}
 use Rattle.tb_history.proofs.QueryLemmas.{query_refusal-own}
 use Rattle.tb_history.proofs.SealedLemmas.{IsLegal-sealed}
 use Rattle.tb_core.proofs.AnswerLemmas.{IsReading-own}
-use Rattle.tb_host.specs.Replies.{IsSaid, IsSealed, IsTold}
-use Rattle.tb_host.specs.Turns.{told}
+use Rattle.tb_commands.specs.Replies.{IsSaid, IsSealed, IsTold}
+use Rattle.tb_commands.specs.Turns.{told}
 
 -- the verdict on a message that doesn't depend on others
 pub verdict-own : (history : List Entry) (caller : List ℕ) (moment other : Moment) (number : ℕ) (message : Message)

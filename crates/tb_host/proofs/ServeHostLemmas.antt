@@ -5,14 +5,14 @@ use Rattle.tb_link.specs.Sinks.{SinkState}
 use Rattle.tb_gates.specs.Clocks.{ClockState}
 use Rattle.tb_gates.specs.Gates.{GateState}
 use Rattle.tb_words.specs.declared.command.Command.TheVariants as command
-use Rattle.tb_host.specs.Completeness.{Completes, IsAnswered}
-use Rattle.tb_host.specs.Endings.{ending_of, of_serve}
+use Rattle.tb_commands.specs.Completeness.{Completes, IsAnswered}
+use Rattle.tb_commands.specs.Endings.{ending_of, of_serve}
 use Rattle.tb_host.specs.ServeRun.{Handed, ServeEnds}
-use Rattle.tb_host.specs.declared.command_endings.ServeEnding.{ServeEnding}
-use Rattle.tb_host.specs.declared.command_endings.ServeEnding.TheVariants as serve_ending
-use Rattle.tb_host.specs.declared.ending.Ending.{Ending}
-use Rattle.tb_host.specs.declared.ending.Ending.TheVariants as ending
-use Rattle.tb_host.proofs.ExactLemmas.{Opens-desk, Opens-none}
+use Rattle.tb_commands.specs.declared.command_endings.ServeEnding.{ServeEnding}
+use Rattle.tb_commands.specs.declared.command_endings.ServeEnding.TheVariants as serve_ending
+use Rattle.tb_commands.specs.declared.ending.Ending.{Ending}
+use Rattle.tb_commands.specs.declared.ending.Ending.TheVariants as ending
+use Rattle.tb_commands.proofs.ExactLemmas.{Opens-desk, Opens-none}
 
 -- what links that were served may end as
 abbrev ServedAs : Ending → Type 0

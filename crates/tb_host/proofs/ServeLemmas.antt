@@ -24,16 +24,16 @@ use Rattle.tb_session.specs.declared.room.Room.{Room}
 use Rattle.tb_session.specs.Codes.{Made, fixed_code, spelled_all}
 use Rattle.tb_session.specs.Rooms.{house_of}
 use Rattle.tb_session.specs.Serve.{Run, AreRuns, IsHistoryOf, calls_of_gates, links_of_gates, some_failed}
-use Rattle.tb_host.specs.DiskRun.{CrashesKeep, HasGrown, Unopened}
+use Rattle.tb_commands.specs.DiskRun.{CrashesKeep, HasGrown, Unopened}
 use Rattle.tb_host.specs.ServeRun.{Handed, LinksEnd, LinksServed, OneRose, RoomEnds, RoomServed, ServeEnds, ToldEnds, fixed_at, served_text}
 use Rattle.tb_host.specs.Headline.{OneHistory}
-use Rattle.tb_host.specs.Standings.{Standing, standing}
-use Rattle.tb_host.specs.declared.command_endings.ServeEnding.{ServeEnding}
-use Rattle.tb_host.specs.declared.command_endings.ServeEnding.TheVariants as ending
-use Rattle.tb_host.proofs.DiskLemmas.{CrashesKeep-here, Unopened-here, Unopened-untouched}
+use Rattle.tb_commands.specs.Standings.{Standing, standing}
+use Rattle.tb_commands.specs.declared.command_endings.ServeEnding.{ServeEnding}
+use Rattle.tb_commands.specs.declared.command_endings.ServeEnding.TheVariants as ending
+use Rattle.tb_commands.proofs.DiskLemmas.{CrashesKeep-here, Unopened-here, Unopened-untouched}
 use Rattle.tb_host.proofs.HeadlineLemmas.{Headline-here}
 use Rattle.tb_host.proofs.OneHistoryLemmas.{Begins-spelled, OneHistory-spelled}
-use Rattle.tb_host.proofs.WriteLemmas.{Fails-first, Fails-second, Takes-both}
+use Rattle.tb_commands.proofs.WriteLemmas.{Fails-first, Fails-second, Takes-both}
 
 -- a disk tells as much after calls as before
 tells-on : (P : Past → Past → Type 0) (old new : DiskState) → Told old new P → is_some new.past ≡ is_some old.past

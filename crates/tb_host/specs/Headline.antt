@@ -29,7 +29,7 @@ use Rattle.tb_session.specs.declared.called.Ask.TheVariants as ask
 use Rattle.tb_session.specs.declared.called.Outcome.TheVariants as outcome
 use Rattle.tb_session.specs.Calls.{caller_on, Tells}
 use Rattle.tb_session.specs.Codes.{Made, IsAnswered, IsAnswerOf, operator_in}
-use Rattle.tb_host.specs.Standings.{Standing}
+use Rattle.tb_commands.specs.Standings.{Standing}
 
 -- ---- all replies belong to one legal history
 

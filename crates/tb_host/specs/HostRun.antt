@@ -1,34 +1,28 @@
 -- How the program ends.
-use Rattle.std.specs.Prelude.{◌≡◌, ◌⊎◌, ℕ, List, Some}
+use Rattle.std.specs.Prelude.{◌≡◌, ◌⊎◌, ℕ, List}
 use Rattle.tb_link.specs.Counts.{Rose}
 use Rattle.tb_link.specs.Sources.{SourceState}
 use Rattle.tb_link.specs.Sinks.{SinkState}
 use Rattle.tb_disk.specs.Disks.{DiskState}
-use Rattle.tb_disk.specs.Past.{Past, contents_of}
 use Rattle.tb_gates.specs.Clocks.{ClockState}
 use Rattle.tb_gates.specs.Gates.{GateState}
-use Rattle.tb_message.specs.declared.message.Entry.{Entry}
-use Rattle.tb_message.specs.declared.version.Version.{Version}
-use Rattle.tb_message.specs.declared.version.Version.TheVariants.{Second}
-use Rattle.tb_history.specs.Legal.{IsLegal}
-use Rattle.tb_desk.specs.Stands.{StandsForHistoryIn}
-use Rattle.tb_host.specs.AwardRun.{AwardEnds}
-use Rattle.tb_host.specs.FollowSendRun.{FollowSendEnds}
-use Rattle.tb_host.specs.FollowTakeRun.{FollowTakeEnds}
-use Rattle.tb_host.specs.ImportRun.{ImportEnds}
-use Rattle.tb_host.specs.MigrateRun.{MigrateEnds, Moved}
+use Rattle.tb_commands.specs.AwardRun.{AwardEnds}
+use Rattle.tb_commands.specs.FollowSendRun.{FollowSendEnds}
+use Rattle.tb_commands.specs.FollowTakeRun.{FollowTakeEnds}
+use Rattle.tb_commands.specs.ImportRun.{ImportEnds}
+use Rattle.tb_commands.specs.MigrateRun.{MigrateEnds, Moved}
 use Rattle.tb_register.specs.Keepers.{KeeperState}
-use Rattle.tb_host.specs.RegisterRun.{RegisterEnds, Registry}
-use Rattle.tb_host.specs.ReportRun.{ReportEnds, inquiry}
-use Rattle.tb_host.specs.RunEnds.{Devices, RunEnds}
+use Rattle.tb_commands.specs.RegisterRun.{RegisterEnds, Registry}
+use Rattle.tb_commands.specs.ReportRun.{ReportEnds, inquiry}
+use Rattle.tb_commands.specs.RunEnds.{Devices, RunEnds}
 use Rattle.tb_host.specs.ServeRun.{Handed, OneRose, ServeEnds}
-use Rattle.tb_host.specs.TrialRun.{TrialEnds}
+use Rattle.tb_commands.specs.TrialRun.{TrialEnds}
 use Rattle.tb_words.specs.declared.command.Command.{Command}
 use Rattle.tb_words.specs.declared.command.Command.TheVariants as command
-use Rattle.tb_host.specs.Endings.{Tells, message_of, of_disk, of_migrate, of_print, of_register, of_send}
-use Rattle.tb_host.specs.Endings.{of_serve, of_take, of_text, status_of}
-use Rattle.tb_host.specs.declared.ending.Ending.{Ending}
-use Rattle.tb_host.specs.declared.ending.Ending.TheVariants as ending
+use Rattle.tb_commands.specs.Endings.{Tells, message_of, of_disk, of_migrate, of_print, of_register, of_send}
+use Rattle.tb_commands.specs.Endings.{of_serve, of_take, of_text, status_of}
+use Rattle.tb_commands.specs.declared.ending.Ending.{Ending}
+use Rattle.tb_commands.specs.declared.ending.Ending.TheVariants as ending
 
 -- what a command is handed, as contracts see it
 pub record Objects (G : Type 0) : Type 0 where
@@ -110,12 +104,3 @@ pub record EndsWith (status : ℕ) (err err' : SinkState) (Holds : Ending → Ty
   pub status_is : status ≡ status_of ended
   pub told : Reports ended err err'
   pub holds : Holds ended
-
--- the disk tells that it stands for a legal history in this version
-abbrev pub HasHistoryIn : Version → DiskState → Type 0
-HasHistoryIn version disk = (past : Past) × (disk.past ≡ Some past)
-    × (history : List Entry) × StandsForHistoryIn version history (contents_of past) × IsLegal history
-
--- the same in the second
-abbrev pub HasHistory : DiskState → Type 0
-HasHistory disk = HasHistoryIn Second disk

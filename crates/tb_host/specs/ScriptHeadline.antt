@@ -26,13 +26,13 @@ use Rattle.tb_history.specs.OwnPart.{own_part}
 use Rattle.tb_history.specs.Roster.{registrations, announcements, announcement_of}
 use Rattle.tb_desk.specs.Turn.{AreBids, Asked, Replies, verdicts}
 use Rattle.tb_host.specs.Headline.{AddsUp, Begins, IsByTheRule, KeepsOnce, ReadsPublished}
-use Rattle.tb_host.specs.ImportRun.{AreSent, IsImport, SentRow, group_text}
-use Rattle.tb_host.specs.Replies.{Asks, IsSaid, IsSealed, reading_text, refused}
-use Rattle.tb_host.specs.ScriptLines.{SpellsAsk}
-use Rattle.tb_host.specs.ScriptRun.{IsActedOn, IsRun}
-use Rattle.tb_host.specs.Standings.{Standing}
-use Rattle.tb_host.specs.Turns.{told, unavailable}
-use Rattle.tb_host.specs.declared.sender.Sender.{Sender}
+use Rattle.tb_commands.specs.ImportRun.{AreSent, IsImport, SentRow, group_text}
+use Rattle.tb_commands.specs.Replies.{Asks, IsSaid, IsSealed, reading_text, refused}
+use Rattle.tb_commands.specs.ScriptLines.{SpellsAsk}
+use Rattle.tb_commands.specs.ScriptRun.{IsActedOn, IsRun}
+use Rattle.tb_commands.specs.Standings.{Standing}
+use Rattle.tb_commands.specs.Turns.{told, unavailable}
+use Rattle.tb_commands.specs.declared.sender.Sender.{Sender}
 
 -- ---- both commands
 

@@ -32,11 +32,11 @@ use Rattle.tb_desk.specs.Desks.{CrashesSince}
 use Rattle.tb_session.specs.declared.room.Room.{Room}
 use Rattle.tb_session.specs.Codes.{Made, fixed_code}
 use Rattle.tb_session.specs.Serve.{Run, AreRuns, RunsApart, ServesAll, calls_of_gates, links_of_gates, some_failed}
-use Rattle.tb_host.specs.DiskRun.{Keeps, Stays, Unopened}
+use Rattle.tb_commands.specs.DiskRun.{Keeps, Stays, Unopened}
 use Rattle.tb_host.specs.Headline.{Headline}
-use Rattle.tb_host.specs.Standings.{Standing, standing}
-use Rattle.tb_host.specs.declared.command_endings.ServeEnding.{ServeEnding}
-use Rattle.tb_host.specs.declared.command_endings.ServeEnding.TheVariants as ending
+use Rattle.tb_commands.specs.Standings.{Standing, standing}
+use Rattle.tb_commands.specs.declared.command_endings.ServeEnding.{ServeEnding}
+use Rattle.tb_commands.specs.declared.command_endings.ServeEnding.TheVariants as ending
 
 -- what is printed: so many links were served, and so many entries were added
 abbrev pub served_text : ℕ → ℕ → List ℕ

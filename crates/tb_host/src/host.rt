@@ -3,26 +3,19 @@ ghost use Rattle.std.specs.Prelude.{◌≡◌, ◌↔◌, ◌≤◌, true, false
 ghost use Rattle.tb_words.specs.Commands.{AreCommand, AreWordsOf, IsInRange};
 ghost use Rattle.tb_words.specs.declared.command.Command as declared;
 ghost use Rattle.tb_host.specs.Commands.{HasGates, Stays, ends_at_fault, uses_of};
-ghost use Rattle.tb_host.specs.Completeness.{Completes};
-ghost use Rattle.tb_host.specs.Endings.{IsUnopened, Tells, status_of};
+ghost use Rattle.tb_commands.specs.Completeness.{Completes};
+ghost use Rattle.tb_commands.specs.Endings.{IsUnopened, Tells, status_of};
 ghost use Rattle.tb_host.specs.HostRun.{EndsAs, EndsWith, HasCause, Reports};
-ghost use Rattle.tb_host.specs.ReportRun as spec;
+ghost use Rattle.tb_commands.specs.ReportRun as spec;
 
-use crate::award_command::award;
-use crate::ending::Ending;
-use crate::follow_send_command::follow_send;
-use crate::follow_take_command::follow_take;
-use crate::import_command::import;
-use crate::migrate_command::migrate;
-use crate::register_command::register;
-use crate::report_command::{Inquiry, report};
-use crate::run_command::run;
-use crate::sender::Sender;
 use crate::serve_command::serve;
-use crate::trial_command::trial;
 use std::alloc::Global;
 use std::sync::Wait;
 use std::thread::Threads;
+use tb_commands::{
+    Ending, Inquiry, Sender, award, follow_send, follow_take, import, migrate, register, report,
+    run, trial,
+};
 use tb_disk::Disk;
 use tb_gates::{Clock, Gate};
 use tb_link::{Sink, Source};

@@ -1,26 +1,22 @@
 //! The command `serve`.
-ghost use Rattle.std.specs.Prelude.{◌≡◌, ◌⊎◌, ◌+◌, ◌≤◌, ◌∷◌, ◌++◌, [], length, vec_len, OnOk, OnErr};
-ghost use Rattle.std.specs.Fmt.{decimal};
-ghost use Rattle.tb_units.specs.Bytes.{line_feed};
+ghost use Rattle.std.specs.Prelude.{◌≡◌, ◌⊎◌, ◌+◌, ◌≤◌, [], vec_len};
 ghost use Rattle.tb_link.specs.Counts.{last_count};
-ghost use Rattle.tb_link.specs.Sinks.{Takes, FailsToTake};
 ghost use Rattle.tb_disk.specs.Disks.{DiskState};
 ghost use Rattle.tb_desk.specs.Desks.{CrashesSince};
-ghost use Rattle.tb_host.specs.DiskRun.{Stays};
-ghost use Rattle.tb_host.specs.Standings.{standing};
+ghost use Rattle.tb_commands.specs.DiskRun.{Stays};
+ghost use Rattle.tb_commands.specs.Standings.{standing};
 ghost use Rattle.tb_host.specs.ServeRun.{ServeEnds, ToldEnds, RoomEnds, served_text};
 
-use crate::command_endings::ServeEnding;
-use crate::ending::{push_text, text};
 use std::alloc::Global;
 use std::sync::Wait;
 use std::thread::Threads;
+use tb_commands::{ServeEnding, tell_count};
 use tb_desk::{Desk, OpenFault};
 use tb_disk::Disk;
 use tb_gates::{Clock, Gate};
-use tb_link::{Failed, Sink};
+use tb_link::Sink;
 use tb_session::{Ended, Room, serve_gates};
-use tb_units::{Ident, Short};
+use tb_units::Ident;
 
 /// Serves the links of up to 64 gates from the desk on the disk, each gate by a worker of its own, and hands the disk
 /// back: what was accepted stays on it. The journal is opened before the first link is taken. Then how many links were
@@ -135,18 +131,4 @@ fn tell_run<O: Sink>(failed: bool, served: u64, accepted: u64, out: &mut O) -> S
         },
         Err(_) => ServeEnding::WriteFault,
     }
-}
-
-/// Writes a line with a number behind this text, in one write.
-pub fn tell_count<O: Sink>(what: &[u8], number: u64, out: &mut O) -> Result<(), Failed>
-    requires { length what.now ≤ 9 }
-    ensures takes { OnOk result
-        (Takes (O.sink out.old) (O.sink out.new) (what.now ++ decimal number ++ line_feed ∷ [])) }
-    ensures fails { OnErr result
-        (FailsToTake (O.sink out.old) (O.sink out.new) (what.now ++ decimal number ++ line_feed ∷ [])) }
-{
-    let mut line = text(what);
-    push_text(&mut line, Short::whole(number as u128).bytes());
-    line.push(b'\n');
-    out.write(line.bytes())
 }

@@ -1,6 +1,6 @@
 use Rattle.std.proofs.Common.{sym, ap, ◌∙◌}
-use Rattle.tb_host.specs.Endings.{status_of}
-use Rattle.tb_host.proofs.EndingLemmas.{unopened-by_status, usage-at_2}
+use Rattle.tb_commands.specs.Endings.{status_of}
+use Rattle.tb_commands.proofs.EndingLemmas.{unopened-by_status, usage-at_2}
 use Rattle.tb_host.proofs.HostLemmas.{Completes-here, reports-as}
 use Rattle.tb_host.proofs.host.host_main.Goals as goal
 

@@ -1,5 +1,5 @@
 use Rattle.std.proofs.Common.{refl}
-use Rattle.tb_host.proofs.DiskLemmas.{Unopened-here}
+use Rattle.tb_commands.proofs.DiskLemmas.{Unopened-here}
 use Rattle.tb_host.proofs.ServeLemmas.{ServeEnds-room}
 use Rattle.tb_host.proofs.serve_command.serve.Goals as goal
 

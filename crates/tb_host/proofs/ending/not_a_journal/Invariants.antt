@@ -1,8 +1,0 @@
-use Rattle.std.proofs.Common.{◌≡◌, ◌++◌, take}
-use Rattle.std.specs.Prelude.{codes}
-use Rattle.tb_host.specs.Endings.{hexadecimal}
-use Rattle.tb_host.proofs.ending.not_a_journal.Given as goal
-
--- the digits of the bytes so far were pushed
-abbrev pub invariant-loop-byte : goal.invariant-loop-byte
-invariant-loop-byte l = l.message ≡ codes "not a journal " ++ hexadecimal (take l.byte-index l.found)
