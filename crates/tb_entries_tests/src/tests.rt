@@ -4,7 +4,7 @@ use std::process::Abort;
 use tb_entries::{Bids, Entries};
 use tb_history::Bid;
 use tb_message::{Entry, Request, read_request};
-use tb_units::{Dollars, Ident, Moment, OutOfMemory, Rate};
+use tb_units::{Dollars, Ident, Moment, Rate};
 
 /// A message of each kind, behind its submitter.
 const MESSAGES: &str = r#"operator {"number":1,"kind":"register","submitter":"dealer1","key":"k1"}
@@ -49,28 +49,36 @@ fn entry_of(rt: &impl Abort, alloc: Global, line: &str) -> Entry {
     }
 }
 
-fn twenty_entries(rt: &impl Abort, alloc: Global) -> Result<Entries, OutOfMemory> {
+// Adds the entry that a line of messages tells, for which it takes the memory.
+fn add_entry(rt: &impl Abort, alloc: Global, entries: &mut Entries, line: &str) {
+    assert!(rt; entries.reserve(1).is_ok());
+    assert!(rt; 0 < entries.spare());
+    entries.push(&entry_of(rt, alloc, line));
+}
+
+fn twenty_entries(rt: &impl Abort, alloc: Global) -> Entries {
     let mut entries = Entries::new(alloc);
     for line in MESSAGES.lines() {
-        entries.reserve(1)?;
-        assert!(rt; 0 < entries.spare());
-        entries.push(&entry_of(rt, alloc, line));
+        add_entry(rt, alloc, &mut entries, line);
     }
-    Ok(entries)
+    entries
+}
+
+// The entry that the line tells stands in this place, and is found by its submitter and number.
+fn is_told(rt: &impl Abort, alloc: Global, entries: &Entries, place: usize, line: &str) -> bool {
+    let entry = entry_of(rt, alloc, line);
+    entries.get(place) == Some(entry) && entries.find(&entry.submitter, entry.number) == Some(entry)
 }
 
 #[test]
-fn each_entry_is_told_as_it_was_added(rt: HostRuntime) -> Result<(), OutOfMemory> {
+fn each_entry_is_told_as_it_was_added(rt: HostRuntime) {
     let alloc = rt.alloc();
-    let entries = twenty_entries(&rt, alloc)?;
+    let entries = twenty_entries(&rt, alloc);
     assert!(rt; entries.len() == 20);
     assert!(rt; entries.get(20).is_none());
     for (place, line) in MESSAGES.lines().enumerate() {
-        let entry = entry_of(&rt, alloc, line);
-        assert!(rt; entries.get(place) == Some(entry));
-        assert!(rt; entries.find(&entry.submitter, entry.number) == Some(entry));
+        assert!(rt; is_told(&rt, alloc, &entries, place, line));
     }
-    Ok(())
 }
 
 // The last entry, which is taken back, has this number.
@@ -81,22 +89,31 @@ fn ends_with(entries: &mut Entries, number: u64) -> bool {
     }
 }
 
+// So many entries are of the submitter.
+fn sent(rt: &impl Abort, entries: &Entries, submitter: &str, count: usize) -> bool {
+    entries.count(&name(rt, submitter)) == count
+}
+
+// The submitter has no entry of this number.
+fn lacks(rt: &impl Abort, entries: &Entries, submitter: &str, number: u64) -> bool {
+    entries.find(&name(rt, submitter), number).is_none()
+}
+
 #[test]
-fn entries_are_counted_by_submitter(rt: HostRuntime) -> Result<(), OutOfMemory> {
-    let mut entries = twenty_entries(&rt, rt.alloc())?;
-    assert!(rt; entries.count(&name(&rt, "operator")) == 10);
-    assert!(rt; entries.count(&name(&rt, "dealer1")) == 9);
-    assert!(rt; entries.count(&name(&rt, "dealer2")) == 1);
+fn entries_are_counted_by_submitter(rt: HostRuntime) {
+    let mut entries = twenty_entries(&rt, rt.alloc());
+    assert!(rt; sent(&rt, &entries, "operator", 10));
+    assert!(rt; sent(&rt, &entries, "dealer1", 9));
+    assert!(rt; sent(&rt, &entries, "dealer2", 1));
     // It bids and sends nothing.
-    assert!(rt; entries.count(&name(&rt, "fund1")) == 0);
-    assert!(rt; entries.count(&name(&rt, "dealer3")) == 0);
-    assert!(rt; entries.find(&name(&rt, "dealer2"), 1).is_none());
-    assert!(rt; entries.find(&name(&rt, "dealer3"), 1).is_none());
+    assert!(rt; sent(&rt, &entries, "fund1", 0));
+    assert!(rt; sent(&rt, &entries, "dealer3", 0));
+    assert!(rt; lacks(&rt, &entries, "dealer2", 1));
+    assert!(rt; lacks(&rt, &entries, "dealer3", 1));
     assert!(rt; ends_with(&mut entries, 23));
-    assert!(rt; entries.count(&name(&rt, "dealer1")) == 8);
-    assert!(rt; entries.find(&name(&rt, "dealer1"), 23).is_none());
+    assert!(rt; sent(&rt, &entries, "dealer1", 8));
+    assert!(rt; lacks(&rt, &entries, "dealer1", 23));
     assert!(rt; entries.len() == 19);
-    Ok(())
 }
 
 fn bid(rt: &impl Abort, submitter: &str, number: u64, auction: &str, bidder: &str) -> Bid {
@@ -121,11 +138,35 @@ fn counts(rt: &impl Abort, bids: &Bids, auction: &str, bidder: &str, count: usiz
     bids.count(&name(rt, auction), &name(rt, bidder)) == count
 }
 
+// The only bids of `dealer1` in the auction of `bill13` are these two, in this order.
+fn has_sent_two(rt: &impl Abort, alloc: Global, bids: &Bids, first: &Bid, second: &Bid) -> bool {
+    match bids.from(alloc, &name(rt, "dealer1"), &name(rt, "bill13")) {
+        Ok(own) => own.len() == 2 && own.first() == Some(first) && own.last() == Some(second),
+        Err(_) => false,
+    }
+}
+
+// The submitter has no bid in the auction of `bill13`.
+fn has_sent_none(rt: &impl Abort, alloc: Global, bids: &Bids, submitter: &str) -> bool {
+    match bids.from(alloc, &name(rt, submitter), &name(rt, "bill13")) {
+        Ok(none) => none.is_empty(),
+        Err(_) => false,
+    }
+}
+
+// The last bid, which is taken back, has this number.
+fn bids_end_with(bids: &mut Bids, number: u64) -> bool {
+    match &bids.pop() {
+        Some(last) => last.number == number,
+        None => false,
+    }
+}
+
 #[test]
-fn bids_are_counted_and_gone_through(rt: HostRuntime) -> Result<(), OutOfMemory> {
+fn bids_are_counted_and_gone_through(rt: HostRuntime) {
     let alloc = rt.alloc();
     let mut bids = Bids::new(alloc);
-    bids.reserve(4)?;
+    assert!(rt; bids.reserve(4).is_ok());
     let first = bid(&rt, "dealer1", 1, "bill13", "fund1");
     let third = bid(&rt, "dealer1", 2, "bill13", "fund2");
     add(&rt, &mut bids, &first);
@@ -137,11 +178,8 @@ fn bids_are_counted_and_gone_through(rt: HostRuntime) -> Result<(), OutOfMemory>
     assert!(rt; counts(&rt, &bids, "bill26", "fund1", 1));
     assert!(rt; counts(&rt, &bids, "bill26", "fund2", 0));
     assert!(rt; counts(&rt, &bids, "bill26", "fund4", 0));
-    let own = bids.from(alloc, &name(&rt, "dealer1"), &name(&rt, "bill13"))?;
-    assert!(rt; own.len() == 2 && own.first() == Some(&first) && own.last() == Some(&third));
-    let none = bids.from(alloc, &name(&rt, "dealer3"), &name(&rt, "bill13"))?;
-    assert!(rt; none.is_empty());
-    assert!(rt; bids.pop().map(|last| last.number) == Some(3));
+    assert!(rt; has_sent_two(&rt, alloc, &bids, &first, &third));
+    assert!(rt; has_sent_none(&rt, alloc, &bids, "dealer3"));
+    assert!(rt; bids_end_with(&mut bids, 3));
     assert!(rt; counts(&rt, &bids, "bill26", "fund1", 0));
-    Ok(())
 }
