@@ -1,7 +1,8 @@
 //! Tests of the public calls. The bytes of records were spelled by hand from the table of formats.
+ghost use Rattle.tb_message.specs.Spelling.{IsInRange};
+
 use std::alloc::Global;
 use std::process::Abort;
-use std::test::Fail;
 use tb_message::{
     Entry, Key, Kind, Message, Query, ReadFault, Request, RequestReader, Verdict, read_request,
     verdict_line,
@@ -114,80 +115,121 @@ fn name(rt: &impl Abort, text: &str) -> Ident {
     Ident::read(text).expect(rt, "no name")
 }
 
-fn reading(alloc: Global, text: &str) -> Result<String, Fail> {
-    let told = match read_request(alloc, text.as_bytes()) {
-        Ok(request) => format!(in alloc; "{request:?}")?,
-        Err(fault) => format!(in alloc; "{fault:?}")?,
-    };
-    Ok(told)
+// What is told of the text, as it prints.
+fn reading(rt: &impl Abort, alloc: Global, text: &str) -> String {
+    match read_request(alloc, text.as_bytes()) {
+        Ok(request) => format!(in alloc; "{request:?}").expect(rt, "memory"),
+        Err(fault) => format!(in alloc; "{fault:?}").expect(rt, "memory"),
+    }
 }
 
-fn hexadecimal(alloc: Global, bytes: &[u8]) -> Result<String, Fail> {
+// This is told of the text.
+fn reads(rt: &impl Abort, alloc: Global, text: &str, told: &str) -> bool {
+    reading(rt, alloc, text).as_str() == told
+}
+
+fn hexadecimal(rt: &impl Abort, alloc: Global, bytes: &[u8]) -> String {
     let mut text = String::new(alloc);
     for byte in bytes {
-        text.push_str(format!(in alloc; "{byte:02x}")?.as_str())?;
+        let digits = format!(in alloc; "{byte:02x}").expect(rt, "memory");
+        assert!(rt; text.push_str(digits.as_str()).is_ok());
     }
-    Ok(text)
+    text
 }
 
-// the bytes without four of them from a place on, by which a moment is longer than in the first version
-fn without_four(alloc: Global, bytes: &[u8], place: usize) -> Result<Vec<u8>, Fail> {
+// The bytes without four of them from a place on, by which a moment is longer than in the first version.
+fn without_four(rt: &impl Abort, alloc: Global, bytes: &[u8], place: usize) -> Vec<u8> {
     let mut left = Vec::new(alloc);
     for (at, byte) in bytes.iter().enumerate() {
         if at < place || at - place >= 4 {
-            left.push(*byte)?;
+            assert!(rt; left.push(*byte).is_ok());
         }
     }
-    Ok(left)
+    left
 }
 
-#[test]
-fn a_message_of_each_kind_is_read_put_and_taken(rt: HostRuntime) -> Result<(), Fail> {
-    let alloc = rt.alloc();
-    let moment = Moment {
-        seconds: 1_730_700_000,
+// The entry of a text whose record is this.
+fn entry_of(rt: &impl Abort, alloc: Global, record: &str, text: &str) -> Entry
+    ensures { IsInRange result }
+{
+    let request = read_request(alloc, text.as_bytes());
+    let Ok(Request::Message { number, message }) = &request else {
+        panic!(rt; "no message");
     };
-    for line in RECORDS.lines() {
-        let (record, text) = line.split_once(' ').ok_or("no space")?;
-        let Ok(Request::Message { number, message }) = read_request(alloc, text.as_bytes()) else {
-            return Err(Fail::from("no message"));
-        };
-        let submitter = name(
-            &rt,
-            if record.starts_with("08") {
-                "operator"
-            } else {
-                "dealer1"
-            },
-        );
-        let entry = Entry {
-            submitter,
-            number,
-            moment,
-            message,
-        };
-        let put = entry.put();
-        let (_, front) = put.bytes().split_last().ok_or("no bytes")?;
-        let first = without_four(alloc, put.bytes(), submitter.bytes().len() + 9)?;
-        assert_eq!(rt; hexadecimal(alloc, put.bytes())?.as_str(), record);
-        assert_eq!(rt; Entry::take(put.bytes()), Some((entry, put.bytes().len())));
-        assert_eq!(rt; Entry::take(front), None);
-        assert_eq!(rt; Entry::take_first(&first), Some((entry, first.len())));
-        assert_eq!(rt; Entry::take_first(put.bytes()), None);
-        assert_eq!(rt; Entry::take(&first), None);
+    let is_operator = record.starts_with("08");
+    Entry {
+        submitter: name(rt, if is_operator { "operator" } else { "dealer1" }),
+        number: *number,
+        moment: Moment {
+            seconds: 1_730_700_000,
+        },
+        message: *message,
     }
-    assert_eq!(rt; RECORDS.lines().count(), 23);
-    Ok(())
+}
+
+// The entry is taken of the record, but not without its last byte, nor in the first version.
+fn is_taken(entry: Entry, record: &[u8]) -> bool {
+    let Some((_, front)) = record.split_last() else {
+        return false;
+    };
+    Entry::take(record) == Some((entry, record.len()))
+        && Entry::take(front).is_none()
+        && Entry::take_first(record).is_none()
+}
+
+// The entry is taken of the same record in the first version, but not in this one.
+fn is_taken_first(rt: &impl Abort, alloc: Global, entry: Entry, record: &[u8]) -> bool {
+    let first = without_four(rt, alloc, record, entry.submitter.bytes().len() + 9);
+    Entry::take_first(&first) == Some((entry, first.len())) && Entry::take(&first).is_none()
+}
+
+// The bytes are these in hexadecimal.
+fn are_spelled(rt: &impl Abort, alloc: Global, bytes: &[u8], digits: &str) -> bool {
+    hexadecimal(rt, alloc, bytes).as_str() == digits
+}
+
+// The line's text is read, and its record put and taken.
+fn is_put_and_taken(rt: &impl Abort, alloc: Global, line: &str) -> bool {
+    let Some((record, text)) = line.split_once(' ') else {
+        return false;
+    };
+    let entry = entry_of(rt, alloc, record, text);
+    let put = entry.put();
+    are_spelled(rt, alloc, put.bytes(), record)
+        && is_taken(entry, put.bytes())
+        && is_taken_first(rt, alloc, entry, put.bytes())
 }
 
 #[test]
-fn the_first_member_that_fails_is_told(rt: HostRuntime) -> Result<(), Fail> {
-    let alloc = rt.alloc();
-    for line in READINGS.lines() {
-        let (told, text) = line.split_once(' ').ok_or("no space")?;
-        assert_eq!(rt; reading(alloc, text)?.as_str(), told, "{text}");
+fn a_message_of_each_kind_is_read_put_and_taken(rt: HostRuntime) {
+    for line in RECORDS.lines() {
+        if !is_put_and_taken(&rt, rt.alloc(), line) {
+            rt.panic(line);
+        }
     }
-    Ok(())
+    assert!(rt; RECORDS.lines().count() == 23);
+}
+
+// What the line says is told of its text.
+fn is_told(rt: &impl Abort, alloc: Global, line: &str) -> bool {
+    match line.split_once(' ') {
+        Some((told, text)) => reads(rt, alloc, text, told),
+        None => false,
+    }
+}
+
+#[test]
+fn the_first_member_that_fails_is_told(rt: HostRuntime) {
+    for line in READINGS.lines() {
+        if !is_told(&rt, rt.alloc(), line) {
+            rt.panic(line);
+        }
+    }
+}
+
+// The same is told of both texts.
+fn are_alike(alloc: Global, one: &[u8], other: &[u8]) -> bool {
+    read_request(alloc, one) == read_request(alloc, other)
 }
 
 #[test]
@@ -195,116 +237,143 @@ fn members_of_other_kinds_are_ignored(rt: HostRuntime) {
     let plain = br#"{"number":8,"kind":"addon","auction":"a","holder":"b","amount":100}"#;
     let more =
         br#"{"number":8,"kind":"addon","auction":"a","holder":"b","amount":100,"to":7,"price":"x"}"#;
-    assert_eq!(rt;
-        read_request(rt.alloc(), more),
-        read_request(rt.alloc(), plain)
-    );
+    assert!(rt; are_alike(rt.alloc(), more, plain));
     let other = br#"{"number":8,"kind":"addon","auction":"a","holder":"b","amount":200}"#;
-    assert!(rt; read_request(rt.alloc(), other) != read_request(rt.alloc(), plain));
+    assert!(rt; !are_alike(rt.alloc(), other, plain));
 }
 
-// What each call tells of a text.
-fn told_alike(
+// The reader tells of a text what is told without one.
+fn reads_alike(alloc: Global, requests: &mut RequestReader, text: &str) -> bool {
+    requests.read(text.as_bytes()) == read_request(alloc, text.as_bytes())
+}
+
+// This is told of the text, without the reader and by it.
+fn tells_alike(
     rt: &impl Abort,
     alloc: Global,
     requests: &mut RequestReader,
     text: &str,
     told: &str,
-) -> Result<(), Fail> {
-    assert_eq!(rt; reading(alloc, text)?.as_str(), told, "{text}");
-    assert_eq!(rt;
-        requests.read(text.as_bytes()),
-        read_request(alloc, text.as_bytes()),
-        "{text}"
-    );
-    Ok(())
+) -> bool {
+    reads(rt, alloc, text, told) && reads_alike(alloc, requests, text)
+}
+
+// What the line says is told of its members behind a number, and behind an array.
+fn is_told_alike(rt: &impl Abort, alloc: Global, requests: &mut RequestReader, line: &str) -> bool {
+    let Some((told, members)) = line.split_once(' ') else {
+        return false;
+    };
+    let plain = format!(in alloc; "{{\"first\":0,{members}").expect(rt, "memory");
+    let nested = format!(in alloc; "{{\"first\":[],{members}").expect(rt, "memory");
+    tells_alike(rt, alloc, requests, plain.as_str(), told)
+        && tells_alike(rt, alloc, requests, nested.as_str(), told)
 }
 
 #[test]
-fn a_tree_tells_what_is_told_without_one(rt: HostRuntime) -> Result<(), Fail> {
-    let alloc = rt.alloc();
-    let mut requests = RequestReader::new(alloc);
+fn a_tree_tells_what_is_told_without_one(rt: HostRuntime) {
+    let mut requests = RequestReader::new(rt.alloc());
     for line in MEMBERS.lines() {
-        let (told, members) = line.split_once(' ').ok_or("no space")?;
-        let plain = format!(in alloc; "{{\"first\":0,{members}")?;
-        let nested = format!(in alloc; "{{\"first\":[],{members}")?;
-        told_alike(&rt, alloc, &mut requests, plain.as_str(), told)?;
-        told_alike(&rt, alloc, &mut requests, nested.as_str(), told)?;
+        if !is_told_alike(&rt, rt.alloc(), &mut requests, line) {
+            rt.panic(line);
+        }
     }
-    Ok(())
+}
+
+// The reader tells of each line's text what is told without one.
+fn read_lines(rt: &impl Abort, alloc: Global, requests: &mut RequestReader, lines: &str) {
+    for line in lines.lines() {
+        let (_, text) = line.split_once(' ').expect(rt, "no space");
+        if !reads_alike(alloc, requests, text) {
+            rt.panic(line);
+        }
+    }
+}
+
+// The reader tells that the text is no JSON.
+fn is_bad(requests: &mut RequestReader, text: &[u8]) -> bool {
+    requests.read(text) == Err(ReadFault::BadJson)
+}
+
+// The reader tells that the text asks for the funds.
+fn asks_for_funds(requests: &mut RequestReader, text: &[u8]) -> bool {
+    requests.read(text) == Ok(Request::Query(Query::Funds))
 }
 
 #[test]
-fn one_reader_reads_text_after_text(rt: HostRuntime) -> Result<(), Fail> {
-    let alloc = rt.alloc();
-    let mut requests = RequestReader::new(alloc);
-    for line in RECORDS.lines().chain(READINGS.lines()) {
-        let (_, text) = line.split_once(' ').ok_or("no space")?;
-        assert_eq!(rt;
-            requests.read(text.as_bytes()),
-            read_request(alloc, text.as_bytes()),
-            "{text}"
-        );
-    }
-    let funds = br#"{"kind":"funds"}"#;
-    assert_eq!(rt;
-        requests.read(b"{\"kind\":\"funds\",\"no\":\"\xff\"}"),
-        Err(ReadFault::BadJson)
-    );
-    assert_eq!(rt; requests.read(b""), Err(ReadFault::BadJson));
-    assert_eq!(rt;
-        requests.read(b"{\"kind\":\"fun\tds\"}"),
-        Err(ReadFault::BadJson)
-    );
-    assert_eq!(rt;
-        requests.read(b"\r\n{\t\"kind\"\n:\"funds\"\r}\n"),
-        Ok(Request::Query(Query::Funds))
-    );
-    assert_eq!(rt; requests.read(funds), Ok(Request::Query(Query::Funds)));
-    Ok(())
+fn one_reader_reads_text_after_text(rt: HostRuntime) {
+    let mut requests = RequestReader::new(rt.alloc());
+    read_lines(&rt, rt.alloc(), &mut requests, RECORDS);
+    read_lines(&rt, rt.alloc(), &mut requests, READINGS);
+    assert!(rt; is_bad(&mut requests, b"{\"kind\":\"funds\",\"no\":\"\xff\"}"));
+    assert!(rt; is_bad(&mut requests, b""));
+    assert!(rt; is_bad(&mut requests, b"{\"kind\":\"fun\tds\"}"));
+    assert!(rt; asks_for_funds(&mut requests, b"\r\n{\t\"kind\"\n:\"funds\"\r}\n"));
+    assert!(rt; asks_for_funds(&mut requests, br#"{"kind":"funds"}"#));
 }
 
 // So many brackets within one another.
-fn brackets(alloc: Global, depth: usize) -> Result<String, Fail> {
+fn brackets(rt: &impl Abort, alloc: Global, depth: usize) -> String {
     let mut text = String::new(alloc);
     for _ in 0..depth {
-        text.push('[')?;
+        assert!(rt; text.push('[').is_ok());
     }
     for _ in 0..depth {
-        text.push(']')?;
+        assert!(rt; text.push(']').is_ok());
     }
-    Ok(text)
+    text
+}
+
+// This is told of so many brackets within one another.
+fn brackets_read(rt: &impl Abort, alloc: Global, depth: usize, told: &str) -> bool {
+    reads(rt, alloc, brackets(rt, alloc, depth).as_str(), told)
+}
+
+// This is told of an object with a member of so many brackets.
+fn member_reads(rt: &impl Abort, alloc: Global, depth: usize, told: &str) -> bool {
+    let deep = brackets(rt, alloc, depth);
+    let text = format!(in alloc; "{{\"kind\":\"funds\",\"deep\":{deep}}}").expect(rt, "memory");
+    reads(rt, alloc, text.as_str(), told)
 }
 
 #[test]
-fn brackets_nest_127_deep(rt: HostRuntime) -> Result<(), Fail> {
-    let alloc = rt.alloc();
-    assert_eq!(rt;
-        reading(alloc, brackets(alloc, 127)?.as_str())?.as_str(),
-        "BadShape(Body)"
-    );
-    assert_eq!(rt;
-        reading(alloc, brackets(alloc, 128)?.as_str())?.as_str(),
-        "BadJson"
-    );
-    let deep = brackets(alloc, 126)?;
-    let member = format!(in alloc; "{{\"kind\":\"funds\",\"deep\":{deep}}}")?;
-    assert_eq!(rt; reading(alloc, member.as_str())?.as_str(), "Query(Funds)");
-    let deeper = brackets(alloc, 127)?;
-    let deeper_member = format!(in alloc; "{{\"kind\":\"funds\",\"deep\":{deeper}}}")?;
-    assert_eq!(rt; reading(alloc, deeper_member.as_str())?.as_str(), "BadJson");
-    Ok(())
+fn brackets_nest_127_deep(rt: HostRuntime) {
+    assert!(rt; brackets_read(&rt, rt.alloc(), 127, "BadShape(Body)"));
+    assert!(rt; brackets_read(&rt, rt.alloc(), 128, "BadJson"));
+    assert!(rt; member_reads(&rt, rt.alloc(), 126, "Query(Funds)"));
+    assert!(rt; member_reads(&rt, rt.alloc(), 127, "BadJson"));
+}
+
+// The word is the key of a submitter of this name.
+fn is_submitters(rt: &impl Abort, word: &str, text: &str) -> bool {
+    Key::read(word) == Some(Key::Submitter(name(rt, text)))
+}
+
+// The word is the key of an operator of this name.
+fn is_operators(rt: &impl Abort, word: &str, text: &str) -> bool {
+    Key::read(word) == Some(Key::Operator(name(rt, text)))
+}
+
+// The word is no key.
+fn is_no_key(word: &str) -> bool {
+    Key::read(word).is_none()
 }
 
 #[test]
 fn key_words_are_names_or_those_behind_op(rt: HostRuntime) {
-    assert_eq!(rt; Key::read("k1"), Some(Key::Submitter(name(&rt, "k1"))));
-    assert_eq!(rt;
-        Key::read("op:root"),
-        Some(Key::Operator(name(&rt, "root")))
-    );
-    assert_eq!(rt; Key::read("op:"), None);
-    assert_eq!(rt; Key::read("Op:root"), None);
+    assert!(rt; is_submitters(&rt, "k1", "k1"));
+    assert!(rt; is_operators(&rt, "op:root", "root"));
+    assert!(rt; is_no_key("op:"));
+    assert!(rt; is_no_key("Op:root"));
+}
+
+// The verdict is told by this line.
+fn tells(verdict: &Verdict, line: &str) -> bool {
+    verdict_line(verdict).bytes() == line.as_bytes()
+}
+
+// The refusal is told by this line.
+fn refuses(refusal: Refusal, line: &str) -> bool {
+    tells(&Verdict::Refused(refusal), line)
 }
 
 #[test]
@@ -312,56 +381,37 @@ fn verdicts_are_told_with_their_values(rt: HostRuntime) {
     let moment = Moment {
         seconds: 1_730_737_800,
     };
-    let repeat = Verdict::Repeat { number: 1, moment };
-    let late = Verdict::Refused(Refusal::Late {
+    let late = Refusal::Late {
         moment,
         closing: moment,
-    });
+    };
     let free = Dollars { value: 600 };
+    let balance = Cents { value: 70_300 };
     let payment = Day { number: 20_137 };
     let auction = name(&rt, "sat1");
-    tells(&rt, repeat, "accepted 1 1730737800");
-    tells(&rt, late, "refused 17 Late 1730737800 1730737800");
-    tells(
-        &rt,
-        Verdict::Refused(Refusal::BadShape(Field::Rate)),
-        "refused 6 BadShape rate",
+    assert!(rt;
+        tells(
+            &Verdict::Repeat { number: 1, moment },
+            "accepted 1 1730737800"
+        )
     );
-    tells(
-        &rt,
-        Verdict::Refused(Refusal::InsufficientFree { free }),
-        "refused 73 InsufficientFree 600",
+    assert!(rt; refuses(late, "refused 17 Late 1730737800 1730737800"));
+    assert!(rt; refuses(Refusal::BadShape(Field::Rate), "refused 6 BadShape rate"));
+    assert!(rt;
+        refuses(
+            Refusal::InsufficientFree { free },
+            "refused 73 InsufficientFree 600"
+        )
     );
-    tells(
-        &rt,
-        Verdict::Refused(Refusal::InsufficientFunds {
-            balance: Cents { value: 70_300 },
-        }),
-        "refused 90 InsufficientFunds 703.00",
+    assert!(rt;
+        refuses(
+            Refusal::InsufficientFunds { balance },
+            "refused 90 InsufficientFunds 703.00"
+        )
     );
-    tells(
-        &rt,
-        Verdict::Refused(Refusal::NotDue { payment }),
-        "refused 81 NotDue 2025-02-18",
-    );
-    tells(
-        &rt,
-        Verdict::Refused(Refusal::Unsettled { auction }),
-        "refused 74 Unsettled sat1",
-    );
-    tells(
-        &rt,
-        Verdict::Refused(Refusal::NumberReused),
-        "refused 3 NumberReused",
-    );
-}
-
-fn tells(rt: &impl Abort, verdict: Verdict, wanted: &str) {
-    assert_eq!(rt;
-        verdict_line(&verdict).bytes(),
-        wanted.as_bytes(),
-        "{wanted}"
-    );
+    assert!(rt; refuses(Refusal::NotDue { payment }, "refused 81 NotDue 2025-02-18"));
+    assert!(rt; refuses(Refusal::Unsettled { auction }, "refused 74 Unsettled sat1"));
+    assert!(rt; refuses(Refusal::NumberReused, "refused 3 NumberReused"));
 }
 
 /// Records of a deposit, a withdrawal and a sell without the money that ends them.
@@ -373,26 +423,25 @@ const SELL: &[u8] = b"\x07dealer1\0\0\0\0\0\0\0\x06\0\0\0\0\x67\x28\x62\xe0\x12\
     912797AA5\x07dealer2\0\0\0\0\0\0\x01\x2c";
 
 // Whether the record with so much money is one.
-fn is_record(alloc: Global, front: &[u8], cents: u64) -> Result<bool, Fail> {
-    let mut record = front.to_vec(alloc)?;
-    record.extend_from_slice(&cents.to_be_bytes())?;
-    Ok(Entry::take(&record).is_some())
+fn is_record(rt: &impl Abort, alloc: Global, front: &[u8], cents: u64) -> bool {
+    let mut record = front.to_vec(alloc).expect(rt, "memory");
+    assert!(rt; record.extend_from_slice(&cents.to_be_bytes()).is_ok());
+    Entry::take(&record).is_some()
 }
 
 #[test]
-fn a_record_has_money_from_a_cent_to_the_largest(rt: HostRuntime) -> Result<(), Fail> {
+fn a_record_has_money_from_a_cent_to_the_largest(rt: HostRuntime) {
     let alloc = rt.alloc();
-    assert!(rt; !is_record(alloc, DEPOSIT, 0)?);
-    assert!(rt; is_record(alloc, DEPOSIT, 1)?);
-    assert!(rt; is_record(alloc, DEPOSIT, 100_000_000_000_000)?);
-    assert!(rt; !is_record(alloc, DEPOSIT, 100_000_000_000_001)?);
-    assert!(rt; !is_record(alloc, WITHDRAWAL, 0)?);
-    assert!(rt; is_record(alloc, WITHDRAWAL, 100_000_000_000_000)?);
-    assert!(rt; !is_record(alloc, WITHDRAWAL, 100_000_000_000_001)?);
-    assert!(rt; !is_record(alloc, SELL, 0)?);
-    assert!(rt; is_record(alloc, SELL, 1)?);
-    assert!(rt; is_record(alloc, SELL, 100_000_000_000_000)?);
-    assert!(rt; !is_record(alloc, SELL, 100_000_000_000_001)?);
-    assert!(rt; !is_record(alloc, SELL, 18_446_744_073_709_551_615)?);
-    Ok(())
+    assert!(rt; !is_record(&rt, alloc, DEPOSIT, 0));
+    assert!(rt; is_record(&rt, alloc, DEPOSIT, 1));
+    assert!(rt; is_record(&rt, alloc, DEPOSIT, 100_000_000_000_000));
+    assert!(rt; !is_record(&rt, alloc, DEPOSIT, 100_000_000_000_001));
+    assert!(rt; !is_record(&rt, alloc, WITHDRAWAL, 0));
+    assert!(rt; is_record(&rt, alloc, WITHDRAWAL, 100_000_000_000_000));
+    assert!(rt; !is_record(&rt, alloc, WITHDRAWAL, 100_000_000_000_001));
+    assert!(rt; !is_record(&rt, alloc, SELL, 0));
+    assert!(rt; is_record(&rt, alloc, SELL, 1));
+    assert!(rt; is_record(&rt, alloc, SELL, 100_000_000_000_000));
+    assert!(rt; !is_record(&rt, alloc, SELL, 100_000_000_000_001));
+    assert!(rt; !is_record(&rt, alloc, SELL, 18_446_744_073_709_551_615));
 }
