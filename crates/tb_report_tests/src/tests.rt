@@ -12,7 +12,7 @@ use tb_history::{
 use tb_price::Investment;
 use tb_report::{line_count, text};
 use tb_terms::{Announcement, Cusip};
-use tb_units::{Cents, Day, Dollars, Ident, OutOfMemory, Percent, Price, Rate};
+use tb_units::{Cents, Day, Dollars, Ident, Percent, Price, Rate};
 
 const TERMS: &str = "auction bill13
 cusip 912797AA5
@@ -115,26 +115,21 @@ fn figures() -> Figures {
     }
 }
 
-fn tells(rt: &impl Abort, alloc: Global, reading: &Reading, wanted: &str) -> Result<(), OutOfMemory>
+// The reading is told by this text, and has as many lines.
+fn tells(rt: &impl Abort, alloc: Global, reading: &Reading, wanted: &str) -> bool
     requires { IsPrintable reading.now }
 {
-    let found = text(alloc, reading)?;
-    assert_eq!(rt; found.as_slice(), wanted.as_bytes(), "{wanted}");
-    assert_eq!(rt;
-        line_count(reading),
-        wanted.lines().count() as u128,
-        "{wanted}"
-    );
-    Ok(())
+    text(alloc, reading).expect(rt, "memory").as_slice() == wanted.as_bytes()
+        && line_count(reading) == wanted.lines().count() as u128
 }
 
 #[test]
-fn terms_are_told_line_by_line(rt: HostRuntime) -> Result<(), OutOfMemory> {
-    tells(&rt, rt.alloc(), &Reading::Terms(announced(&rt)), TERMS)
+fn terms_are_told_line_by_line(rt: HostRuntime) {
+    assert!(rt; tells(&rt, rt.alloc(), &Reading::Terms(announced(&rt)), TERMS));
 }
 
 #[test]
-fn results_have_seventeen_lines(rt: HostRuntime) -> Result<(), OutOfMemory> {
+fn results_have_seventeen_lines(rt: HostRuntime) {
     let results = Results {
         terms: announced(&rt),
         noncompetitive: Dollars { value: 0 },
@@ -143,55 +138,54 @@ fn results_have_seventeen_lines(rt: HostRuntime) -> Result<(), OutOfMemory> {
         },
         figures: Some(figures()),
     };
-    tells(&rt, rt.alloc(), &Reading::Results(results), RESULTS)
+    assert!(rt; tells(&rt, rt.alloc(), &Reading::Results(results), RESULTS));
 }
 
 #[test]
-fn results_without_awards_say_so(rt: HostRuntime) -> Result<(), OutOfMemory> {
+fn results_without_awards_say_so(rt: HostRuntime) {
     let results = Results {
         terms: announced(&rt),
         noncompetitive: Dollars { value: 1200 },
         addon: Dollars { value: 100 },
         figures: None,
     };
-    tells(&rt, rt.alloc(), &Reading::Results(results), NO_AWARDS)
+    assert!(rt; tells(&rt, rt.alloc(), &Reading::Results(results), NO_AWARDS));
 }
 
-#[test]
-fn awards_have_a_line_for_each_bidder(rt: HostRuntime) -> Result<(), OutOfMemory> {
-    let mut lines = Listing::new(rt.alloc());
-    lines.push(AwardLine {
-        bidder: name(&rt, "fund1"),
+// Adds what a bidder is awarded, and what it pays.
+fn add_award(
+    rt: &impl Abort,
+    lines: &mut Listing<AwardLine>,
+    bidder: &str,
+    amount: u64,
+    payment: u64,
+) {
+    let line = AwardLine {
+        bidder: name(rt, bidder),
         amount: Dollars {
-            value: 20_000_000_000,
+            value: u128::from(amount),
         },
         payment: Cents {
-            value: 1_978_412_780_000,
+            value: u128::from(payment),
         },
-    })?;
-    lines.push(AwardLine {
-        bidder: name(&rt, "fund2"),
-        amount: Dollars { value: 0 },
-        payment: Cents { value: 0 },
-    })?;
-    let addon = None;
-    let wanted = "fund1 20000000000 19784127800.00\nfund2 0 0.00\n";
-    tells(
-        &rt,
-        rt.alloc(),
-        &Reading::Awards(Awards { lines, addon }),
-        wanted,
-    )
+    };
+    assert!(rt; lines.push(line).is_ok());
 }
 
 #[test]
-fn an_add_on_has_a_plus_behind_the_bidders(rt: HostRuntime) -> Result<(), OutOfMemory> {
+fn awards_have_a_line_for_each_bidder(rt: HostRuntime) {
     let mut lines = Listing::new(rt.alloc());
-    lines.push(AwardLine {
-        bidder: name(&rt, "fund1"),
-        amount: Dollars { value: 100 },
-        payment: Cents { value: 9892 },
-    })?;
+    add_award(&rt, &mut lines, "fund1", 20_000_000_000, 1_978_412_780_000);
+    add_award(&rt, &mut lines, "fund2", 0, 0);
+    let awards = Reading::Awards(Awards { lines, addon: None });
+    let wanted = "fund1 20000000000 19784127800.00\nfund2 0 0.00\n";
+    assert!(rt; tells(&rt, rt.alloc(), &awards, wanted));
+}
+
+#[test]
+fn an_add_on_has_a_plus_behind_the_bidders(rt: HostRuntime) {
+    let mut lines = Listing::new(rt.alloc());
+    add_award(&rt, &mut lines, "fund1", 100, 9892);
     let addon = Some(AddOnLine {
         amount: Dollars {
             value: 5_000_000_000,
@@ -200,19 +194,15 @@ fn an_add_on_has_a_plus_behind_the_bidders(rt: HostRuntime) -> Result<(), OutOfM
             value: 494_603_195_000,
         },
     });
+    let awards = Reading::Awards(Awards { lines, addon });
     let wanted = "fund1 100 98.92\n+ 5000000000 4946031950.00\n";
-    tells(
-        &rt,
-        rt.alloc(),
-        &Reading::Awards(Awards { lines, addon }),
-        wanted,
-    )
+    assert!(rt; tells(&rt, rt.alloc(), &awards, wanted));
 }
 
 #[test]
-fn bids_are_live_or_cancelled(rt: HostRuntime) -> Result<(), OutOfMemory> {
+fn bids_are_live_or_cancelled(rt: HostRuntime) {
     let mut bids: Bids = Listing::new(rt.alloc());
-    bids.push(BidLine {
+    let live = BidLine {
         number: 1,
         bidder: name(&rt, "fund1"),
         rate: Some(Rate { steps: 854 }),
@@ -220,74 +210,63 @@ fn bids_are_live_or_cancelled(rt: HostRuntime) -> Result<(), OutOfMemory> {
             value: 20_000_000_000,
         },
         live: true,
-    })?;
-    bids.push(BidLine {
+    };
+    assert!(rt; bids.push(live).is_ok());
+    let cancelled = BidLine {
         number: 1_000_000_000_000_000,
         bidder: name(&rt, "fund2"),
         rate: None,
         amount: Dollars { value: 100 },
         live: false,
-    })?;
+    };
+    assert!(rt; bids.push(cancelled).is_ok());
     let wanted = "1 fund1 4.270 20000000000 live\n1000000000000000 fund2 n 100 cancelled\n";
-    tells(&rt, rt.alloc(), &Reading::Bids(bids), wanted)
+    assert!(rt; tells(&rt, rt.alloc(), &Reading::Bids(bids), wanted));
 }
 
 #[test]
-fn holdings_are_held_pledged_and_free(rt: HostRuntime) -> Result<(), OutOfMemory> {
+fn holdings_are_held_pledged_and_free(rt: HostRuntime) {
+    let none = Reading::Holdings(Listing::new(rt.alloc()));
+    assert!(rt; tells(&rt, rt.alloc(), &none, ""));
     let mut holdings: Holdings = Listing::new(rt.alloc());
-    tells(
-        &rt,
-        rt.alloc(),
-        &Reading::Holdings(Listing::new(rt.alloc())),
-        "",
-    )?;
-    holdings.push(HoldingLine {
+    let line = HoldingLine {
         cusip: Cusip {
             bytes: *b"912797AB3",
         },
         held: Dollars { value: 600 },
         pledged: Dollars { value: 500 },
         free: Dollars { value: 100 },
-    })?;
-    tells(
-        &rt,
-        rt.alloc(),
-        &Reading::Holdings(holdings),
-        "912797AB3 600 500 100\n",
-    )
+    };
+    assert!(rt; holdings.push(line).is_ok());
+    let wanted = "912797AB3 600 500 100\n";
+    assert!(rt; tells(&rt, rt.alloc(), &Reading::Holdings(holdings), wanted));
+}
+
+// What a holder is paid.
+fn paid_to(rt: &impl Abort, holder: &str, dollars: u64) -> PaidLine
+    ensures { result.paid.value ≡ dollars }
+{
+    PaidLine {
+        holder: name(rt, holder),
+        paid: Dollars {
+            value: u128::from(dollars),
+        },
+    }
 }
 
 #[test]
-fn payments_of_a_redemption_have_a_total(rt: HostRuntime) -> Result<(), OutOfMemory> {
+fn payments_of_a_redemption_have_a_total(rt: HostRuntime) {
     let mut paid: Redemption = Listing::new(rt.alloc());
-    paid.push(PaidLine {
-        holder: name(&rt, "dealer1"),
-        paid: Dollars { value: 200 },
-    })?;
-    paid.push(PaidLine {
-        holder: name(&rt, "dealer2"),
-        paid: Dollars { value: 800 },
-    })?;
-    tells(
-        &rt,
-        rt.alloc(),
-        &Reading::Redemption(paid),
-        "dealer1 200\ndealer2 800\ntotal 1000\n",
-    )
+    assert!(rt; paid.push(paid_to(&rt, "dealer1", 200)).is_ok());
+    assert!(rt; paid.push(paid_to(&rt, "dealer2", 800)).is_ok());
+    let wanted = "dealer1 200\ndealer2 800\ntotal 1000\n";
+    assert!(rt; tells(&rt, rt.alloc(), &Reading::Redemption(paid), wanted));
 }
 
 #[test]
-fn funds_are_told_in_dollars_and_cents(rt: HostRuntime) -> Result<(), OutOfMemory> {
-    tells(
-        &rt,
-        rt.alloc(),
-        &Reading::Funds(Cents { value: 70_300 }),
-        "funds 703.00\n",
-    )?;
-    tells(
-        &rt,
-        rt.alloc(),
-        &Reading::Funds(Cents { value: 0 }),
-        "funds 0.00\n",
-    )
+fn funds_are_told_in_dollars_and_cents(rt: HostRuntime) {
+    let funds = Reading::Funds(Cents { value: 70_300 });
+    assert!(rt; tells(&rt, rt.alloc(), &funds, "funds 703.00\n"));
+    let none = Reading::Funds(Cents { value: 0 });
+    assert!(rt; tells(&rt, rt.alloc(), &none, "funds 0.00\n"));
 }
