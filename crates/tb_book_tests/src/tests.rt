@@ -1,12 +1,11 @@
 //! Tests of the public calls: what no clause says, with values that were worked out by hand.
-ghost use Rattle.std.specs.Prelude.{◌≡◌, ◌+◌, ◌<◌, ◌≤◌, IfOk};
+ghost use Rattle.std.specs.Prelude.{◌≡◌, ◌+◌, ◌<◌, ◌≤◌};
 ghost use Rattle.tb_book.specs.Books.{par_in, most_bid};
 
 use std::alloc::Global;
 use std::marker::Brand;
 use std::process::Abort;
 use std::sync::ledger::{Blank, Ledger};
-use std::test::Fail;
 use tb_book::*;
 use tb_units::{Dollars, Lines, OutOfMemory, Rate, RateLine, Steps};
 
@@ -70,121 +69,143 @@ fn take_out(book: &mut Book, bidder: u32, number: u64) -> Option<BookLine>
     book.take_out(bidder, number)
 }
 
+// Adds the line, for which it takes the memory: the bidder has no bid of its number.
+fn adds(book: &mut Book, line: BookLine) -> bool
+    requires { par_in book.old.lines + line.amount.value ≤ most_bid }
+{
+    book.reserve(1).is_ok() && add_new(book, line).is_none()
+}
+
+// The bid of this number is the line, and is taken out.
+fn takes_out(book: &mut Book, line: &BookLine) -> bool
+    ensures { par_in book.new.lines ≤ par_in book.old.lines }
+{
+    take_out(book, line.bidder, line.number) == Some(*line)
+}
+
+// The bidder has no bid of this number.
+fn lacks(book: &mut Book, bidder: u32, number: u64) -> bool
+    ensures { par_in book.new.lines ≤ par_in book.old.lines }
+{
+    take_out(book, bidder, number).is_none()
+}
+
+// The bid of this rate and number is the line, and is taken out.
+fn takes_out_at_its_rate(book: &mut Book, line: &BookLine) -> bool {
+    book.take_out_at(line.rate, line.bidder, line.number) == Some(*line)
+}
+
+// The bidder has no bid of this rate and number.
+fn lacks_at(book: &mut Book, rate: Option<Rate>, bidder: u32, number: u64) -> bool {
+    book.take_out_at(rate, bidder, number).is_none()
+}
+
 // The book, which has no lines yet, with these.
-fn with_lines(book: Book, lines: &[BookLine]) -> Result<Book, OutOfMemory>
+fn with_lines(rt: &impl Abort, book: Book, lines: &[BookLine]) -> Book
     requires none { par_in book.lines ≡ 0 }
     requires fits { par_in lines.now ≤ most_bid }
-    ensures { IfOk result (λ book. par_in book.lines ≤ par_in lines.now) }
+    ensures { par_in result.lines ≤ par_in lines.now }
 {
     let mut book = book;
-    book.reserve(lines.len() as u64)?;
+    assert!(rt; book.reserve(lines.len() as u64).is_ok());
     for line in lines {
         add_new(&mut book, *line);
     }
-    Ok(book)
+    book
 }
 
-fn book_of(alloc: Global, lines: &[BookLine]) -> Result<Book, OutOfMemory>
+fn book_of(rt: &impl Abort, alloc: Global, lines: &[BookLine]) -> Book
     requires { par_in lines.now ≤ most_bid }
-    ensures { IfOk result (λ book. par_in book.lines ≤ par_in lines.now) }
+    ensures { par_in result.lines ≤ par_in lines.now }
 {
-    with_lines(Book::new(alloc), lines)
+    with_lines(rt, Book::new(alloc), lines)
 }
 
-fn sealed_of(alloc: Global, lines: &[BookLine]) -> Result<Book, OutOfMemory>
+fn sealed_of(rt: &impl Abort, alloc: Global, lines: &[BookLine]) -> Book
     requires { par_in lines.now ≤ most_bid }
-    ensures { IfOk result (λ book. par_in book.lines ≤ par_in lines.now) }
+    ensures { par_in result.lines ≤ par_in lines.now }
 {
-    with_lines(Book::sealed(alloc), lines)
+    with_lines(rt, Book::sealed(alloc), lines)
 }
 
-// All lines of a book, place by place.
-fn walk<B: Lines, L: Ledger>(
-    alloc: Global,
-    book: &B,
-    blank: Blank,
-) -> Result<Vec<RateLine>, OutOfMemory>
+// The lines of a book are these, place by place.
+fn has_lines<B: Lines, L: Ledger>(book: &B, blank: Blank, wanted: &[RateLine]) -> bool
     requires name { blank.name ≡ L.name }
     requires parts { blank.parts ≡ L.parts }
     requires some { 0 < L.parts }
 {
     let mut steps = Steps::<L>::new(blank);
-    let mut seen = Vec::new(alloc);
     for place in 0..book.lines() {
-        seen.push(book.line(place, &mut steps))?;
+        let line = book.line(place, &mut steps);
+        if wanted.get(place as usize).copied() != Some(line) {
+            return false;
+        }
     }
-    Ok(seen)
+    book.lines() == wanted.len() as u64
 }
 
-fn seen(alloc: Global, book: &Book) -> Result<Vec<RateLine>, OutOfMemory> {
-    walk::<Book, Brand>(alloc, book, Blank::new(1))
+fn shows(book: &Book, wanted: &[RateLine]) -> bool {
+    has_lines::<Book, Brand>(book, Blank::new(1), wanted)
 }
 
-fn totals(book: &Book, bidder: u32) -> (u128, u128) {
-    let (competitive, noncompetitive) = book.totals(bidder);
-    (competitive.value, noncompetitive.value)
+// The bidder's competitive and noncompetitive bids are of so many dollars.
+fn has_totals(book: &Book, bidder: u32, competitive: u64, noncompetitive: u64) -> bool {
+    let totals = book.totals(bidder);
+    totals.0.value == u128::from(competitive) && totals.1.value == u128::from(noncompetitive)
+}
+
+// All noncompetitive bids are of so many dollars.
+fn has_noncompetitive(book: &Book, dollars: u64) -> bool {
+    book.noncompetitive().value == u128::from(dollars)
 }
 
 #[test]
-fn a_bid_is_taken_out_once(rt: HostRuntime) -> Result<(), Fail> {
+fn a_bid_is_taken_out_once(rt: HostRuntime) {
     let bid = noncompetitive(1, 1, 10_000_000);
-    let mut book = book_of(rt.alloc(), &[bid])?;
-    assert_eq!(rt; totals(&book, 1), (0, 10_000_000));
-    assert_eq!(rt; book.noncompetitive().value, 10_000_000);
-    assert_eq!(rt; take_out(&mut book, 1, 2), None);
-    assert_eq!(rt; take_out(&mut book, 2, 1), None);
-    assert_eq!(rt; take_out(&mut book, 1, 1), Some(bid));
-    assert_eq!(rt; take_out(&mut book, 1, 1), None);
-    book.reserve(1)?;
-    assert_eq!(rt;
-        add_new(&mut book, competitive(2, 1, 1065, 350_000_000)),
-        None
-    );
-    assert_eq!(rt; totals(&book, 1), (0, 0));
-    assert_eq!(rt; totals(&book, 2), (350_000_000, 0));
-    assert_eq!(rt; book.noncompetitive().value, 0);
-    Ok(())
+    let mut book = book_of(&rt, rt.alloc(), &[bid]);
+    assert!(rt; has_totals(&book, 1, 0, 10_000_000));
+    assert!(rt; has_noncompetitive(&book, 10_000_000));
+    assert!(rt; lacks(&mut book, 1, 2));
+    assert!(rt; lacks(&mut book, 2, 1));
+    assert!(rt; takes_out(&mut book, &bid));
+    assert!(rt; lacks(&mut book, 1, 1));
+    assert!(rt; adds(&mut book, competitive(2, 1, 1065, 350_000_000)));
+    assert!(rt; has_totals(&book, 1, 0, 0));
+    assert!(rt; has_totals(&book, 2, 350_000_000, 0));
+    assert!(rt; has_noncompetitive(&book, 0));
 }
 
 #[test]
-fn a_line_is_taken_out_at_its_rate(rt: HostRuntime) -> Result<(), Fail> {
+fn a_line_is_taken_out_at_its_rate(rt: HostRuntime) {
     let bid = competitive(1, 1, 1065, 350_000_000);
-    let mut book = book_of(rt.alloc(), &[bid, noncompetitive(1, 2, 500)])?;
-    assert_eq!(rt; book.take_out_at(None, 1, 1), None);
-    assert_eq!(rt; book.take_out_at(Some(Rate { steps: 1064 }), 1, 1), None);
-    assert_eq!(rt; book.take_out_at(bid.rate, 1, 2), None);
-    assert_eq!(rt; totals(&book, 1), (350_000_000, 500));
-    assert_eq!(rt; book.take_out_at(bid.rate, 1, 1), Some(bid));
-    assert_eq!(rt; totals(&book, 1), (0, 500));
-    Ok(())
+    let mut book = book_of(&rt, rt.alloc(), &[bid, noncompetitive(1, 2, 500)]);
+    assert!(rt; lacks_at(&mut book, None, 1, 1));
+    assert!(rt; lacks_at(&mut book, Some(Rate { steps: 1064 }), 1, 1));
+    assert!(rt; lacks_at(&mut book, bid.rate, 1, 2));
+    assert!(rt; has_totals(&book, 1, 350_000_000, 500));
+    assert!(rt; takes_out_at_its_rate(&mut book, &bid));
+    assert!(rt; has_totals(&book, 1, 0, 500));
 }
 
 #[test]
-fn totals_are_told_apart(rt: HostRuntime) -> Result<(), Fail> {
-    let book = book_of(
-        rt.alloc(),
-        &[
-            noncompetitive(1, 1, 10_000_000),
-            competitive(2, 1, 1065, 350_000_000),
-            competitive(1, 2, 1066, 300_000_000),
-            noncompetitive(3, 1, 5_000_000),
-            competitive(2, 2, 1064, 150_000_000),
-        ],
-    )?;
-    assert!(rt; totals(&book, 1) == (300_000_000, 10_000_000));
-    assert!(rt; totals(&book, 2) == (500_000_000, 0));
-    assert!(rt; totals(&book, 3) == (0, 5_000_000));
-    assert!(rt; totals(&book, 4) == (0, 0));
-    assert_eq!(rt; book.noncompetitive().value, 15_000_000);
-    Ok(())
+fn totals_are_told_apart(rt: HostRuntime) {
+    let bids = [
+        noncompetitive(1, 1, 10_000_000),
+        competitive(2, 1, 1065, 350_000_000),
+        competitive(1, 2, 1066, 300_000_000),
+        noncompetitive(3, 1, 5_000_000),
+        competitive(2, 2, 1064, 150_000_000),
+    ];
+    let book = book_of(&rt, rt.alloc(), &bids);
+    assert!(rt; has_totals(&book, 1, 300_000_000, 10_000_000));
+    assert!(rt; has_totals(&book, 2, 500_000_000, 0));
+    assert!(rt; has_totals(&book, 3, 0, 5_000_000));
+    assert!(rt; has_totals(&book, 4, 0, 0));
+    assert!(rt; has_noncompetitive(&book, 15_000_000));
 }
 
-// Adds the bids of the test below in the order given, and finds their lines in the order of the book.
-fn expect_order(rt: &impl Abort, alloc: Global, bids: &[BookLine]) -> Result<(), Fail>
-    requires { par_in bids.now ≤ most_bid }
-{
-    let book = book_of(alloc, bids)?;
-    assert_eq!(rt; book.lines(), 5);
+// The lines of the bids of the tests below, in the order of the book.
+fn shows_five(book: &Book) -> bool {
     let wanted = [
         rate_line(1064, 9, 100),
         rate_line(1065, 1, 200),
@@ -192,12 +213,18 @@ fn expect_order(rt: &impl Abort, alloc: Global, bids: &[BookLine]) -> Result<(),
         rate_line(1065, 2, 400),
         rate_line(1066, 1, 500),
     ];
-    assert_eq!(rt; seen(alloc, &book)?.as_slice(), wanted.as_slice());
-    Ok(())
+    book.lines() == 5 && shows(book, &wanted)
+}
+
+// The bids of the test below are added in the order given, and their lines come in the order of the book.
+fn come_in_order(rt: &impl Abort, alloc: Global, bids: &[BookLine]) -> bool
+    requires { par_in bids.now ≤ most_bid }
+{
+    shows_five(&book_of(rt, alloc, bids))
 }
 
 #[test]
-fn lines_come_in_order_of_rate_bidder_and_number(rt: HostRuntime) -> Result<(), Fail> {
+fn lines_come_in_order_of_rate_bidder_and_number(rt: HostRuntime) {
     let low = competitive(9, 7, 1064, 100);
     let first = competitive(1, 2, 1065, 200);
     let second = competitive(1, 10, 1065, 300);
@@ -205,41 +232,30 @@ fn lines_come_in_order_of_rate_bidder_and_number(rt: HostRuntime) -> Result<(), 
     let high = competitive(1, 1, 1066, 500);
     let unpriced = noncompetitive(1, 3, 600);
     let alloc = rt.alloc();
-    expect_order(&rt, alloc, &[low, first, second, third, high, unpriced])?;
-    expect_order(&rt, alloc, &[unpriced, high, third, second, first, low])?;
-    expect_order(&rt, alloc, &[second, unpriced, low, high, first, third])?;
-    Ok(())
+    assert!(rt; come_in_order(&rt, alloc, &[low, first, second, third, high, unpriced]));
+    assert!(rt; come_in_order(&rt, alloc, &[unpriced, high, third, second, first, low]));
+    assert!(rt; come_in_order(&rt, alloc, &[second, unpriced, low, high, first, third]));
 }
 
 // The same of a book that is sealed while the bids are added, which shows no line before it is open.
-fn expect_order_once_open(
+fn come_in_order_once_open(
     rt: &impl Abort,
     alloc: Global,
     bids: &[BookLine],
     late: BookLine,
-) -> Result<(), Fail>
+) -> bool
     requires { par_in bids.now + late.amount.value ≤ most_bid }
 {
-    let mut book = sealed_of(alloc, bids)?;
-    assert_eq!(rt; book.lines(), 0);
-    assert_eq!(rt; totals(&book, 1), (1_000, 600));
+    let mut book = sealed_of(rt, alloc, bids);
+    if book.lines() != 0 || !has_totals(&book, 1, 1_000, 600) {
+        return false;
+    }
     book.unseal();
-    assert_eq!(rt; book.lines(), 4);
-    book.reserve(1)?;
-    assert_eq!(rt; add_new(&mut book, late), None);
-    let wanted = [
-        rate_line(1064, 9, 100),
-        rate_line(1065, 1, 200),
-        rate_line(1065, 1, 300),
-        rate_line(1065, 2, 400),
-        rate_line(1066, 1, 500),
-    ];
-    assert_eq!(rt; seen(alloc, &book)?.as_slice(), wanted.as_slice());
-    Ok(())
+    book.lines() == 4 && adds(&mut book, late) && shows_five(&book)
 }
 
 #[test]
-fn lines_of_a_sealed_book_come_in_order_once_it_is_open(rt: HostRuntime) -> Result<(), Fail> {
+fn lines_of_a_sealed_book_come_in_order_once_it_is_open(rt: HostRuntime) {
     let low = competitive(9, 7, 1064, 100);
     let first = competitive(1, 2, 1065, 200);
     let second = competitive(1, 10, 1065, 300);
@@ -247,52 +263,43 @@ fn lines_of_a_sealed_book_come_in_order_once_it_is_open(rt: HostRuntime) -> Resu
     let high = competitive(1, 1, 1066, 500);
     let unpriced = noncompetitive(1, 3, 600);
     let alloc = rt.alloc();
-    expect_order_once_open(&rt, alloc, &[unpriced, high, second, first, low], third)?;
-    expect_order_once_open(&rt, alloc, &[second, unpriced, low, high, first], third)?;
-    Ok(())
+    assert!(rt; come_in_order_once_open(&rt, alloc, &[unpriced, high, second, first, low], third));
+    assert!(rt; come_in_order_once_open(&rt, alloc, &[second, unpriced, low, high, first], third));
 }
 
 #[test]
-fn a_bid_is_taken_out_of_a_sealed_book(rt: HostRuntime) -> Result<(), Fail> {
+fn a_bid_is_taken_out_of_a_sealed_book(rt: HostRuntime) {
     let low = competitive(9, 7, 1064, 100);
     let high = competitive(1, 1, 1066, 500);
     let unpriced = noncompetitive(1, 3, 600);
-    let mut book = sealed_of(rt.alloc(), &[high, unpriced, low])?;
-    assert_eq!(rt; book.take_out_at(None, 1, 1), None);
-    assert_eq!(rt; book.take_out_at(high.rate, 1, 1), Some(high));
-    assert_eq!(rt; book.take_out_at(high.rate, 1, 1), None);
-    assert_eq!(rt; take_out(&mut book, 1, 3), Some(unpriced));
-    assert_eq!(rt; book.lines(), 0);
+    let mut book = sealed_of(&rt, rt.alloc(), &[high, unpriced, low]);
+    assert!(rt; lacks_at(&mut book, None, 1, 1));
+    assert!(rt; takes_out_at_its_rate(&mut book, &high));
+    assert!(rt; lacks_at(&mut book, high.rate, 1, 1));
+    assert!(rt; takes_out(&mut book, &unpriced));
+    assert!(rt; book.lines() == 0);
     book.unseal();
-    assert_eq!(rt;
-        seen(rt.alloc(), &book)?.as_slice(),
-        [rate_line(1064, 9, 100)].as_slice()
-    );
-    assert_eq!(rt; totals(&book, 1), (0, 0));
-    assert_eq!(rt; book.noncompetitive().value, 0);
-    Ok(())
+    assert!(rt; shows(&book, &[rate_line(1064, 9, 100)]));
+    assert!(rt; has_totals(&book, 1, 0, 0));
+    assert!(rt; has_noncompetitive(&book, 0));
 }
 
 #[test]
-fn a_book_of_noncompetitive_bids_has_no_lines(rt: HostRuntime) -> Result<(), Fail> {
-    let book = book_of(
-        rt.alloc(),
-        &[noncompetitive(1, 1, 100), noncompetitive(2, 1, 200)],
-    )?;
-    assert_eq!(rt; book.lines(), 0);
-    assert_eq!(rt; book.noncompetitive().value, 300);
-    Ok(())
+fn a_book_of_noncompetitive_bids_has_no_lines(rt: HostRuntime) {
+    let bids = [noncompetitive(1, 1, 100), noncompetitive(2, 1, 200)];
+    let book = book_of(&rt, rt.alloc(), &bids);
+    assert!(rt; book.lines() == 0);
+    assert!(rt; has_noncompetitive(&book, 300));
 }
 
 #[test]
-fn want_of_memory_leaves_the_lines(rt: HostRuntime) -> Result<(), Fail> {
+fn want_of_memory_leaves_the_lines(rt: HostRuntime) {
     let bid = competitive(1, 1, 1064, 100);
-    let mut book = book_of(rt.alloc(), &[bid])?;
-    assert_eq!(rt; book.reserve(u64::MAX), Err(OutOfMemory));
-    assert_eq!(rt; totals(&book, 1), (100, 0));
+    let mut book = book_of(&rt, rt.alloc(), &[bid]);
+    assert!(rt; book.reserve(u64::MAX) == Err(OutOfMemory));
+    assert!(rt; has_totals(&book, 1, 100, 0));
     // It succeeds, or fails where a later allocation is made to fail.
     let _ = book.reserve(1000);
-    assert_eq!(rt; totals(&book, 1), (100, 0));
-    assert_eq!(rt; book.take_out(1, 1), Some(bid));
-    Ok(())
+    assert!(rt; has_totals(&book, 1, 100, 0));
+    assert!(rt; takes_out(&mut book, &bid));
 }

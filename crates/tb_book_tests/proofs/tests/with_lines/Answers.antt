@@ -5,7 +5,7 @@ use Rattle.tb_book.specs.declared.book_line.BookLine.{BookLine}
 use Rattle.tb_book_tests.proofs.tests.with_lines.Goals as goal
 
 pub add_new-requires-clause-fits : goal.add_new-requires-clause-fits
-add_new-requires-clause-fits c =
+add_new-requires-clause-fits g c =
     let line = c.line-item.result in
     omega (
       arith,
