@@ -1,5 +1,5 @@
 //! Tests of the public calls: worked examples whose values were calculated by hand.
-ghost use Rattle.std.specs.Prelude.{◌≡◌, ◌%◌, ◌<◌, ◌≤◌, ◌^◌, true, length, All, IfOk};
+ghost use Rattle.std.specs.Prelude.{◌≡◌, ◌%◌, ◌<◌, ◌≤◌, ◌^◌, true, length, All};
 ghost use Rattle.tb_price.specs.Prices.{HasPrice};
 ghost use Rattle.tb_award.specs.Cuts.{most_recognised, total_of};
 
@@ -7,7 +7,6 @@ use std::alloc::Global;
 use std::marker::Brand;
 use std::process::Abort;
 use std::sync::ledger::{Blank, Ledger};
-use std::test::Fail;
 use tb_award::*;
 use tb_price::above_zero;
 use tb_units::{Days, Dollars, Lines, OutOfMemory, Percent, Price, Rate, RateLine, Steps};
@@ -19,26 +18,35 @@ fn dollars(value: u128) -> Dollars
     Dollars { value }
 }
 
-// The bids (steps, bidder, amount) of so many bidders. Stops the test where one is of no such bidder.
+// The bid (steps, bidder, amount) of one of so many bidders. Stops the test where it is of no such bidder.
+fn bid_of(rt: &impl Abort, bidders: usize, bid: (u32, u32, u128)) -> RateLine
+    ensures { result.bidder < bidders }
+{
+    let (steps, bidder, amount) = bid;
+    let known = (bidder as usize) < bidders;
+    assert!(rt; known && steps < 200_000 && amount < 1_000_000_000_000);
+    RateLine {
+        rate: Rate { steps },
+        bidder,
+        amount: dollars(amount),
+    }
+}
+
+// The bids (steps, bidder, amount) of so many bidders.
 fn bids_of(
     rt: &impl Abort,
     alloc: Global,
     bidders: usize,
     table: &[(u32, u32, u128)],
-) -> Result<Vec<RateLine>, OutOfMemory>
-    ensures { IfOk result (λ bids. All (λ line. line.bidder < bidders) bids.items) }
+) -> Vec<RateLine>
+    ensures { All (λ line. line.bidder < bidders) result.items }
 {
     let mut bids = Vec::new(alloc);
-    for (steps, bidder, amount) in table.iter().copied() {
-        let known = (bidder as usize) < bidders;
-        assert!(rt; known && steps < 200_000 && amount < 1_000_000_000_000);
-        bids.push(RateLine {
-            rate: Rate { steps },
-            bidder,
-            amount: dollars(amount),
-        })?;
+    for place in 0..table.len() {
+        let line = bid_of(rt, bidders, table[place]);
+        assert!(rt; bids.push(line).is_ok());
     }
-    Ok(bids)
+    bids
 }
 
 // The same in order.
@@ -47,11 +55,11 @@ fn sorted_bids_of(
     alloc: Global,
     bidders: usize,
     table: &[(u32, u32, u128)],
-) -> Result<SortedLines, OutOfMemory>
-    ensures { IfOk result (λ bids. All (λ line. line.bidder < bidders) bids) }
+) -> SortedLines
+    ensures { All (λ line. line.bidder < bidders) result }
 {
-    let bids = bids_of(rt, alloc, bidders, table)?;
-    Ok(SortedLines::new(bids))
+    let bids = bids_of(rt, alloc, bidders, table);
+    SortedLines::new(bids)
 }
 
 // What is recognised of the bids (steps, bidder, amount), whose bidders have these positions.
@@ -61,11 +69,11 @@ fn recognised_of(
     table: &[(u32, u32, u128)],
     positions: &[i64],
     offering: Dollars,
-) -> Result<Recognised, OutOfMemory>
+) -> Recognised
     requires { offering.value % 100 ≡ 0 }
 {
-    let bids = sorted_bids_of(rt, alloc, positions.len(), table)?;
-    recognise_uncounted(alloc, &bids, positions, offering)
+    let bids = sorted_bids_of(rt, alloc, positions.len(), table);
+    recognise_uncounted(alloc, &bids, positions, offering).expect(rt, "memory")
 }
 
 // The same in place of lines that were recognised before.
@@ -75,11 +83,14 @@ fn recognise_again(
     recognised: &mut Recognised,
     table: &[(u32, u32, u128)],
     positions: &[i64],
-) -> Result<(), OutOfMemory> {
-    let bids = sorted_bids_of(rt, alloc, positions.len(), table)?;
-    recognised.reserve(bids.lines(), positions.len() as u64)?;
+) {
+    let bids = sorted_bids_of(rt, alloc, positions.len(), table);
+    assert!(rt;
+        recognised
+            .reserve(bids.lines(), positions.len() as u64)
+            .is_ok()
+    );
     recognise_into_uncounted(recognised, &bids, positions, dollars(1_000_000_000));
-    Ok(())
 }
 
 // The lines are these (steps, bidder, amount).
@@ -95,7 +106,7 @@ fn has_lines(recognised: &Recognised, table: &[(u32, u32, u128)]) -> bool {
 }
 
 #[test]
-fn the_limit_is_applied_from_the_lowest_rate_up(rt: HostRuntime) -> Result<(), Fail> {
+fn the_limit_is_applied_from_the_lowest_rate_up(rt: HostRuntime) {
     let recognised = recognised_of(
         &rt,
         rt.alloc(),
@@ -109,7 +120,7 @@ fn the_limit_is_applied_from_the_lowest_rate_up(rt: HostRuntime) -> Result<(), F
         ],
         &[1_000_000_000, 0, 0, 0],
         dollars(10_000_000_000),
-    )?;
+    );
     assert!(rt;
         has_lines(
             &recognised,
@@ -123,19 +134,17 @@ fn the_limit_is_applied_from_the_lowest_rate_up(rt: HostRuntime) -> Result<(), F
             ]
         )
     );
-    Ok(())
 }
 
 #[test]
-fn bids_at_one_rate_are_added_and_cut_to_the_cap(rt: HostRuntime) -> Result<(), Fail> {
+fn bids_at_one_rate_are_added_and_cut_to_the_cap(rt: HostRuntime) {
     let bids = [(800, 0, 200_000_000), (800, 0, 250_000_000)];
-    let recognised = recognised_of(&rt, rt.alloc(), &bids, &[0], dollars(1_000_000_000))?;
+    let recognised = recognised_of(&rt, rt.alloc(), &bids, &[0], dollars(1_000_000_000));
     assert!(rt; has_lines(&recognised, &[(800, 0, 350_000_000)]));
-    Ok(())
 }
 
 #[test]
-fn positions_lower_the_limit(rt: HostRuntime) -> Result<(), Fail> {
+fn positions_lower_the_limit(rt: HostRuntime) {
     // Above the cap, negative, one that isn't in hundreds, none.
     let positions = [350_000_100, -50_000_000, 50, 0];
     let recognised = recognised_of(
@@ -152,7 +161,7 @@ fn positions_lower_the_limit(rt: HostRuntime) -> Result<(), Fail> {
         ],
         &positions,
         dollars(1_000_000_000),
-    )?;
+    );
     assert!(rt;
         has_lines(
             &recognised,
@@ -164,7 +173,6 @@ fn positions_lower_the_limit(rt: HostRuntime) -> Result<(), Fail> {
             ]
         )
     );
-    Ok(())
 }
 
 #[test]
@@ -194,58 +202,61 @@ fn the_amount_sought_has_a_floor(rt: HostRuntime) {
 }
 
 #[test]
-fn new_lines_take_the_place_of_old_ones(rt: HostRuntime) -> Result<(), Fail> {
+fn new_lines_take_the_place_of_old_ones(rt: HostRuntime) {
     let alloc = rt.alloc();
     let old = [(800, 0, 350_000_000), (801, 1, 100_000_000)];
-    let mut recognised = recognised_of(&rt, alloc, &old, &[0, 0], dollars(1_000_000_000))?;
+    let mut recognised = recognised_of(&rt, alloc, &old, &[0, 0], dollars(1_000_000_000));
     assert!(rt; has_lines(&recognised, &old));
     let new = [(900, 0, 300_000_000)];
-    recognise_again(&rt, alloc, &mut recognised, &new, &[0])?;
+    recognise_again(&rt, alloc, &mut recognised, &new, &[0]);
     assert!(rt; has_lines(&recognised, &new));
-    recognise_again(&rt, alloc, &mut recognised, &[], &[])?;
+    recognise_again(&rt, alloc, &mut recognised, &[], &[]);
     assert!(rt; has_lines(&recognised, &[]));
-    Ok(())
+}
+
+// Memory for so much isn't there.
+fn wants_memory(recognised: &mut Recognised, lines: u64, bidders: u64) -> bool {
+    recognised.reserve(lines, bidders) == Err(OutOfMemory)
 }
 
 #[test]
-fn want_of_memory_leaves_the_lines(rt: HostRuntime) -> Result<(), Fail> {
+fn want_of_memory_leaves_the_lines(rt: HostRuntime) {
     let bids = [(800, 0, 100_000_000)];
-    let mut recognised = recognised_of(&rt, rt.alloc(), &bids, &[0], dollars(1_000_000_000))?;
-    assert!(rt; recognised.reserve(u64::MAX, 0) == Err(OutOfMemory));
+    let mut recognised = recognised_of(&rt, rt.alloc(), &bids, &[0], dollars(1_000_000_000));
+    assert!(rt; wants_memory(&mut recognised, u64::MAX, 0));
     assert!(rt; has_lines(&recognised, &bids));
-    assert!(rt; recognised.reserve(0, u64::MAX) == Err(OutOfMemory));
+    assert!(rt; wants_memory(&mut recognised, 0, u64::MAX));
     assert!(rt; has_lines(&recognised, &bids));
-    Ok(())
 }
 
 // What is recognised of the bids, with the steps counted in a ledger.
 fn recognised_by<L: Ledger>(
+    rt: &impl Abort,
     alloc: Global,
     blank: Blank,
     bids: &SortedLines,
-) -> Result<Recognised, OutOfMemory>
+) -> Recognised
     requires name { blank.name ≡ L.name }
     requires parts { blank.parts ≡ L.parts }
     requires some { 0 < L.parts }
     requires known { All (λ line. line.bidder < 1) bids.now }
 {
     let mut steps = Steps::<L>::new(blank);
-    recognise(alloc, bids, &[0], dollars(1_000_000_000), &mut steps)
+    recognise(alloc, bids, &[0], dollars(1_000_000_000), &mut steps).expect(rt, "memory")
 }
 
-fn recognised_of_one(alloc: Global, bids: &SortedLines) -> Result<Recognised, OutOfMemory>
+fn recognised_of_one(rt: &impl Abort, alloc: Global, bids: &SortedLines) -> Recognised
     requires { All (λ line. line.bidder < 1) bids.now }
 {
-    recognised_by::<Brand>(alloc, Blank::new(1), bids)
+    recognised_by::<Brand>(rt, alloc, Blank::new(1), bids)
 }
 
 #[test]
-fn counted_steps_recognise_the_same(rt: HostRuntime) -> Result<(), Fail> {
+fn counted_steps_recognise_the_same(rt: HostRuntime) {
     let table = [(800, 0, 200_000_000), (801, 0, 250_000_000)];
-    let bids = sorted_bids_of(&rt, rt.alloc(), 1, &table)?;
-    let recognised = recognised_of_one(rt.alloc(), &bids)?;
+    let bids = sorted_bids_of(&rt, rt.alloc(), 1, &table);
+    let recognised = recognised_of_one(&rt, rt.alloc(), &bids);
     assert!(rt; has_lines(&recognised, &[(800, 0, 200_000_000), (801, 0, 150_000_000)]));
-    Ok(())
 }
 
 // The lines have prices for the days of the bill, and their amounts add up to at most 10^22.
@@ -298,13 +309,14 @@ fn recognises(cut: &Cut, below: u128, at_stop: u128) -> bool {
     cut.below.value == below && cut.at_stop.value == at_stop
 }
 
-// So much is awarded of an amount at a rate.
-fn awards(cut: &Cut, rate: Rate, amount: Dollars, wanted: u128) -> bool {
-    award(cut, rate, amount).value == wanted
+// So much is awarded of so many dollars at a rate of so many steps.
+fn awards(rt: &impl Abort, cut: &Cut, steps: u32, amount: u32, wanted: u32) -> bool {
+    assert!(rt; steps < 200_000);
+    award(cut, Rate { steps }, dollars(u128::from(amount))).value == u128::from(wanted)
 }
 
 #[test]
-fn the_stop_is_where_the_amount_sought_is_reached(rt: HostRuntime) -> Result<(), Fail> {
+fn the_stop_is_where_the_amount_sought_is_reached(rt: HostRuntime) {
     let recognised = recognised_of(
         &rt,
         rt.alloc(),
@@ -316,37 +328,20 @@ fn the_stop_is_where_the_amount_sought_is_reached(rt: HostRuntime) -> Result<(),
         ],
         &[0, 0, 0, 0],
         dollars(1_000_000_000),
-    )?;
-    let Some((cut, sum, median, low)) = figures(&rt, &recognised, 900_000_000) else {
-        return Err(Fail::from("there is a cut"));
-    };
+    );
+    let (cut, sum, median, low) = figures(&rt, &recognised, 900_000_000).expect(&rt, "no cut");
     assert!(rt; is_cut(&cut, 1066, 5556, 98_652_694, 900_000_000));
     assert!(rt; recognises(&cut, 650_000_000, 450_000_000));
-    assert!(rt;
-        awards(
-            &cut,
-            Rate { steps: 1065 },
-            dollars(350_000_000),
-            350_000_000
-        )
-    );
-    assert!(rt;
-        awards(
-            &cut,
-            Rate { steps: 1066 },
-            dollars(350_000_000),
-            194_460_000
-        )
-    );
-    assert!(rt; awards(&cut, Rate { steps: 1066 }, dollars(100_000_000), 55_560_000));
-    assert!(rt; awards(&cut, Rate { steps: 1067 }, dollars(100_000_000), 0));
+    assert!(rt; awards(&rt, &cut, 1065, 350_000_000, 350_000_000));
+    assert!(rt; awards(&rt, &cut, 1066, 350_000_000, 194_460_000));
+    assert!(rt; awards(&rt, &cut, 1066, 100_000_000, 55_560_000));
+    assert!(rt; awards(&rt, &cut, 1067, 100_000_000, 0));
     assert!(rt; sum == 900_020_000);
     assert!(rt; median == 1065 && low == 1064);
-    Ok(())
 }
 
 #[test]
-fn the_percentage_is_the_least_that_reaches_the_amount_sought(rt: HostRuntime) -> Result<(), Fail> {
+fn the_percentage_is_the_least_that_reaches_the_amount_sought(rt: HostRuntime) {
     let recognised = recognised_of(
         &rt,
         rt.alloc(),
@@ -359,72 +354,58 @@ fn the_percentage_is_the_least_that_reaches_the_amount_sought(rt: HostRuntime) -
         ],
         &[0, 0, 0, 0, 0],
         dollars(300_000_000),
-    )?;
-    let Some((cut, sum, median, low)) = figures(&rt, &recognised, 300_000_000) else {
-        return Err(Fail::from("there is a cut"));
-    };
+    );
+    let (cut, sum, median, low) = figures(&rt, &recognised, 300_000_000).expect(&rt, "no cut");
     assert!(rt; is_cut(&cut, 1002, 3334, 98_733_583, 300_000_000));
     assert!(rt; recognises(&cut, 210_000_000, 270_000_000));
-    assert!(rt;
-        awards(
-            &cut,
-            Rate { steps: 1000 },
-            dollars(105_000_000),
-            105_000_000
-        )
-    );
-    assert!(rt; awards(&cut, Rate { steps: 1002 }, dollars(90_000_000), 30_006_000));
+    assert!(rt; awards(&rt, &cut, 1000, 105_000_000, 105_000_000));
+    assert!(rt; awards(&rt, &cut, 1002, 90_000_000, 30_006_000));
     assert!(rt; sum == 300_018_000);
     assert!(rt; median == 1000 && low == 1000);
-    Ok(())
 }
 
 #[test]
-fn a_short_auction_stops_at_its_greatest_rate_and_is_awarded_whole(
-    rt: HostRuntime,
-) -> Result<(), Fail> {
+fn a_short_auction_stops_at_its_greatest_rate_and_is_awarded_whole(rt: HostRuntime) {
     let recognised = recognised_of(
         &rt,
         rt.alloc(),
         &[(800, 0, 100_000_000), (900, 1, 200_000_000)],
         &[0, 0],
         dollars(1_000_000_000),
-    )?;
-    let Some((cut, sum, median, low)) = figures(&rt, &recognised, 900_000_000) else {
-        return Err(Fail::from("there is a cut"));
-    };
+    );
+    let (cut, sum, median, low) = figures(&rt, &recognised, 900_000_000).expect(&rt, "no cut");
     assert!(rt; is_cut(&cut, 900, 10_000, 98_862_500, 900_000_000));
     assert!(rt; recognises(&cut, 100_000_000, 200_000_000));
-    assert!(rt; awards(&cut, Rate { steps: 800 }, dollars(100_000_000), 100_000_000));
-    assert!(rt; awards(&cut, Rate { steps: 900 }, dollars(200_000_000), 200_000_000));
+    assert!(rt; awards(&rt, &cut, 800, 100_000_000, 100_000_000));
+    assert!(rt; awards(&rt, &cut, 900, 200_000_000, 200_000_000));
     assert!(rt; sum == 300_000_000);
     assert!(rt; median == 900 && low == 800);
-    Ok(())
 }
 
-// The median and the low rate of an auction where so much is bid at the steps 700, 800 and 900, all of it awarded.
-fn rates_of_three(
+// An auction where so much is bid at the steps 700, 800 and 900, all of it awarded, has this median and this low rate.
+fn has_rates(
     rt: &impl Abort,
     alloc: Global,
     amounts: [u128; 3],
-) -> Result<Option<(u32, u32)>, Fail> {
+    median: u32,
+    low_rate: u32,
+) -> bool {
     let [low, middle, high] = amounts;
     let bids = [(700, 0, low), (800, 1, middle), (900, 2, high)];
-    let recognised = recognised_of(rt, alloc, &bids, &[0, 0, 0], dollars(1_000_000_000))?;
-    Ok(match figures(rt, &recognised, 900_000_000) {
-        Some((_, sum, median, low_rate)) if sum == 300_000_000 => Some((median, low_rate)),
-        _ => None,
-    })
+    let recognised = recognised_of(rt, alloc, &bids, &[0, 0, 0], dollars(1_000_000_000));
+    match figures(rt, &recognised, 900_000_000) {
+        Some(found) => found.1 == 300_000_000 && found.2 == median && found.3 == low_rate,
+        None => false,
+    }
 }
 
 #[test]
-fn a_half_and_a_twentieth_of_the_awards_are_enough(rt: HostRuntime) -> Result<(), Fail> {
+fn a_half_and_a_twentieth_of_the_awards_are_enough(rt: HostRuntime) {
     // Exactly so much at or below the rate, and 100 dollars less.
     let exact = [15_000_000, 135_000_000, 150_000_000];
-    assert!(rt; rates_of_three(&rt, rt.alloc(), exact)? == Some((800, 700)));
+    assert!(rt; has_rates(&rt, rt.alloc(), exact, 800, 700));
     let less = [14_999_900, 135_000_000, 150_000_100];
-    assert!(rt; rates_of_three(&rt, rt.alloc(), less)? == Some((900, 800)));
-    Ok(())
+    assert!(rt; has_rates(&rt, rt.alloc(), less, 900, 800));
 }
 
 #[test]
@@ -433,8 +414,8 @@ fn nobody_gets_an_award_where_nothing_is_recognised(rt: HostRuntime) {
     assert!(&rt; figures(&rt, &recognised, 900_000_000).is_none());
 }
 
-// A bid of an amount gets so much at the stop-out rate, all below it and nothing above it, at this percentage.
-fn at_the_stop(percent: Percent, amount: Dollars, wanted: u128) -> bool {
+// A bid of so many dollars gets so much at the stop-out rate, all below it and nothing above it, at this percentage.
+fn at_the_stop(rt: &impl Abort, percent: Percent, amount: u32, wanted: u32) -> bool {
     let cut = Cut {
         stop: Rate { steps: 1000 },
         percent,
@@ -445,14 +426,14 @@ fn at_the_stop(percent: Percent, amount: Dollars, wanted: u128) -> bool {
         at_stop: dollars(18_000),
         sought: dollars(18_000),
     };
-    awards(&cut, Rate { steps: 999 }, amount, amount.value)
-        && awards(&cut, Rate { steps: 1000 }, amount, wanted)
-        && awards(&cut, Rate { steps: 1001 }, amount, 0)
+    awards(rt, &cut, 999, amount, amount)
+        && awards(rt, &cut, 1000, amount, wanted)
+        && awards(rt, &cut, 1001, amount, 0)
 }
 
 #[test]
 fn awards_at_the_stop_are_raised_to_the_next_hundred(rt: HostRuntime) {
-    assert!(rt; at_the_stop(Percent { hundredths: 8827 }, dollars(18_000), 15_900));
-    assert!(rt; at_the_stop(Percent { hundredths: 1 }, dollars(100), 100));
-    assert!(rt; at_the_stop(Percent { hundredths: 10_000 }, dollars(18_000), 18_000));
+    assert!(rt; at_the_stop(&rt, Percent { hundredths: 8827 }, 18_000, 15_900));
+    assert!(rt; at_the_stop(&rt, Percent { hundredths: 1 }, 100, 100));
+    assert!(rt; at_the_stop(&rt, Percent { hundredths: 10_000 }, 18_000, 18_000));
 }

@@ -5,5 +5,5 @@ use Rattle.tb_units.specs.declared.lines.RateLine.{RateLine}
 use Rattle.tb_award_tests.proofs.tests.sorted_bids_of.Goals as goal
 
 pub returns : goal.returns
-returns g c = All-permutation (λ (line : RateLine). line.bidder < c.args.bidders) c.in_ok-bids.bids.items
-    c.new.result c.new.ensures c.in_ok-bids.ensures
+returns g c = All-permutation (λ (line : RateLine). line.bidder < c.args.bidders) c.bids_of-bids.result.items
+    c.new.result c.new.ensures c.bids_of-bids.ensures
