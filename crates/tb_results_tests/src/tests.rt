@@ -1,5 +1,5 @@
 //! Tests of the public calls, with results that were worked out by hand.
-ghost use Rattle.std.specs.Prelude.{◌≡◌, ◌+◌, ◌%◌, ◌<◌, ◌≤◌, ◌^◌, true, length, All, IfOk, IfSome, OnOk};
+ghost use Rattle.std.specs.Prelude.{◌≡◌, ◌+◌, ◌%◌, ◌<◌, ◌≤◌, ◌^◌, true, length, All, IfSome};
 ghost use Rattle.tb_units.specs.Multiples.{most_par};
 ghost use Rattle.tb_book.specs.Books.{open_lines, par_in};
 ghost use Rattle.tb_results.specs.Biddings.{is_priced, is_sound_line};
@@ -8,14 +8,13 @@ use std::alloc::Global;
 use std::marker::Brand;
 use std::process::Abort;
 use std::sync::ledger::{Blank, Ledger};
-use std::test::Fail;
-use tb_award::{Recognised, recognise};
+use tb_award::{Cut, Recognised, recognise};
 use tb_book::{Book, BookLine};
-use tb_history::{AddOn, AddOnLine, Awards, Enrolment, Figures, Results};
+use tb_history::{AddOn, AddOnLine, Awards, Enrolment, Results};
 use tb_price::above_zero;
 use tb_results::*;
 use tb_terms::{Announcement, Cusip, EasternDays, Terms, read_day};
-use tb_units::{Cents, Day, Days, Dollars, Ident, Lines, OutOfMemory, Rate, Steps};
+use tb_units::{Cents, Day, Days, Dollars, Ident, Lines, Rate, Steps};
 
 fn day(rt: &impl Abort, text: &str) -> Day {
     read_day(text).expect(rt, "no day")
@@ -68,17 +67,17 @@ fn announced(rt: &impl Abort) -> Announcement {
     }
 }
 
-fn terms_of(rt: &impl Abort, alloc: Global) -> Result<Terms, OutOfMemory>
-    ensures days { IfOk result (λ terms. terms.days.count ≡ 91) }
-    ensures offering { IfOk result (λ terms. terms.announcement.offering.value % 100 ≡ 0) }
-    ensures floor { IfOk result (λ terms. 100 ≤ terms.announcement.competitive_floor.value) }
+fn terms_of(rt: &impl Abort, alloc: Global) -> Terms
+    ensures days { result.days.count ≡ 91 }
+    ensures offering { result.announcement.offering.value % 100 ≡ 0 }
+    ensures floor { 100 ≤ result.announcement.competitive_floor.value }
 {
-    let days = EasternDays::new(alloc)?;
+    let days = EasternDays::new(alloc).expect(rt, "memory");
     let terms = Terms::check(&announced(rt), &days).expect(rt, "not in order");
     assert!(rt; terms.days.count == 91);
     assert!(rt; terms.announcement.offering.value % 100 == 0);
     assert!(rt; 100 <= terms.announcement.competitive_floor.value);
-    Ok(terms)
+    terms
 }
 
 fn is_priced(rate: Option<Rate>) -> bool
@@ -100,19 +99,18 @@ fn is_sound(bidders: u32, line: &BookLine) -> bool
 }
 
 // Adds a line, of which there is none yet.
-fn add(rt: &impl Abort, book: &mut Book, bidders: u32, line: BookLine) -> Result<(), OutOfMemory>
+fn add(rt: &impl Abort, book: &mut Book, bidders: u32, line: BookLine)
     requires sound { is_sound_line bidders 91 line ≡ true }
     requires all { All (λ l. is_sound_line bidders 91 l ≡ true) book.old.lines }
     requires fits { par_in book.old.lines + line.amount.value ≤ 10 ^ 22 }
-    ensures all { OnOk result (All (λ l. is_sound_line bidders 91 l ≡ true) book.new.lines) }
-    ensures par { OnOk result (par_in book.new.lines ≤ par_in book.old.lines + line.amount.value) }
+    ensures all { All (λ l. is_sound_line bidders 91 l ≡ true) book.new.lines }
+    ensures par { par_in book.new.lines ≤ par_in book.old.lines + line.amount.value }
     ensures opened { book.new.opened ≡ book.old.opened }
 {
-    book.reserve(1)?;
+    book.reserve(1).expect(rt, "memory");
     let there = book.take_out(line.bidder, line.number);
     assert!(rt; there.is_none());
     book.add(line);
-    Ok(())
 }
 
 // A table of bids: bidder, number, steps of 0.005 percent of a competitive bid, and whole dollars.
@@ -121,19 +119,19 @@ fn book_of(
     alloc: Global,
     bidders: u32,
     table: &[(u32, u64, Option<u32>, u32)],
-) -> Result<Book, OutOfMemory>
+) -> Book
     requires { length table.now ≤ 1000 }
-    ensures sound { IfOk result (λ book. All (λ l. is_sound_line bidders 91 l ≡ true) book.lines) }
-    ensures opened { IfOk result (λ book. book.opened ≡ true) }
+    ensures sound { All (λ l. is_sound_line bidders 91 l ≡ true) result.lines }
+    ensures opened { result.opened ≡ true }
 {
     let mut book = Book::new(alloc);
     for place in 0..table.len() {
         let (bidder, number, steps, dollars) = table[place];
         let line = line_of(rt, bidder, number, steps, dollars);
         assert!(rt; is_sound(bidders, &line));
-        add(rt, &mut book, bidders, line)?;
+        add(rt, &mut book, bidders, line);
     }
-    Ok(book)
+    book
 }
 
 fn rate_of(rt: &impl Abort, steps: Option<u32>) -> Option<Rate> {
@@ -156,22 +154,23 @@ fn line_of(rt: &impl Abort, bidder: u32, number: u64, steps: Option<u32>, dollar
 }
 
 fn results_of(
+    rt: &impl Abort,
     alloc: Global,
     terms: &Terms,
     book: &Book,
     add_on: Option<AddOn>,
-) -> Result<Results, OutOfMemory>
+) -> Results
     requires days { terms.now.days.count ≡ 91 }
     requires offering { terms.now.announcement.offering.value % 100 ≡ 0 }
     requires floor { 100 ≤ terms.now.announcement.competitive_floor.value }
     requires sound { All (λ l. is_sound_line 5 91 l ≡ true) book.now.lines }
     requires opened { book.now.opened ≡ true }
 {
-    results(alloc, terms, book, &[0; 5], add_on)
+    results(alloc, terms, book, &[0; 5], add_on).expect(rt, "memory")
 }
 
 // What each of the five bidders is awarded.
-fn awarded_of(alloc: Global, terms: &Terms, book: &Book) -> Result<Vec<u128>, OutOfMemory>
+fn awarded_of(rt: &impl Abort, alloc: Global, terms: &Terms, book: &Book) -> Vec<u128>
     requires days { terms.now.days.count ≡ 91 }
     requires offering { terms.now.announcement.offering.value % 100 ≡ 0 }
     requires floor { 100 ≤ terms.now.announcement.competitive_floor.value }
@@ -179,23 +178,32 @@ fn awarded_of(alloc: Global, terms: &Terms, book: &Book) -> Result<Vec<u128>, Ou
     requires opened { book.now.opened ≡ true }
 {
     let mut recognised = Recognised::empty(alloc);
-    recognised.reserve(book.lines(), 5)?;
+    recognised.reserve(book.lines(), 5).expect(rt, "memory");
     let outcome = cut_book(&mut recognised, terms, book, &[0; 5]);
     let mut amounts = Vec::new(alloc);
-    amounts.reserve(5)?;
+    amounts.reserve(5).expect(rt, "memory");
     award_all(&mut amounts, &outcome, &recognised, book, 5);
-    Ok(amounts)
+    amounts
 }
 
-// The awards of a caller's bidders, where one bidder is enrolled.
+// Each of the five bidders is awarded so much of the terms' offering.
+fn are_awarded(rt: &impl Abort, alloc: Global, book: &Book, amounts: &[u128; 5]) -> bool
+    requires sound { All (λ l. is_sound_line 5 91 l ≡ true) book.now.lines }
+    requires opened { book.now.opened ≡ true }
+{
+    let terms = terms_of(rt, alloc);
+    awarded_of(rt, alloc, &terms, book).as_slice() == amounts.as_slice()
+}
+
+// The awards that a caller reads of the bidders, where `fund` alone is enrolled.
 fn awards_of(
+    rt: &impl Abort,
     alloc: Global,
     terms: &Terms,
     book: &Book,
-    bidder: Enrolment,
     add_on: Option<AddOn>,
-    caller: &Ident,
-) -> Result<Awards, OutOfMemory>
+    caller: &str,
+) -> Awards
     requires days { terms.now.days.count ≡ 91 }
     requires offering { terms.now.announcement.offering.value % 100 ≡ 0 }
     requires floor { 100 ≤ terms.now.announcement.competitive_floor.value }
@@ -203,34 +211,36 @@ fn awards_of(
     requires opened { book.now.opened ≡ true }
     requires range { IfSome add_on (λ x. x.amount.value ≤ most_par) }
 {
-    awards(alloc, terms, book, &[0], &[bidder], add_on, caller)
+    let bidder = fund(rt);
+    let caller = name(rt, caller);
+    awards(alloc, terms, book, &[0], &[bidder], add_on, &caller).expect(rt, "memory")
 }
 
-// What a caller reads of the add-on, where one bidder is enrolled.
+// What a caller reads without an add-on, where `fund` alone is enrolled.
+fn awards_alone(rt: &impl Abort, alloc: Global, book: &Book, caller: &str) -> Awards
+    requires sound { All (λ l. is_sound_line 1 91 l ≡ true) book.now.lines }
+    requires opened { book.now.opened ≡ true }
+{
+    let terms = terms_of(rt, alloc);
+    awards_of(rt, alloc, &terms, book, None, caller)
+}
+
+// What a caller reads of the add-on, where `fund` alone is enrolled.
 fn add_on_of(
     rt: &impl Abort,
     alloc: Global,
     book: &Book,
     holder: &str,
     caller: &str,
-) -> Result<Option<AddOnLine>, OutOfMemory>
+) -> Option<AddOnLine>
     requires sound { All (λ l. is_sound_line 1 91 l ≡ true) book.now.lines }
     requires opened { book.now.opened ≡ true }
 {
-    let terms = terms_of(rt, alloc)?;
-    let add_on = added(rt, holder);
-    let awards = awards_of(
-        alloc,
-        &terms,
-        book,
-        fund(rt),
-        Some(add_on),
-        &name(rt, caller),
-    )?;
-    Ok(awards.addon)
+    let terms = terms_of(rt, alloc);
+    awards_of(rt, alloc, &terms, book, Some(added(rt, holder)), caller).addon
 }
 
-// Par in dollars, and its payment in cents.
+// The add-on's par in dollars, and its payment in cents.
 fn line(amount: u64, payment: u64) -> Option<AddOnLine> {
     Some(AddOnLine {
         amount: Dollars {
@@ -244,10 +254,11 @@ fn line(amount: u64, payment: u64) -> Option<AddOnLine> {
 
 // Four competitive lines are recognised in four steps at most.
 fn recognised_in_four_steps<L: Ledger>(
+    rt: &impl Abort,
     alloc: Global,
     book: &Book,
     steps: &mut Steps<L>,
-) -> Result<Recognised, OutOfMemory>
+) -> Recognised
     requires four { length (open_lines book.now) ≡ 4 }
     requires known { All (λ line. line.bidder < 5) (open_lines book.now) }
     ensures { steps.new ≤ steps.old + 4 }
@@ -255,14 +266,10 @@ fn recognised_in_four_steps<L: Ledger>(
     let offering = Dollars {
         value: 1_000_000_000,
     };
-    recognise(alloc, book, &[0; 5], offering, steps)
+    recognise(alloc, book, &[0; 5], offering, steps).expect(rt, "memory")
 }
 
-fn recognised_by<L: Ledger>(
-    alloc: Global,
-    blank: Blank,
-    book: &Book,
-) -> Result<Recognised, OutOfMemory>
+fn recognised_by<L: Ledger>(rt: &impl Abort, alloc: Global, blank: Blank, book: &Book) -> Recognised
     requires name { blank.name ≡ L.name }
     requires parts { blank.parts ≡ L.parts }
     requires some { 0 < L.parts }
@@ -270,33 +277,36 @@ fn recognised_by<L: Ledger>(
     requires known { All (λ line. line.bidder < 5) (open_lines book.now) }
 {
     let mut steps = Steps::<L>::new(blank);
-    recognised_in_four_steps(alloc, book, &mut steps)
+    recognised_in_four_steps(rt, alloc, book, &mut steps)
 }
 
-fn recognised_of(rt: &impl Abort, alloc: Global, book: &Book) -> Result<Recognised, OutOfMemory>
+fn recognised_of(rt: &impl Abort, alloc: Global, book: &Book) -> Recognised
     requires sound { All (λ l. is_sound_line 5 91 l ≡ true) book.now.lines }
     requires opened { book.now.opened ≡ true }
 {
-    assert_eq!(rt; book.lines(), 4);
-    recognised_by::<Brand>(alloc, Blank::new(1), book)
+    assert!(rt; book.lines() == 4);
+    recognised_by::<Brand>(rt, alloc, Blank::new(1), book)
 }
 
-// What is recognised, as bidder, steps of the rate, and dollars.
-fn expect_recognised(rt: &impl Abort, recognised: &Recognised, table: &[(u32, u32, u128)]) {
-    assert_eq!(rt; recognised.count(), table.len() as u64);
-    for place in 0..table.len() {
-        let (bidder, steps, dollars) = table[place];
-        let line = recognised.line(place as u64);
-        assert_eq!(rt; line.bidder, bidder);
-        assert_eq!(rt; line.rate.steps, steps);
-        assert_eq!(rt; line.amount.value, dollars);
+// What is recognised in this place is a line of the bidder, at so many steps and for so many dollars.
+fn is_recognised(
+    recognised: &Recognised,
+    place: u64,
+    bidder: u32,
+    steps: u32,
+    dollars: u32,
+) -> bool {
+    if recognised.count() <= place {
+        return false;
     }
+    let line = recognised.line(place);
+    line.bidder == bidder && line.rate.steps == steps && line.amount.value == u128::from(dollars)
 }
 
 // Noncompetitive par of one bidder, and four competitive bids that stop at 5.330 percent.
-fn sample_book(rt: &impl Abort, alloc: Global) -> Result<Book, OutOfMemory>
-    ensures sound { IfOk result (λ book. All (λ l. is_sound_line 5 91 l ≡ true) book.lines) }
-    ensures opened { IfOk result (λ book. book.opened ≡ true) }
+fn sample_book(rt: &impl Abort, alloc: Global) -> Book
+    ensures sound { All (λ l. is_sound_line 5 91 l ≡ true) result.lines }
+    ensures opened { result.opened ≡ true }
 {
     let table = [
         (0, 1, None, 100_000_000),
@@ -309,124 +319,138 @@ fn sample_book(rt: &impl Abort, alloc: Global) -> Result<Book, OutOfMemory>
 }
 
 #[test]
-fn four_competitive_lines_are_recognised_in_four_steps(rt: HostRuntime) -> Result<(), Fail> {
-    let book = sample_book(&rt, rt.alloc())?;
-    let recognised = recognised_of(&rt, rt.alloc(), &book)?;
-    let table = [
-        (1, 1064, 300_000_000),
-        (2, 1065, 350_000_000),
-        (3, 1066, 300_000_000),
-        (4, 1066, 150_000_000),
-    ];
-    expect_recognised(&rt, &recognised, &table);
-    Ok(())
+fn four_competitive_lines_are_recognised_in_four_steps(rt: HostRuntime) {
+    let book = sample_book(&rt, rt.alloc());
+    let recognised = recognised_of(&rt, rt.alloc(), &book);
+    assert!(rt; recognised.count() == 4);
+    assert!(rt; is_recognised(&recognised, 0, 1, 1064, 300_000_000));
+    assert!(rt; is_recognised(&recognised, 1, 2, 1065, 350_000_000));
+    assert!(rt; is_recognised(&recognised, 2, 3, 1066, 300_000_000));
+    assert!(rt; is_recognised(&recognised, 3, 4, 1066, 150_000_000));
 }
 
-// The figures in steps, hundredths, millionths, thousandths and dollars.
-fn expect_figures(rt: &impl Abort, figures: &Figures) {
-    let cut = figures.cut;
-    assert_eq!(rt; (cut.stop.steps, cut.percent.hundredths), (1066, 5556));
-    assert_eq!(rt;
-        (cut.price.millionths, cut.sought.value),
-        (98_652_694, 900_000_000)
-    );
-    assert_eq!(rt; figures.competitive.value, 900_020_000);
-    assert_eq!(rt; (figures.median.steps, figures.low.steps), (1065, 1064));
-    assert_eq!(rt; figures.investment.thousandths, 5478);
+// The results of the sample.
+fn sample_results(rt: &impl Abort, alloc: Global, add_on: Option<AddOn>) -> Results {
+    let terms = terms_of(rt, alloc);
+    let book = sample_book(rt, alloc);
+    results_of(rt, alloc, &terms, &book, add_on)
 }
 
-#[test]
-fn an_auction_stops_in_its_last_rate(rt: HostRuntime) -> Result<(), Fail> {
-    let terms = terms_of(&rt, rt.alloc())?;
-    let book = sample_book(&rt, rt.alloc())?;
-    let results = results_of(rt.alloc(), &terms, &book, None)?;
-    assert_eq!(rt; results.terms, announced(&rt));
-    assert_eq!(rt; results.noncompetitive.value, 100_000_000);
-    assert_eq!(rt; results.addon.value, 0);
-    let figures = results.figures.expect(&rt, "no figures");
-    expect_figures(&rt, &figures);
-    Ok(())
+// So many dollars are noncompetitive, and so many are added on.
+fn amounts_are(results: &Results, noncompetitive: u64, addon: u64) -> bool {
+    results.noncompetitive.value == u128::from(noncompetitive)
+        && results.addon.value == u128::from(addon)
 }
 
-#[test]
-fn an_add_on_changes_no_other_figure(rt: HostRuntime) -> Result<(), Fail> {
-    let terms = terms_of(&rt, rt.alloc())?;
-    let book = sample_book(&rt, rt.alloc())?;
-    let add_on = added(&rt, "broker");
-    let results = results_of(rt.alloc(), &terms, &book, Some(add_on))?;
-    assert_eq!(rt; results.noncompetitive.value, 100_000_000);
-    assert_eq!(rt; results.addon.value, 5_000_000_000);
-    let figures = results.figures.expect(&rt, "no figures");
-    expect_figures(&rt, &figures);
-    Ok(())
+// The auction stops at 5.330 percent, where 55.56 percent are awarded.
+fn stops(cut: &Cut) -> bool {
+    cut.stop.steps == 1066
+        && cut.percent.hundredths == 5556
+        && cut.price.millionths == 98_652_694
+        && cut.sought.value == 900_000_000
+}
+
+// The figures of the sample, which no add-on changes.
+fn has_figures(results: &Results) -> bool {
+    let Some(figures) = &results.figures else {
+        return false;
+    };
+    stops(&figures.cut)
+        && figures.competitive.value == 900_020_000
+        && figures.median.steps == 1065
+        && figures.low.steps == 1064
+        && figures.investment.thousandths == 5478
 }
 
 #[test]
-fn awards_at_the_stop_are_prorated(rt: HostRuntime) -> Result<(), Fail> {
-    let terms = terms_of(&rt, rt.alloc())?;
-    let book = sample_book(&rt, rt.alloc())?;
-    let amounts = awarded_of(rt.alloc(), &terms, &book)?;
-    let expected: [u128; 5] = [
+fn an_auction_stops_in_its_last_rate(rt: HostRuntime) {
+    let results = sample_results(&rt, rt.alloc(), None);
+    assert!(rt; results.terms == announced(&rt));
+    assert!(rt; amounts_are(&results, 100_000_000, 0));
+    assert!(rt; has_figures(&results));
+}
+
+#[test]
+fn an_add_on_changes_no_other_figure(rt: HostRuntime) {
+    let results = sample_results(&rt, rt.alloc(), Some(added(&rt, "broker")));
+    assert!(rt; amounts_are(&results, 100_000_000, 5_000_000_000));
+    assert!(rt; has_figures(&results));
+}
+
+#[test]
+fn awards_at_the_stop_are_prorated(rt: HostRuntime) {
+    let book = sample_book(&rt, rt.alloc());
+    let amounts = [
         100_000_000,
         300_000_000,
         350_000_000,
         166_680_000,
         83_340_000,
     ];
-    assert_eq!(rt; amounts.as_slice(), expected.as_slice());
-    Ok(())
+    assert!(rt; are_awarded(&rt, rt.alloc(), &book, &amounts));
+}
+
+// The results of the book, beside which 5,000,000,000 are added on.
+fn results_with_add_on(rt: &impl Abort, alloc: Global, book: &Book) -> Results
+    requires sound { All (λ l. is_sound_line 5 91 l ≡ true) book.now.lines }
+    requires opened { book.now.opened ≡ true }
+{
+    let terms = terms_of(rt, alloc);
+    results_of(rt, alloc, &terms, book, Some(added(rt, "broker")))
 }
 
 #[test]
-fn without_competitive_bids_nobody_is_awarded_anything(rt: HostRuntime) -> Result<(), Fail> {
+fn without_competitive_bids_nobody_is_awarded_anything(rt: HostRuntime) {
     let alloc = rt.alloc();
-    let terms = terms_of(&rt, alloc)?;
-    let book = book_of(&rt, alloc, 5, &[(0, 1, None, 100_000_000)])?;
-    let add_on = added(&rt, "broker");
-    let results = results_of(alloc, &terms, &book, Some(add_on))?;
-    assert_eq!(rt; results.noncompetitive.value, 100_000_000);
-    assert_eq!(rt; results.addon.value, 5_000_000_000);
+    let book = book_of(&rt, alloc, 5, &[(0, 1, None, 100_000_000)]);
+    let results = results_with_add_on(&rt, alloc, &book);
+    assert!(rt; amounts_are(&results, 100_000_000, 5_000_000_000));
     assert!(rt; results.figures.is_none());
-    let amounts = awarded_of(alloc, &terms, &book)?;
-    assert_eq!(rt; amounts.as_slice(), [0u128; 5].as_slice());
-    Ok(())
+    assert!(rt; are_awarded(&rt, alloc, &book, &[0; 5]));
+}
+
+// A noncompetitive bid of `fund`, and one at 5.320 percent.
+fn book_of_fund(rt: &impl Abort, alloc: Global) -> Book
+    ensures sound { All (λ l. is_sound_line 1 91 l ≡ true) result.lines }
+    ensures opened { result.opened ≡ true }
+{
+    let bids = [(0, 1, None, 100_000_000), (0, 2, Some(1064), 300_000_000)];
+    book_of(rt, alloc, 1, &bids)
+}
+
+// `fund` alone is awarded anything: the par of both its bids.
+fn is_awarded_both(rt: &impl Abort, awards: &Awards) -> bool {
+    if awards.lines.count() != 1 {
+        return false;
+    }
+    let line = awards.lines.line(0);
+    line.bidder == name(rt, "fund")
+        && line.amount.value == 400_000_000
+        && line.payment.value == 39_462_088_800
 }
 
 #[test]
-fn a_submitter_reads_the_awards_of_its_bidders(rt: HostRuntime) -> Result<(), Fail> {
-    let alloc = rt.alloc();
-    let terms = terms_of(&rt, alloc)?;
-    let bids = [(0, 1, None, 100_000_000), (0, 2, Some(1064), 300_000_000)];
-    let book = book_of(&rt, alloc, 1, &bids)?;
-    let awards = awards_of(alloc, &terms, &book, fund(&rt), None, &name(&rt, "broker"))?;
-    assert_eq!(rt; awards.lines.count(), 1);
+fn a_submitter_reads_the_awards_of_its_bidders(rt: HostRuntime) {
+    let book = book_of_fund(&rt, rt.alloc());
+    let awards = awards_alone(&rt, rt.alloc(), &book, "broker");
+    assert!(rt; is_awarded_both(&rt, &awards));
     assert!(rt; awards.addon.is_none());
-    let line = *awards.lines.line(0);
-    assert_eq!(rt; line.bidder, name(&rt, "fund"));
-    assert_eq!(rt; line.amount.value, 400_000_000);
-    assert_eq!(rt; line.payment.value, 39_462_088_800);
-    let none = awards_of(alloc, &terms, &book, fund(&rt), None, &name(&rt, "other"))?;
-    assert_eq!(rt; none.lines.count(), 0);
-    Ok(())
+    assert!(rt; awards_alone(&rt, rt.alloc(), &book, "other").lines.count() == 0);
 }
 
 // At 5.320 percent for 91 days the price is 98.655222.
 #[test]
-fn the_holder_alone_reads_the_add_on(rt: HostRuntime) -> Result<(), Fail> {
+fn the_holder_alone_reads_the_add_on(rt: HostRuntime) {
     let alloc = rt.alloc();
-    let bids = [(0, 1, None, 100_000_000), (0, 2, Some(1064), 300_000_000)];
-    let book = book_of(&rt, alloc, 1, &bids)?;
+    let book = book_of_fund(&rt, alloc);
     let whole = line(5_000_000_000, 493_276_110_000);
-    assert!(rt; add_on_of(&rt, alloc, &book, "broker", "broker")? == whole);
-    assert!(rt; add_on_of(&rt, alloc, &book, "other", "other")? == whole);
-    assert!(rt; add_on_of(&rt, alloc, &book, "other", "broker")?.is_none());
-    Ok(())
+    assert!(rt; add_on_of(&rt, alloc, &book, "broker", "broker") == whole);
+    assert!(rt; add_on_of(&rt, alloc, &book, "other", "other") == whole);
+    assert!(rt; add_on_of(&rt, alloc, &book, "other", "broker").is_none());
 }
 
 #[test]
-fn without_awards_nothing_of_the_add_on_is_awarded(rt: HostRuntime) -> Result<(), Fail> {
-    let alloc = rt.alloc();
-    let book = book_of(&rt, alloc, 1, &[(0, 1, None, 100_000_000)])?;
-    assert!(rt; add_on_of(&rt, alloc, &book, "other", "other")? == line(0, 0));
-    Ok(())
+fn without_awards_nothing_of_the_add_on_is_awarded(rt: HostRuntime) {
+    let book = book_of(&rt, rt.alloc(), 1, &[(0, 1, None, 100_000_000)]);
+    assert!(rt; add_on_of(&rt, rt.alloc(), &book, "other", "other") == line(0, 0));
 }

@@ -1,8 +1,9 @@
 -- A book of sound lines is of some bidding.
-use Rattle.std.proofs.Common.{◌≡◌, ℕ, true, ap, length, sym, subst, List, ◌%◌, ◌≤◌, arith}
+use Rattle.std.proofs.Common.{◌≡◌, ℕ, true, ap, length, sym, subst, List, Result, ◌%◌, ◌≤◌, arith}
 use Rattle.tb_units.specs.declared.lines.RateLine.{RateLine}
+use Rattle.tb_units.specs.declared.memory.OutOfMemory.{OutOfMemory}
 use Rattle.tb_book.proofs.CallerLemmas.{open_lines-open}
-use Rattle.std.specs.Prelude.{All, pos, replicate}
+use Rattle.std.specs.Prelude.{⊤, All, OnOk, pos, replicate}
 use Rattle.tb_terms.specs.declared.terms.Terms.{Terms}
 use Rattle.tb_book.specs.declared.book_line.BookLine.{BookLine}
 use Rattle.tb_results.specs.Biddings.{IsBookOf, is_sound_line}
@@ -21,13 +22,13 @@ sample terms lines days offering floor sound =
     (subst (λ (n : ℕ). All (λ line. is_sound_line 5 n line ≡ true) lines) (sym days) sound)
 
 pub cut_book-outcome-requires-clause-bidding : goal.cut_book-outcome-requires-clause-bidding
-cut_book-outcome-requires-clause-bidding c = (
+cut_book-outcome-requires-clause-bidding g c = (
   sample_of c.args.terms.now c.args.book.now.lines (numbered 0 5),
   sample c.args.terms.now c.args.book.now.lines c.requires.days c.requires.offering c.requires.floor c.requires.sound,
 )
 
 pub award_all-requires-clause-bidding : goal.award_all-requires-clause-bidding
-award_all-requires-clause-bidding c =
+award_all-requires-clause-bidding g c =
     let bidding = sample_of c.args.terms.now c.args.book.now.lines (numbered 0 5) in
     let is =
     sample c.args.terms.now c.args.book.now.lines c.requires.days c.requires.offering
@@ -35,10 +36,11 @@ award_all-requires-clause-bidding c =
     (bidding, c.cut_book-outcome.ensures.cut bidding is, sym (length-numbered 0 5))
 
 pub cut_book-outcome-requires-clause-line_room : goal.cut_book-outcome-requires-clause-line_room
-cut_book-outcome-requires-clause-line_room c =
+cut_book-outcome-requires-clause-line_room g c =
     omega (
       arith,
       c.lines.ensures.count,
       ap (λ (lines : List RateLine). length lines) (open_lines-open c.args.book.now c.requires.opened),
-      c.in_ok-reserve.ensures.line_room,
+      subst (λ (r : Result ⊤ OutOfMemory). OnOk r (c.lines.result ≤ c.reserve.new.self.line_room)) c.expect.ensures
+          c.reserve.ensures.line_room,
     )

@@ -12,11 +12,11 @@ distinct-one : (e : Enrolment) → AreDistinct (e ∷ [])
 distinct-one e = λ j k d before within same. absurd (omega (arith, before, within))
 
 pub awards-requires-clause-bidding : goal.awards-requires-clause-bidding
-awards-requires-clause-bidding c =
-    let enrolled : List Enrolment = c.args.bidder ∷ [] in (
+awards-requires-clause-bidding g c =
+    let enrolled : List Enrolment = c.fund-bidder.result ∷ [] in (
       sample_of c.args.terms.now c.args.book.now.lines enrolled,
-      IsBookOf-sample c.args.terms.now c.args.book.now.lines enrolled (distinct-one c.args.bidder) c.requires.offering
-          c.requires.floor
+      IsBookOf-sample c.args.terms.now c.args.book.now.lines enrolled (distinct-one c.fund-bidder.result)
+          c.requires.offering c.requires.floor
           (subst (λ (n : ℕ). All (λ line. is_sound_line 1 n line ≡ true) c.args.book.now.lines) (sym c.requires.days)
           c.requires.sound),
       refl,

@@ -6,7 +6,7 @@ use Rattle.tb_results.proofs.SampleLemmas.{IsBookOf-sample, distinct-numbered, n
 use Rattle.tb_results_tests.proofs.tests.results_of.Goals as goal
 
 pub results-requires-clause-bidding : goal.results-requires-clause-bidding
-results-requires-clause-bidding c = (
+results-requires-clause-bidding g c = (
   sample_of c.args.terms.now c.args.book.now.lines (numbered 0 5),
   IsBookOf-sample c.args.terms.now c.args.book.now.lines (numbered 0 5) (distinct-numbered 5) c.requires.offering
       c.requires.floor
