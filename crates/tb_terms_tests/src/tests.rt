@@ -1,11 +1,10 @@
 //! Tests of the public calls. The seconds come from another calendar's arithmetic, or from published announcements.
 use std::process::Abort;
-use std::test::Fail;
 use tb_terms::{
     Announcement, Cusip, EasternDays, Field, Refusal, Terms, TermsFault, payment_date, print_day,
     print_minute, read_day, read_minute, year_length,
 };
-use tb_units::{Cents, Day, Dollars, Ident, Moment, OutOfMemory, Short, YearLength};
+use tb_units::{Cents, Day, Dollars, Ident, Moment, Short, YearLength};
 
 fn day(rt: &impl Abort, text: &str) -> Day {
     read_day(text).expect(rt, "no day")
@@ -15,6 +14,11 @@ fn shows(printed: Short, wanted: &str) -> bool {
     printed.bytes() == wanted.as_bytes()
 }
 
+// the days of the eastern calendar, for which there is memory
+fn eastern_days<R: AllocGlobal + Abort>(rt: &R) -> EasternDays {
+    EasternDays::new(rt.alloc()).expect(rt, "memory")
+}
+
 // the day begins at this second, which is of that day
 fn starts(rt: &impl Abort, days: &EasternDays, text: &str, seconds: u64) -> bool {
     let day = day(rt, text);
@@ -22,8 +26,10 @@ fn starts(rt: &impl Abort, days: &EasternDays, text: &str, seconds: u64) -> bool
     moment.seconds == seconds && days.date_of(moment) == day
 }
 
-fn is_of(rt: &impl Abort, days: &EasternDays, moment: Moment, text: &str) -> bool {
-    days.date_of(moment) == day(rt, text)
+// the second is of this day
+fn is_of(rt: &impl Abort, days: &EasternDays, seconds: u64, text: &str) -> bool {
+    assert!(rt; 946_702_800 <= seconds && seconds <= 4_102_444_799);
+    days.date_of(Moment { seconds }) == day(rt, text)
 }
 
 fn closes(rt: &impl Abort, days: &EasternDays, date: &str, minute: &str, seconds: u64) -> bool {
@@ -34,8 +40,8 @@ fn closes(rt: &impl Abort, days: &EasternDays, date: &str, minute: &str, seconds
 }
 
 #[test]
-fn days_begin_by_the_rule_on_the_days_of_change(rt: HostRuntime) -> Result<(), OutOfMemory> {
-    let days = EasternDays::new(rt.alloc())?;
+fn days_begin_by_the_rule_on_the_days_of_change(rt: HostRuntime) {
+    let days = eastern_days(&rt);
     assert!(rt; starts(&rt, &days, "2000-01-01", 946_702_800));
     assert!(rt; starts(&rt, &days, "2007-03-11", 1_173_589_200));
     assert!(rt; starts(&rt, &days, "2007-03-12", 1_173_672_000));
@@ -51,7 +57,6 @@ fn days_begin_by_the_rule_on_the_days_of_change(rt: HostRuntime) -> Result<(), O
     assert!(rt; starts(&rt, &days, "2099-03-09", 4_076_712_000));
     assert!(rt; starts(&rt, &days, "2099-11-01", 4_097_188_800));
     assert!(rt; starts(&rt, &days, "2099-11-02", 4_097_278_800));
-    Ok(())
 }
 
 // The first seconds of the days up to a day, added up plainly and by their places.
@@ -66,117 +71,123 @@ fn table_sums(days: &EasternDays, last: Day) -> (u64, u64) {
     (plain, placed)
 }
 
-#[test]
-fn every_day_begins_where_another_calendar_has_it(rt: HostRuntime) -> Result<(), OutOfMemory> {
-    let days = EasternDays::new(rt.alloc())?;
-    assert!(rt;
-        table_sums(&days, day(&rt, "2024-12-31")) == (12_247_469_964_000, 61_411_222_366_282_800)
-    );
-    assert!(rt;
-        table_sums(&days, day(&rt, "2049-12-31")) == (31_697_607_135_600, 333_320_551_026_825_600)
-    );
-    assert!(rt;
-        table_sums(&days, day(&rt, "2074-12-31")) == (58_351_358_217_600, 947_280_384_154_058_400)
-    );
-    assert!(rt;
-        table_sums(&days, day(&rt, "2099-12-31")) == (92_208_723_210_000, 2_034_843_118_985_703_600)
-    );
-    Ok(())
+// The sums up to the day are these.
+fn sums(rt: &impl Abort, days: &EasternDays, last: &str, plain: u64, placed: u64) -> bool {
+    table_sums(days, day(rt, last)) == (plain, placed)
 }
 
 #[test]
-fn a_second_before_a_day_is_the_day_before(rt: HostRuntime) -> Result<(), OutOfMemory> {
-    let days = EasternDays::new(rt.alloc())?;
+fn every_day_begins_where_another_calendar_has_it(rt: HostRuntime) {
+    let days = eastern_days(&rt);
     assert!(rt;
-        is_of(
+        sums(
             &rt,
             &days,
-            Moment {
-                seconds: 946_702_800
-            },
-            "2000-01-01"
+            "2024-12-31",
+            12_247_469_964_000,
+            61_411_222_366_282_800
         )
     );
     assert!(rt;
-        is_of(
+        sums(
             &rt,
             &days,
-            Moment {
-                seconds: 1_710_129_599
-            },
-            "2024-03-10"
+            "2049-12-31",
+            31_697_607_135_600,
+            333_320_551_026_825_600
         )
     );
     assert!(rt;
-        is_of(
+        sums(
             &rt,
             &days,
-            Moment {
-                seconds: 1_730_696_399
-            },
-            "2024-11-03"
+            "2074-12-31",
+            58_351_358_217_600,
+            947_280_384_154_058_400
         )
     );
     assert!(rt;
-        is_of(
+        sums(
             &rt,
             &days,
-            Moment {
-                seconds: 1_730_955_599
-            },
-            "2024-11-06"
+            "2099-12-31",
+            92_208_723_210_000,
+            2_034_843_118_985_703_600
         )
     );
-    assert!(rt;
-        is_of(
-            &rt,
-            &days,
-            Moment {
-                seconds: 4_102_444_799
-            },
-            "2099-12-31"
-        )
-    );
-    Ok(())
 }
 
 #[test]
-fn closings_are_in_the_time_of_the_day(rt: HostRuntime) -> Result<(), OutOfMemory> {
-    let days = EasternDays::new(rt.alloc())?;
+fn a_second_before_a_day_is_the_day_before(rt: HostRuntime) {
+    let days = eastern_days(&rt);
+    assert!(rt; is_of(&rt, &days, 946_702_800, "2000-01-01"));
+    assert!(rt; is_of(&rt, &days, 1_710_129_599, "2024-03-10"));
+    assert!(rt; is_of(&rt, &days, 1_730_696_399, "2024-11-03"));
+    assert!(rt; is_of(&rt, &days, 1_730_955_599, "2024-11-06"));
+    assert!(rt; is_of(&rt, &days, 4_102_444_799, "2099-12-31"));
+}
+
+#[test]
+fn closings_are_in_the_time_of_the_day(rt: HostRuntime) {
+    let days = eastern_days(&rt);
     assert!(rt; closes(&rt, &days, "2024-11-04", "11:30", 1_730_737_800));
     assert!(rt; closes(&rt, &days, "2024-11-04", "11:00", 1_730_736_000));
     assert!(rt; closes(&rt, &days, "2007-03-11", "08:00", 1_173_614_400));
     assert!(rt; closes(&rt, &days, "2007-11-04", "18:00", 1_194_217_200));
     assert!(rt; closes(&rt, &days, "2024-03-10", "08:00", 1_710_072_000));
     assert!(rt; closes(&rt, &days, "2024-11-03", "08:00", 1_730_638_800));
-    Ok(())
+}
+
+// the text spells no day
+fn no_day(text: &str) -> bool {
+    read_day(text).is_none()
+}
+
+// the text spells this minute
+fn reads_minute(text: &str, minute: u16) -> bool {
+    read_minute(text) == Some(minute)
+}
+
+// the text spells no minute
+fn no_minute(text: &str) -> bool {
+    read_minute(text).is_none()
+}
+
+// days are spelled so, and not otherwise
+fn days_have_one_spelling(rt: &impl Abort) {
+    assert!(rt; shows(print_day(day(rt, "2024-02-29")), "2024-02-29"));
+    assert!(rt; shows(print_day(Day { number: 10_957 }), "2000-01-01"));
+    assert!(rt; shows(print_day(Day { number: 47_481 }), "2099-12-31"));
+    assert!(rt; no_day("2023-02-29"));
+    assert!(rt; no_day("2024-02-30"));
+    assert!(rt; no_day("2024-13-01"));
+    assert!(rt; no_day("2024-00-01"));
+    assert!(rt; no_day("1999-12-31"));
+    assert!(rt; no_day("2100-01-01"));
+    assert!(rt; no_day("2024-2-29"));
+    assert!(rt; no_day("2024/02/29"));
+    assert!(rt; no_day(" 2024-02-29"));
+    assert!(rt; no_day(""));
+}
+
+// minutes are spelled so, and not otherwise
+fn minutes_have_one_spelling(rt: &impl Abort) {
+    assert!(rt; shows(print_minute(690), "11:30"));
+    assert!(rt; shows(print_minute(0), "00:00"));
+    assert!(rt; reads_minute("11:30", 690));
+    assert!(rt; reads_minute("23:59", 1439));
+    assert!(rt; no_minute("24:00"));
+    assert!(rt; no_minute("11:60"));
+    assert!(rt; no_minute("1:30"));
+    assert!(rt; no_minute("11.30"));
+    assert!(rt; no_minute("11:3o"));
+    assert!(rt; no_minute(""));
 }
 
 #[test]
 fn days_and_minutes_have_one_spelling(rt: HostRuntime) {
-    assert!(rt; shows(print_day(day(&rt, "2024-02-29")), "2024-02-29"));
-    assert!(rt; shows(print_day(Day { number: 10_957 }), "2000-01-01"));
-    assert!(rt; shows(print_day(Day { number: 47_481 }), "2099-12-31"));
-    assert!(rt; read_day("2023-02-29").is_none());
-    assert!(rt; read_day("2024-02-30").is_none());
-    assert!(rt; read_day("2024-13-01").is_none());
-    assert!(rt; read_day("2024-00-01").is_none());
-    assert!(rt; read_day("1999-12-31").is_none());
-    assert!(rt; read_day("2100-01-01").is_none());
-    assert!(rt; read_day("2024-2-29").is_none());
-    assert!(rt; read_day("2024/02/29").is_none());
-    assert!(rt; read_day(" 2024-02-29").is_none());
-    assert!(rt; read_day("").is_none());
-    assert!(rt; shows(print_minute(690), "11:30"));
-    assert!(rt; shows(print_minute(0), "00:00"));
-    assert_eq!(rt; read_minute("11:30"), Some(690));
-    assert_eq!(rt; read_minute("23:59"), Some(1439));
-    assert!(rt; read_minute("24:00").is_none());
-    assert!(rt; read_minute("11:60").is_none());
-    assert!(rt; read_minute("1:30").is_none());
-    assert!(rt; read_minute("11.30").is_none());
-    assert!(rt; read_minute("11:3o").is_none());
-    assert!(rt; read_minute("").is_none());
+    days_have_one_spelling(&rt);
+    minutes_have_one_spelling(&rt);
 }
 
 fn year(rt: &impl Abort, issue: &str, length: YearLength) -> bool {
@@ -192,14 +203,19 @@ fn years_have_366_days_before_a_29_february(rt: HostRuntime) {
     assert!(rt; year(&rt, "2099-12-31", YearLength::Y365));
 }
 
+// the day has this spelling
+fn is_day(rt: &impl Abort, found: Day, text: &str) -> bool {
+    found == day(rt, text)
+}
+
 #[test]
 fn payment_steps_over_weekends_and_holidays(rt: HostRuntime) {
     let maturity = Day { number: 20_134 };
-    assert_eq!(rt; maturity, day(&rt, "2025-02-15"));
+    assert!(rt; is_day(&rt, maturity, "2025-02-15"));
     let holidays = [Day { number: 20_108 }, Day { number: 20_136 }];
-    assert_eq!(rt; holidays[1], day(&rt, "2025-02-17"));
-    assert_eq!(rt; payment_date(maturity, &holidays), day(&rt, "2025-02-18"));
-    assert_eq!(rt; payment_date(maturity, &[]), day(&rt, "2025-02-17"));
+    assert!(rt; is_day(&rt, holidays[1], "2025-02-17"));
+    assert!(rt; is_day(&rt, payment_date(maturity, &holidays), "2025-02-18"));
+    assert!(rt; is_day(&rt, payment_date(maturity, &[]), "2025-02-17"));
 }
 
 fn announced(rt: &impl Abort) -> Announcement {
@@ -228,20 +244,15 @@ fn announced(rt: &impl Abort) -> Announcement {
 }
 
 #[test]
-fn announcements_are_dated(rt: HostRuntime) -> Result<(), OutOfMemory> {
-    let days = EasternDays::new(rt.alloc())?;
+fn announcements_are_dated(rt: HostRuntime) {
     let announcement = announced(&rt);
-    let terms = Terms::check(&announcement, &days);
-    assert!(rt; terms.is_ok());
-    if let Ok(terms) = terms {
-        assert_eq!(rt; terms.announcement, announcement);
-        assert_eq!(rt; terms.days.count, 91);
-        assert_eq!(rt; terms.nc_moment.seconds, 1_730_736_000);
-        assert_eq!(rt; terms.c_moment.seconds, 1_730_737_800);
-        assert_eq!(rt; terms.issue_moment.seconds, 1_730_955_600);
-        assert_eq!(rt; terms.maturity_moment.seconds, 1_738_818_000);
-    }
-    Ok(())
+    let terms = Terms::check(&announcement, &eastern_days(&rt)).expect(&rt, "not in order");
+    assert!(rt; terms.announcement == announcement);
+    assert!(rt; terms.days.count == 91);
+    assert!(rt; terms.nc_moment.seconds == 1_730_736_000);
+    assert!(rt; terms.c_moment.seconds == 1_730_737_800);
+    assert!(rt; terms.issue_moment.seconds == 1_730_955_600);
+    assert!(rt; terms.maturity_moment.seconds == 1_738_818_000);
 }
 
 // the announcement has this fault, or none
@@ -250,8 +261,8 @@ fn fault(announcement: &Announcement, days: &EasternDays, wanted: Option<TermsFa
 }
 
 #[test]
-fn faults_are_told_in_their_order(rt: HostRuntime) -> Result<(), OutOfMemory> {
-    let days = EasternDays::new(rt.alloc())?;
+fn faults_are_told_in_their_order(rt: HostRuntime) {
+    let days = eastern_days(&rt);
     let mut announcement = announced(&rt);
     announcement.nc_close = 690;
     announcement.c_close = 660;
@@ -272,7 +283,6 @@ fn faults_are_told_in_their_order(rt: HostRuntime) -> Result<(), OutOfMemory> {
         bytes: *b"912797AB3",
     };
     assert!(rt; fault(&announcement, &days, Some(TermsFault::BadDates)));
-    Ok(())
 }
 
 // an announcement with these closings
@@ -290,13 +300,12 @@ fn closing(
 }
 
 #[test]
-fn closings_are_from_8_to_18(rt: HostRuntime) -> Result<(), OutOfMemory> {
-    let days = EasternDays::new(rt.alloc())?;
+fn closings_are_from_8_to_18(rt: HostRuntime) {
+    let days = eastern_days(&rt);
     assert!(rt; closing(&rt, &days, "08:00", "18:00", None));
     assert!(rt; closing(&rt, &days, "18:00", "18:00", None));
     assert!(rt; closing(&rt, &days, "07:59", "18:00", Some(TermsFault::BadClosing)));
     assert!(rt; closing(&rt, &days, "08:00", "18:01", Some(TermsFault::BadClosing)));
-    Ok(())
 }
 
 // an announcement with these dates
@@ -314,8 +323,8 @@ fn dated(
 }
 
 #[test]
-fn bills_have_at_most_366_days_and_end_by_2079(rt: HostRuntime) -> Result<(), OutOfMemory> {
-    let days = EasternDays::new(rt.alloc())?;
+fn bills_have_at_most_366_days_and_end_by_2079(rt: HostRuntime) {
+    let days = eastern_days(&rt);
     assert!(rt; dated(&rt, &days, "2024-11-07", "2024-11-08", None));
     assert!(rt; dated(&rt, &days, "2024-11-07", "2025-11-08", None));
     assert!(rt;
@@ -355,7 +364,6 @@ fn bills_have_at_most_366_days_and_end_by_2079(rt: HostRuntime) -> Result<(), Ou
             Some(TermsFault::BadDates)
         )
     );
-    Ok(())
 }
 
 // the refusal has this number and this name
@@ -385,8 +393,8 @@ fn refusals_of_requests_and_bids_have_their_numbers(rt: HostRuntime) {
     assert!(rt; told(Refusal::AlreadyCancelled, 31, "AlreadyCancelled"));
 }
 
-#[test]
-fn refusals_of_the_operator_and_of_accounts_have_their_numbers(rt: HostRuntime) {
+// the refusals of the operator's messages have these numbers and names
+fn refusals_of_the_operator(rt: &impl Abort) {
     assert!(rt; told(Refusal::AuctionExists, 40, "AuctionExists"));
     assert!(rt; told(Refusal::BadCusip, 41, "BadCusip"));
     assert!(rt; told(Refusal::BadDates, 42, "BadDates"));
@@ -398,6 +406,10 @@ fn refusals_of_the_operator_and_of_accounts_have_their_numbers(rt: HostRuntime) 
     assert!(rt; told(Refusal::AlreadyPublished, 61, "AlreadyPublished"));
     assert!(rt; told(Refusal::NotPublished, 62, "NotPublished"));
     assert!(rt; told(Refusal::AlreadySettled, 64, "AlreadySettled"));
+}
+
+// the refusals of what is done with accounts have these numbers and names
+fn refusals_of_accounts(rt: &impl Abort) {
     assert!(rt; told(Refusal::UnknownSecurity, 70, "UnknownSecurity"));
     assert!(rt; told(Refusal::UnknownParticipant, 71, "UnknownParticipant"));
     assert!(rt; told(Refusal::SelfTransfer, 76, "SelfTransfer"));
@@ -412,6 +424,12 @@ fn refusals_of_the_operator_and_of_accounts_have_their_numbers(rt: HostRuntime) 
     assert!(rt; told(Refusal::OfferClosed, 93, "OfferClosed"));
     assert!(rt; told(Refusal::OfferUncovered, 94, "OfferUncovered"));
     assert!(rt; told(Refusal::OfferQuota, 95, "OfferQuota"));
+}
+
+#[test]
+fn refusals_of_the_operator_and_of_accounts_have_their_numbers(rt: HostRuntime) {
+    refusals_of_the_operator(&rt);
+    refusals_of_accounts(&rt);
 }
 
 #[test]
@@ -479,44 +497,64 @@ fn refusals_that_carry_values_have_their_numbers(rt: HostRuntime) {
     );
 }
 
+// the field is the member of this name
+fn is_member(field: Field, name: &str) -> bool {
+    field.member() == name
+}
+
+// the fields of all requests, of the roster and of holidays have these names
+fn members_of_the_roster(rt: &impl Abort) {
+    assert!(rt; is_member(Field::Body, "body"));
+    assert!(rt; is_member(Field::Number, "number"));
+    assert!(rt; is_member(Field::Kind, "kind"));
+    assert!(rt; is_member(Field::Submitter, "submitter"));
+    assert!(rt; is_member(Field::Key, "key"));
+    assert!(rt; is_member(Field::Bidder, "bidder"));
+    assert!(rt; is_member(Field::Day, "day"));
+}
+
+// the fields of announcements have these names
+fn members_of_announcements(rt: &impl Abort) {
+    assert!(rt; is_member(Field::Auction, "auction"));
+    assert!(rt; is_member(Field::Cusip, "cusip"));
+    assert!(rt; is_member(Field::Offering, "offering"));
+    assert!(rt; is_member(Field::Minimum, "minimum"));
+    assert!(rt; is_member(Field::Ceiling, "ceiling"));
+    assert!(rt; is_member(Field::Floor, "floor"));
+    assert!(rt; is_member(Field::Threshold, "threshold"));
+    assert!(rt; is_member(Field::Date, "date"));
+    assert!(rt; is_member(Field::NcClose, "nc_close"));
+    assert!(rt; is_member(Field::CClose, "c_close"));
+    assert!(rt; is_member(Field::Issue, "issue"));
+    assert!(rt; is_member(Field::Maturity, "maturity"));
+}
+
+// the fields of bids and of accounts have these names
+fn members_of_bids_and_accounts(rt: &impl Abort) {
+    assert!(rt; is_member(Field::Rate, "rate"));
+    assert!(rt; is_member(Field::Amount, "amount"));
+    assert!(rt; is_member(Field::Bid, "bid"));
+    assert!(rt; is_member(Field::Position, "position"));
+    assert!(rt; is_member(Field::To, "to"));
+    assert!(rt; is_member(Field::Holder, "holder"));
+    assert!(rt; is_member(Field::Pledge, "pledge"));
+    assert!(rt; is_member(Field::Participant, "participant"));
+    assert!(rt; is_member(Field::Cents, "cents"));
+    assert!(rt; is_member(Field::Seller, "seller"));
+    assert!(rt; is_member(Field::Offer, "offer"));
+}
+
 #[test]
 fn members_have_the_names_of_requests(rt: HostRuntime) {
-    assert!(rt; Field::Body.member() == "body");
-    assert!(rt; Field::Number.member() == "number");
-    assert!(rt; Field::Kind.member() == "kind");
-    assert!(rt; Field::Submitter.member() == "submitter");
-    assert!(rt; Field::Key.member() == "key");
-    assert!(rt; Field::Bidder.member() == "bidder");
-    assert!(rt; Field::Day.member() == "day");
-    assert!(rt; Field::Auction.member() == "auction");
-    assert!(rt; Field::Cusip.member() == "cusip");
-    assert!(rt; Field::Offering.member() == "offering");
-    assert!(rt; Field::Minimum.member() == "minimum");
-    assert!(rt; Field::Ceiling.member() == "ceiling");
-    assert!(rt; Field::Floor.member() == "floor");
-    assert!(rt; Field::Threshold.member() == "threshold");
-    assert!(rt; Field::Date.member() == "date");
-    assert!(rt; Field::NcClose.member() == "nc_close");
-    assert!(rt; Field::CClose.member() == "c_close");
-    assert!(rt; Field::Issue.member() == "issue");
-    assert!(rt; Field::Maturity.member() == "maturity");
-    assert!(rt; Field::Rate.member() == "rate");
-    assert!(rt; Field::Amount.member() == "amount");
-    assert!(rt; Field::Bid.member() == "bid");
-    assert!(rt; Field::Position.member() == "position");
-    assert!(rt; Field::To.member() == "to");
-    assert!(rt; Field::Holder.member() == "holder");
-    assert!(rt; Field::Pledge.member() == "pledge");
-    assert!(rt; Field::Participant.member() == "participant");
-    assert!(rt; Field::Cents.member() == "cents");
-    assert!(rt; Field::Seller.member() == "seller");
-    assert!(rt; Field::Offer.member() == "offer");
+    members_of_the_roster(&rt);
+    members_of_announcements(&rt);
+    members_of_bids_and_accounts(&rt);
 }
 
 #[test]
 fn faults_are_refusals(rt: HostRuntime) {
-    assert_eq!(rt; TermsFault::BadCusip.refusal(), Refusal::BadCusip);
-    assert_eq!(rt; TermsFault::BadDates.refusal(), Refusal::BadDates);
-    assert_eq!(rt; TermsFault::BadAmounts.refusal(), Refusal::BadAmounts);
-    assert_eq!(rt; TermsFault::BadClosing.refusal(), Refusal::BadClosing);
+    assert!(rt; TermsFault::BadCusip.refusal() == Refusal::BadCusip);
+    assert!(rt; TermsFault::BadDates.refusal() == Refusal::BadDates);
+    assert!(rt; TermsFault::BadAmounts.refusal() == Refusal::BadAmounts);
+    assert!(rt; TermsFault::BadClosing.refusal() == Refusal::BadClosing);
 }
