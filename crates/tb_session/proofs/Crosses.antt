@@ -1,9 +1,17 @@
 -- Which types may cross threads: a room may where its disk and its clock may. Each type goes by its fields.
+use mathlib.Core.List.{[], ◌∷◌}
+use mir.Syntax.{Lifetime, Sym}
+use base.Fml.{Lft}
 use denote.RattleType.{RattleType}
-use denote.Param.Send.{AllSend, IsSend, recorded_send, struct_send, sendable, view_send}
+use denote.Ref.{ShrRef}
+use denote.Param.Send.{AllSend, AllSync, IsSend, IsSync, recorded_send, recorded_sync, sendable, shr_sync, struct_send}
+use denote.Param.Send.{struct_sync, view_send}
 use denote.Struct.Declared as declared
 use denote.Struct.Struct.{Struct}
+use denote.Struct.Tuple.{TupleAt, type_at}
 use Rattle.std.proofs.Crossing.{crosses}
+use Rattle.std.proofs.alloc.Global.TheSendSync as allocator
+use Rattle.std.specs.contracts.alloc.Global as Global
 use Rattle.tb_units.proofs.ident.Ident.TheSendSync as ident
 use Rattle.tb_disk.specs.declared.disk.Disk.{Ghosts}
 use Rattle.tb_message.proofs.message.Entry.TheSendSync as entry
@@ -53,3 +61,18 @@ module _ (D : RattleType) (g : Ghosts D.Denot) where
       let part = pass.the_field_send (Room.the_row D C g) (room_send C d c) in
       let parts : AllSend (declared.fields made) = (gate, (part, (search sendable, (search sendable, tt)))) in
       recorded_send (Struct (declared.shape made)) made.D made.to made.to_one (struct_send (declared.shape made) parts)
+
+-- What is lent to all workers may be read by each, where a runtime and a lock may. So says the type of what a closure
+-- captures of a runtime, an allocator and a lock.
+pub lent_sync : (name : Sym)
+    → (a b c : Lifetime)
+    → (α β γ : Lft)
+    → (R L : RattleType)
+    → IsSync R
+    → IsSync L
+    → IsSync (TupleAt name (ShrRef a α R ∷ ShrRef b β Global.the_row ∷ ShrRef c γ L ∷ []))
+lent_sync name a b c α β γ R L runtime lock =
+    let made = type_at name (ShrRef a α R ∷ ShrRef b β Global.the_row ∷ ShrRef c γ L ∷ []) in
+    let parts : AllSync (declared.fields made) =
+    (shr_sync a α R runtime, (shr_sync b β Global.the_row allocator.the_sync, (shr_sync c γ L lock, tt))) in
+    recorded_sync (Struct (declared.shape made)) made.D made.to made.to_one (struct_sync (declared.shape made) parts)

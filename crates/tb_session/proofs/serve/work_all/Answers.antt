@@ -1,10 +1,9 @@
 -- Each worker worked.
 use Rattle.std.proofs.Common.{subst₂}
-use denote.Param.Send.{sendable, param_send, arg_send}
-use Rattle.std.proofs.Crossing.{crosses}
+use denote.Param.Send.{param_send, param_sync, arg_send, arg_sync}
 use Rattle.tb_lock.proofs.lock.TurnLock.TheSendSync as lock
 use Rattle.tb_session.specs.Serve.{WorkedOn}
-use Rattle.tb_session.proofs.Crosses.{room_send, worker_send}
+use Rattle.tb_session.proofs.Crosses.{lent_sync, room_send, worker_send}
 use Rattle.tb_session.proofs.serve.work_all.Goals as goal
 
 pub for_each_mut-requires-send-T : goal.for_each_mut-requires-send-T
@@ -16,7 +15,7 @@ pub for_each_mut-requires-sync-F : goal.for_each_mut-requires-sync-F
 for_each_mut-requires-sync-F g c κs within =
     let room = room_send _ g.D.Disk _ c.type_bounds.send-D c.type_bounds.send-C in
     let runtime = c.type_bounds.sync-R in
-    search (sendable, crosses, lock.the_sync) depth 60 fits 20000
+    search (param_sync, arg_sync, lent_sync, lock.the_sync)
 
 pub returns : goal.returns
 returns g c = record {
