@@ -117,10 +117,6 @@ IsUnopened (ending.Unsealed byte) = Unit {0}
 IsUnopened (ending.Damaged place) = Unit {0}
 IsUnopened ended = ⊥
 
--- the line that names the first line outside the grammar
-abbrev pub bad_input_message : ℕ → List ℕ
-bad_input_message line = codes "bad input at line " ++ decimal line ++ line_feed ∷ []
-
 -- bytes in lower-case hexadecimal, two digits each
 abbrev pub hexadecimal : List ℕ → List ℕ
 hexadecimal bytes = flat_map (λ (byte : ℕ). digit_glyph false (byte / 16) ∷ digit_glyph false (byte % 16) ∷ []) bytes
@@ -129,7 +125,7 @@ hexadecimal bytes = flat_map (λ (byte : ℕ). digit_glyph false (byte / 16) ∷
 abbrev pub message_of : Ending → List ℕ
 message_of ending.Done = []
 message_of ending.Usage = codes "usage" ++ line_feed ∷ []
-message_of (ending.BadInput line) = bad_input_message line
+message_of (ending.BadInput line) = codes "bad input at line " ++ decimal line ++ line_feed ∷ []
 message_of ending.ReadFault = codes "read fault" ++ line_feed ∷ []
 message_of ending.WriteFault = codes "write fault" ++ line_feed ∷ []
 message_of ending.DiskFault = codes "disk fault" ++ line_feed ∷ []

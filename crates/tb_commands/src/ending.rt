@@ -1,12 +1,13 @@
 //! How a command ends.
 ghost use Rattle.std.specs.Prelude.{◌≡◌, ◌+◌, ◌*◌, ◌<◌, ◌≤◌, ◌++◌, ◌∷◌, [], false, length};
 ghost use Rattle.std.specs.Fmt.{digit_glyph};
-ghost use Rattle.tb_commands.specs.Endings.{status_of, ending_of, message_of, bad_input_message, hexadecimal};
+ghost use Rattle.tb_commands.specs.Endings.{status_of, ending_of, message_of, hexadecimal};
 ghost use Rattle.tb_commands.specs.declared.ending.Ending.TheVariants as ending;
 
 use crate::notice::Notice;
+use crate::number_line::number_line;
 use tb_desk::OpenFault;
-use tb_units::{Ident, Short};
+use tb_units::Ident;
 
 /// How a command ends.
 #[derive(Clone, Copy, Debug, PartialEq, Eq)]
@@ -80,29 +81,20 @@ impl Ending {
         match self {
             Ending::Done => Notice::new(),
             Ending::Usage => text(b"usage\n"),
-            Ending::BadInput(line) => bad_input(*line),
+            Ending::BadInput(line) => number_line(b"bad input at line ", *line),
             Ending::ReadFault => text(b"read fault\n"),
             Ending::WriteFault => text(b"write fault\n"),
             Ending::DiskFault => text(b"disk fault\n"),
             Ending::NotAJournal(found) => not_a_journal(found),
-            Ending::Damaged(place) => damaged(*place),
+            Ending::Damaged(place) => number_line(b"damaged at ", *place),
             Ending::OutOfMemory => text(b"out of memory\n"),
             Ending::GateFault => text(b"gate fault\n"),
             Ending::Unsealed(byte) => unsealed(*byte),
             Ending::RegisterDiffers(auction) => register_differs(auction),
             Ending::KeeperFault => text(b"keeper fault\n"),
-            Ending::Forked(place) => forked(*place),
+            Ending::Forked(place) => number_line(b"forked at ", *place),
         }
     }
-}
-
-fn bad_input(line: u64) -> Notice
-    ensures { result ≡ bad_input_message line }
-{
-    let mut message = text(b"bad input at line ");
-    push_text(&mut message, Short::whole(line as u128).bytes());
-    message.push(b'\n');
-    message
 }
 
 // The bytes found stand in lower-case hexadecimal.
@@ -145,29 +137,11 @@ fn hex_digit(value: u8) -> u8
     }
 }
 
-fn damaged(place: u64) -> Notice
-    ensures { result ≡ message_of (ending.Damaged place) }
-{
-    let mut message = text(b"damaged at ");
-    push_text(&mut message, Short::whole(place as u128).bytes());
-    message.push(b'\n');
-    message
-}
-
 fn register_differs(auction: &Ident) -> Notice
     ensures { result ≡ message_of (ending.RegisterDiffers auction.now) }
 {
     let mut message = text(b"register differs at ");
     push_text(&mut message, auction.bytes());
-    message.push(b'\n');
-    message
-}
-
-fn forked(place: u64) -> Notice
-    ensures { result ≡ message_of (ending.Forked place) }
-{
-    let mut message = text(b"forked at ");
-    push_text(&mut message, Short::whole(place as u128).bytes());
     message.push(b'\n');
     message
 }

@@ -1,10 +1,10 @@
 use Rattle.std.proofs.Common.{length, ap, ◌∙◌, arith}
 use Rattle.std.proofs.lemmas.List.{length-append}
 use Rattle.std.proofs.lemmas.Fmt.{length-decimal-le}
-use Rattle.tb_commands.proofs.number_line.tell_count.Goals as goal
+use Rattle.tb_commands.proofs.number_line.number_line.Goals as goal
 
 pub push_text-requires : goal.push_text-requires
-push_text-requires g c =
+push_text-requires c =
     omega (
       arith,
       c.requires,
@@ -14,7 +14,7 @@ push_text-requires g c =
     )
 
 pub push-requires : goal.push-requires
-push-requires g c =
+push-requires c =
     omega (
       arith,
       c.requires,
