@@ -55,7 +55,7 @@ impl Live {
         true
     }
 
-    // Moves par of the security from the one holder to another. `None` where it is no other, or where memory is wanting.
+    // Moves par of the security from the one holder to another. `None` where it is no other, or memory is wanting.
     fn transfer(
         &mut self,
         from: u32,
@@ -69,8 +69,8 @@ impl Live {
         Some(self.book.transfer(from, to, security, dollars(par)))
     }
 
-    // Pledges par of the security to another under this number, if the number is new and par not too small. `None` where
-    // that isn't so, or where memory is wanting.
+    // Pledges par of the security to another under this number, if the number is new and par not too small. `None`
+    // where that isn't so, or where memory is wanting.
     fn pledge(
         &mut self,
         holder: u32,

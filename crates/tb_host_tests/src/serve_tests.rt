@@ -58,6 +58,7 @@ fn serve<R: Abort + Threads + Wait + Sync>(
     rt: &R,
     alloc: Global,
     workers: &str,
+    links: &str,
     gates: Vec<ListGate>,
 ) -> (Outcome, Vec<ListGate>) {
     let opened = run(rt, alloc, &["run", "--op", "root"], OPENING, 4096, &[], &[]);
@@ -71,7 +72,7 @@ fn serve<R: Abort + Threads + Wait + Sync>(
         "--workers",
         workers,
         "--links",
-        "2",
+        links,
     ];
     serve_on(rt, alloc, &words, "", 1, &[], &[], disk, gates)
 }
@@ -95,7 +96,7 @@ fn one_worker_serves<R: Abort + Threads + Wait + Sync>(
     alloc: Global,
     piece: usize,
 ) -> bool {
-    let (served, gates) = serve(rt, alloc, "1", one_gate(rt, alloc, piece, &[]));
+    let (served, gates) = serve(rt, alloc, "1", "2", one_gate(rt, alloc, piece, &[]));
     is_ended(&served, 0, "served 2\naccepted 2\n", "")
         && takes(&gates, 0, &[ACCEPTED_FIRST, ACCEPTED_SECOND])
 }
@@ -111,7 +112,7 @@ fn one_worker_serves_two_links(rt: HostRuntime) {
 fn two_workers_serve_a_link_each(rt: HostRuntime) {
     let alloc = rt.alloc();
     let gates = two_gates(&rt, alloc, FIRST, SECOND);
-    let (served, gates) = serve(&rt, alloc, "2", gates);
+    let (served, gates) = serve(&rt, alloc, "2", "1", gates);
     assert!(rt; is_ended(&served, 0, "served 2\naccepted 2\n", ""));
     assert!(rt; takes(&gates, 0, &[ACCEPTED_FIRST]));
     assert!(rt; takes(&gates, 1, &[ACCEPTED_SECOND]));
@@ -121,7 +122,7 @@ fn two_workers_serve_a_link_each(rt: HostRuntime) {
 fn one_message_on_two_links_stands_once(rt: HostRuntime) {
     let alloc = rt.alloc();
     let gates = two_gates(&rt, alloc, FIRST, FIRST);
-    let (served, gates) = serve(&rt, alloc, "2", gates);
+    let (served, gates) = serve(&rt, alloc, "2", "1", gates);
     assert!(rt; is_ended(&served, 0, "served 2\naccepted 1\n", ""));
     assert!(rt; takes(&gates, 0, &[ACCEPTED_FIRST]));
     assert!(rt; takes(&gates, 1, &[ACCEPTED_FIRST]));
@@ -131,7 +132,7 @@ fn one_message_on_two_links_stands_once(rt: HostRuntime) {
 fn a_gate_that_fails_is_told_once_its_links_were_served(rt: HostRuntime) {
     let alloc = rt.alloc();
     let gates = one_gate(&rt, alloc, 50, &[1]);
-    let (served, gates) = serve(&rt, alloc, "1", gates);
+    let (served, gates) = serve(&rt, alloc, "1", "2", gates);
     assert!(rt; is_ended(&served, 10, "", "gate fault\n"));
     assert!(rt; takes(&gates, 0, &[ACCEPTED_FIRST]));
 }

@@ -1,4 +1,4 @@
-//! Turns of one thread and of four, on the tally.
+//! Turns of one thread, of two and of four, on the tally.
 ghost use Rattle.std.specs.Prelude.{◌≡◌, ◌<◌, ◌^◌};
 ghost use Rattle.tb_lock.specs.Passes.{IsPassOf, IsIdle};
 
@@ -58,39 +58,58 @@ fn a_turn_without_an_end_is_unserved(rt: HostRuntime) -> Result<(), Fail> {
     Ok(())
 }
 
-// Two threads, of which the second appends the numbers behind those of the first.
+// Two threads, of which each appends so many numbers, the second those behind the first one's.
 fn append_both<R: Threads + Wait + Sync>(
     rt: &R,
     lock: &TurnLock<Tally>,
     pass: &mut Pass<Tally>,
     other: &mut Pass<Tally>,
     first: u64,
+    count: u64,
 )
     requires own { IsPassOf lock.now pass.old × IsPassOf lock.now other.old }
     requires idle { IsIdle pass.old × IsIdle other.old }
     requires small { first < 2 ^ 31 }
+    requires few { count < 2 ^ 31 }
     ensures own { IsPassOf lock.now pass.new × IsPassOf lock.now other.new }
     ensures idle { IsIdle pass.new × IsIdle other.new }
 {
     join_mut(
         rt,
-        &mut || append_all(rt, lock, pass, first, 500),
-        &mut || append_all(rt, lock, other, first + 500, 500),
+        &mut || append_all(rt, lock, pass, first, count),
+        &mut || append_all(rt, lock, other, first + count, count),
     );
 }
 
-// Whether the 500 numbers from the first on stand among the others in their order, each once.
-fn stands_in_order(numbers: &[u64], first: u64) -> bool {
+// Whether so many numbers from the first on stand among the others in their order, each once.
+fn stands_in_order(numbers: &[u64], first: u64, count: u64) -> bool {
     let mut next = first;
     for number in numbers {
-        if *number / 500 == first / 500 {
+        if number.wrapping_sub(first) < count {
             if *number != next {
                 return false;
             }
             next = next.wrapping_add(1);
         }
     }
-    next == first.wrapping_add(500)
+    next == first.wrapping_add(count)
+}
+
+#[test]
+fn two_threads_append_in_their_own_order(rt: HostRuntime) -> Result<(), Fail> {
+    let Ok((lock, mut pass)) = TurnLock::new(rt.alloc(), Tally::new(rt.alloc(), 4000, 0)) else {
+        panic!(rt; "no memory")
+    };
+    let mut other = lock.split(&mut pass);
+    append_both(&rt, &lock, &mut pass, &mut other, 0, 1000);
+    lock.join(&mut pass, other);
+    let Ok(tally) = lock.close(pass) else {
+        panic!(rt; "a turn is out")
+    };
+    assert!(rt; tally.numbers.len() == 2000);
+    assert!(rt; stands_in_order(&tally.numbers, 0, 1000));
+    assert!(rt; stands_in_order(&tally.numbers, 1000, 1000));
+    Ok(())
 }
 
 // Of four that wait, those behind the next in line sleep.
@@ -105,8 +124,8 @@ fn four_threads_append_in_their_own_order(rt: HostRuntime) -> Result<(), Fail> {
     let shared = &lock;
     join_mut(
         &rt,
-        &mut || append_both(&rt, shared, &mut pass, &mut second, 0),
-        &mut || append_both(&rt, shared, &mut third, &mut fourth, 1000),
+        &mut || append_both(&rt, shared, &mut pass, &mut second, 0, 500),
+        &mut || append_both(&rt, shared, &mut third, &mut fourth, 1000, 500),
     );
     lock.join(&mut pass, second);
     lock.join(&mut pass, third);
@@ -115,10 +134,10 @@ fn four_threads_append_in_their_own_order(rt: HostRuntime) -> Result<(), Fail> {
         panic!(rt; "a turn is out")
     };
     assert!(rt; tally.numbers.len() == 2000);
-    assert!(rt; stands_in_order(&tally.numbers, 0));
-    assert!(rt; stands_in_order(&tally.numbers, 500));
-    assert!(rt; stands_in_order(&tally.numbers, 1000));
-    assert!(rt; stands_in_order(&tally.numbers, 1500));
+    assert!(rt; stands_in_order(&tally.numbers, 0, 500));
+    assert!(rt; stands_in_order(&tally.numbers, 500, 500));
+    assert!(rt; stands_in_order(&tally.numbers, 1000, 500));
+    assert!(rt; stands_in_order(&tally.numbers, 1500, 500));
     Ok(())
 }
 

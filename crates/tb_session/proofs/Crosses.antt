@@ -65,14 +65,25 @@ module _ (D : RattleType) (g : Ghosts D.Denot) where
 -- What is lent to all workers may be read by each, where a runtime and a lock may. So says the type of what a closure
 -- captures of a runtime, an allocator and a lock.
 pub lent_sync : (name : Sym)
-    → (a b c : Lifetime)
-    → (α β γ : Lft)
-    → (R L : RattleType)
-    → IsSync R
-    → IsSync L
-    → IsSync (TupleAt name (ShrRef a α R ∷ ShrRef b β Global.the_row ∷ ShrRef c γ L ∷ []))
-lent_sync name a b c α β γ R L runtime lock =
-    let made = type_at name (ShrRef a α R ∷ ShrRef b β Global.the_row ∷ ShrRef c γ L ∷ []) in
-    let parts : AllSync (declared.fields made) =
-    (shr_sync a α R runtime, (shr_sync b β Global.the_row allocator.the_sync, (shr_sync c γ L lock, tt))) in
+    → (runtime_for allocator_for lock_for : Lifetime)
+    → (runtime_while allocator_while lock_while : Lft)
+    → (Runtime Lock : RattleType)
+    → IsSync Runtime
+    → IsSync Lock
+    → IsSync (TupleAt name (ShrRef runtime_for runtime_while Runtime
+    ∷ ShrRef allocator_for allocator_while Global.the_row
+    ∷ ShrRef lock_for lock_while Lock
+    ∷ []))
+lent_sync name runtime_for allocator_for lock_for runtime_while allocator_while lock_while Runtime Lock runtime lock =
+    let made = type_at name (ShrRef runtime_for runtime_while Runtime
+    ∷ ShrRef allocator_for allocator_while Global.the_row
+    ∷ ShrRef lock_for lock_while Lock
+    ∷ []) in
+    let parts : AllSync (declared.fields made) = (
+      shr_sync runtime_for runtime_while Runtime runtime,
+      (
+        shr_sync allocator_for allocator_while Global.the_row allocator.the_sync,
+        (shr_sync lock_for lock_while Lock lock, tt),
+      ),
+    ) in
     recorded_sync (Struct (declared.shape made)) made.D made.to made.to_one (struct_sync (declared.shape made) parts)

@@ -510,6 +510,9 @@ fn text_ends<R: Wait + Abort>(
 /// Texts of a link that end it, and the replies to them.
 const CUT: &str = "POST /messages HTTP/1.1\r\n";
 
+/// A message whose body lacks its last byte.
+const CUT_IN_BODY: &str = posted!("k1", 2, "{");
+
 const TOO_LONG: &str = "POST /messages HTTP/1.1\r\nContent-Length: 4097\r\n\r\n";
 
 const TOO_LONG_REPLY: &str = replied_last!("413 Payload Too Large", 12, "bad request\n");
@@ -543,6 +546,7 @@ fn a_link_ends_as_its_bytes_do(rt: HostRuntime) {
         )
     );
     assert!(rt; text_ends(&rt, alloc, &mut room, CUT, End::CutShort, ""));
+    assert!(rt; text_ends(&rt, alloc, &mut room, CUT_IN_BODY, End::CutShort, ""));
     assert!(rt;
         text_ends(
             &rt,
