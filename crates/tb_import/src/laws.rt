@@ -10,7 +10,7 @@ ghost use Rattle.tb_message.specs.declared.message.Message.{Message};
 ghost use Rattle.tb_import.specs.Tables.{IsFirstBad, IsTable};
 ghost use Rattle.tb_import.specs.Exports.{award_fields, add_on_fields, holding_fields, plain_text};
 
-/// Bytes are one table or have one first bad record, and never both.
+/// Bytes are at most one table, have at most one first bad record, and never both.
 pub fn one_table_or_bad_record()
     ensures table { (bytes : List ℕ) (one other : List (ℕ × Message))
         → IsTable bytes one
