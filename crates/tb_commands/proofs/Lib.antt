@@ -2,6 +2,8 @@ pub mod CompleteLemmas
 pub mod UniqueLemmas
 pub mod OneTextLemmas
 pub mod ScriptLineLemmas
+pub mod SomeParcelLemmas
+pub mod SomeScriptLemmas
 pub mod TurnLemmas
 pub mod GrownLemmas
 pub mod DiskLemmas

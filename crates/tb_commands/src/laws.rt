@@ -1,10 +1,12 @@
-//! Laws of the definitions: a text has at most one book or script, one line outside the grammar, and one text of its
-//! auction; a script has one run; and whose a group in doubt is.
+//! Laws of the definitions: a text has one book or script or one line outside the grammar, parcels or one bad parcel,
+//! and at most one text of its auction; a script has one run; and whose a group in doubt is.
 ghost use Rattle.std.specs.Prelude.{◌≡◌, ℕ, List, [], All, Bool};
 ghost use Rattle.tb_gates.specs.Clocks.{ClockState};
 ghost use Rattle.tb_text_book.specs.Books.{BeginsWithBook, Book, HasBadLine, HasBook, IsBadLine};
 ghost use Rattle.tb_text_book.specs.BookRun.{IsBookRun};
 ghost use Rattle.tb_commands.specs.Doubted.{IsOfLines, IsOfRuns};
+ghost use Rattle.tb_parcel.specs.declared.parcel.Parcel.{Parcel};
+ghost use Rattle.tb_commands.specs.FollowTakeRun.{IsFirstBadParcel, IsParcels};
 ghost use Rattle.tb_commands.specs.ImportRun.{IsImport, SentRow};
 ghost use Rattle.tb_commands.specs.ScriptRun.{IsFaultless, IsRun};
 ghost use Rattle.tb_commands.specs.Scripts.{BeginsWithScript, HasScript, LeavesScript};
@@ -12,7 +14,8 @@ ghost use Rattle.tb_commands.specs.Standings.{Standing};
 ghost use Rattle.tb_text_book.specs.declared.book_line.Offering.{Offering};
 ghost use Rattle.tb_commands.specs.declared.sender.Sender.{Sender};
 
-/// Lines begin with at most one book, have at most one line that is the first outside the grammar, and never both.
+/// Lines begin with at most one book, have at most one line that is the first outside the grammar, never both, and
+/// never neither.
 pub fn one_book_or_bad_line()
     ensures offering { (lines : List (List ℕ)) (one other : Offering) (book other_book : Book)
         → BeginsWithBook lines one book
@@ -27,6 +30,7 @@ pub fn one_book_or_bad_line()
         → IsBadLine other lines
         → one ≡ other }
     ensures never_both { (lines : List (List ℕ)) → HasBook lines → ¬ (HasBadLine lines) }
+    ensures never_neither { (lines : List (List ℕ)) → ¬ (HasBook lines) → ¬ (¬ (HasBadLine lines)) }
 {}
 
 /// An input has at most one text of its auction.
@@ -37,7 +41,7 @@ pub fn one_text()
         → one ≡ other }
 {}
 
-/// Lines begin with at most one script, leave its grammar at one line at most, and never both.
+/// Lines begin with at most one script, leave its grammar at one line at most, never both, and never neither.
 pub fn one_script_or_bad_line()
     ensures script { (lines one other : List (List ℕ))
         → BeginsWithScript lines one
@@ -48,6 +52,23 @@ pub fn one_script_or_bad_line()
         → LeavesScript other lines
         → one ≡ other }
     ensures never_both { (lines : List (List ℕ)) (number : ℕ) → HasScript lines → ¬ (LeavesScript number lines) }
+    ensures never_neither { (lines : List (List ℕ))
+        → ¬ (HasScript lines)
+        → ¬ ((number : ℕ) → ¬ (LeavesScript number lines)) }
+{}
+
+/// A text has at most one first bad parcel, and never one where it is parcels, but always where it is none.
+pub fn parcels_or_bad_parcel()
+    ensures bad_parcel { (text : List ℕ) (one other : ℕ) (before other_before : List Parcel)
+        → IsFirstBadParcel one before text
+        → IsFirstBadParcel other other_before text
+        → one ≡ other }
+    ensures never_both { (text : List ℕ) (parcels before : List Parcel) (number : ℕ)
+        → IsParcels parcels text
+        → ¬ (IsFirstBadParcel number before text) }
+    ensures never_neither { (text : List ℕ)
+        → ((parcels : List Parcel) → ¬ (IsParcels parcels text))
+        → ¬ ((number : ℕ) (before : List Parcel) → ¬ (IsFirstBadParcel number before text)) }
 {}
 
 /// Where no fault occurs, lines have one text of replies, and leave one history, from where a script stands with

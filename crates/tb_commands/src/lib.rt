@@ -32,7 +32,10 @@ pub use ending::Ending;
 pub use follow_send_command::follow_send;
 pub use follow_take_command::follow_take;
 pub use import_command::import;
-pub use laws::{groups_are_sent, one_book_or_bad_line, one_run, one_script_or_bad_line, one_text};
+pub use laws::{
+    groups_are_sent, one_book_or_bad_line, one_run, one_script_or_bad_line, one_text,
+    parcels_or_bad_parcel,
+};
 pub use migrate_command::migrate;
 pub use notice::Notice;
 pub use number_line::tell_count;

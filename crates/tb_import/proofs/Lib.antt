@@ -5,4 +5,5 @@ pub mod OneTableLemmas
 pub mod ReadLemmas
 pub mod RowLemmas
 pub mod SentLemmas
+pub mod SomeTableLemmas
 pub mod TableLemmas

@@ -10,7 +10,7 @@ ghost use Rattle.tb_message.specs.declared.message.Message.{Message};
 ghost use Rattle.tb_import.specs.Tables.{IsFirstBad, IsTable};
 ghost use Rattle.tb_import.specs.Exports.{award_fields, add_on_fields, holding_fields, plain_text};
 
-/// Bytes are at most one table, have at most one first bad record, and never both.
+/// Bytes are at most one table, have at most one first bad record, never both, and never neither.
 pub fn one_table_or_bad_record()
     ensures table { (bytes : List ℕ) (one other : List (ℕ × Message))
         → IsTable bytes one
@@ -23,6 +23,9 @@ pub fn one_table_or_bad_record()
     ensures never_both { (bytes : List ℕ) (sent : List (ℕ × Message)) (place : ℕ)
         → IsTable bytes sent
         → ¬ (IsFirstBad bytes place) }
+    ensures never_neither { (bytes : List ℕ)
+        → ((sent : List (ℕ × Message)) → ¬ (IsTable bytes sent))
+        → ¬ ((place : ℕ) → ¬ (IsFirstBad bytes place)) }
 {}
 
 /// An award, an add-on, and a holding in a bill with a CUSIP that was checked, are exported as their fields with commas

@@ -1,5 +1,6 @@
 use Rattle.tb_commands.proofs.CompleteLemmas.{HasBook-good}
 use Rattle.tb_commands.proofs.UniqueLemmas.{BeginsWithBook-one, bad-line-one}
+use Rattle.tb_commands.proofs.SomeScriptLemmas.{book-or-bad}
 use Rattle.tb_commands.proofs.laws.one_book_or_bad_line.Goals as goal
 
 pub returns-clause-offering : goal.returns-clause-offering
@@ -15,3 +16,6 @@ returns-clause-bad_line c = bad-line-one
 
 pub returns-clause-never_both : goal.returns-clause-never_both
 returns-clause-never_both c = HasBook-good
+
+pub returns-clause-never_neither : goal.returns-clause-never_neither
+returns-clause-never_neither c = book-or-bad
