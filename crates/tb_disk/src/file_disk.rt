@@ -1,34 +1,74 @@
 //! A real file as a disk, which tells nothing.
-ghost use Rattle.std.specs.Prelude.{◌≡◌, ◌+◌, ◌-◌, ◌^◌, ◌<◌, ◌≤◌, ◌↔◌, true, false, length, Ok, IfOk, OnOk, OnErr, IsErr};
+ghost use Rattle.std.specs.Prelude.{◌≡◌, ◌+◌, ◌-◌, ◌^◌, ◌<◌, ◌≤◌, ◌↔◌, length, Ok, IfOk, OnOk, OnErr, IsErr};
 ghost use Rattle.tb_link.specs.Counts.{counted};
 ghost use Rattle.tb_disk.specs.Steps.{Wrote, CutTo, Synced};
 ghost use Rattle.tb_disk.specs.Disks.{Takes, LeavesDisk, Fails, FailsToWrite, FailsToCut, HasLength, Reaches, Gives};
 
 use crate::disk::Disk;
+use crate::name::Name;
+use crate::system_file::SystemFile;
 use std::fs::File;
 use std::io;
-use std::io::ErrorKind;
-use std::os::unix::fs::FileExt;
 use tb_link::{Failed, Faults};
 
-/// A file of the system. After a sync has failed each later one fails too, until the file is opened again: a system
-/// may drop what it couldn't write, and let the next sync succeed.
+/// What the last sync of a file came to.
+#[derive(Clone, Copy, Debug, PartialEq, Eq)]
+pub enum LastSync {
+    /// It succeeded, or there was none yet.
+    Succeeded,
+    /// There was none yet, and the device didn't take what memory had of the file: the first one fails.
+    Owed,
+    /// It failed.
+    Failed,
+}
+
+/// A file of the system. After a sync has failed none succeeds but one that opened the file anew: a system may drop
+/// what it couldn't write, or keep it in memory as if it were written, and let the next sync succeed.
 #[derive(Drop)]
 pub struct FileDisk {
-    file: File,
+    file: SystemFile,
     faults: Faults,
-    sync_failed: bool,
+    last_sync: LastSync,
 }
 
 impl FileDisk {
-    /// A disk on the file, which is open for reading and writing. It has had no fault.
+    ghost use Rattle.tb_disk.specs.Files.{HasNoName};
+
+    /// A disk on the file, which is open for reading and writing. It has had no fault. What memory has of the file is
+    /// put on the device and dropped; where the device doesn't take it the first sync fails, with which each opening of
+    /// a journal begins. After a sync has failed each later one fails too.
     pub fn new(file: File) -> FileDisk
-        ensures { (result.faults.count ≡ 0) × (result.sync_failed ≡ false) }
+        ensures no_fault { result.faults.count ≡ 0 }
+        ensures nameless { HasNoName result }
     {
+        FileDisk::made(file, None)
+    }
+
+    /// The same on a file with a name in the current folder. Behind a sync that failed the next one opens the file anew
+    /// by it. Each write and each sync fails where the name leads to no file or to another one, or to one that is
+    /// shorter than its calls left it; whether it does is looked at once a millisecond at most.
+    pub fn named(rt: HostRuntime, name: &'static str, file: File) -> FileDisk
+        ensures { result.faults.count ≡ 0 }
+    {
+        let name = match file.metadata() {
+            Ok(found) => Some(Name::new(rt, name, &found)),
+            Err(_) => None,
+        };
+        FileDisk::made(file, name)
+    }
+
+    fn made(file: File, name: Option<Name>) -> FileDisk
+        ensures no_fault { result.faults.count ≡ 0 }
+        ensures name { result.file.name ≡ name }
+    {
+        let (file, settled) = SystemFile::new(file, name);
         FileDisk {
             file,
             faults: Faults::none(),
-            sync_failed: false,
+            last_sync: match settled {
+                Ok(()) => LastSync::Succeeded,
+                Err(_) => LastSync::Owed,
+            },
         }
     }
 
@@ -38,7 +78,7 @@ impl FileDisk {
         ensures value { IfOk result (λ value. given ≡ Ok value) }
         ensures no_fault { OnOk result (self.new.faults ≡ self.old.faults) }
         ensures one_fault { OnErr result (self.new.faults.count ≡ counted self.old.faults.count) }
-        ensures kept { self.new.sync_failed ≡ self.old.sync_failed }
+        ensures kept { (self.new.last_sync ≡ self.old.last_sync) × (self.new.file ≡ self.old.file) }
     {
         match given {
             Ok(value) => Ok(value),
@@ -47,27 +87,8 @@ impl FileDisk {
     }
 }
 
-// Reads until the buffer is full or the file ends, and again where a signal interrupts it.
-fn read_whole(file: &File, place: u64, into: &mut [u8]) -> io::Result<usize>
-    ensures { IfOk result (λ count. count ≤ length into.old) }
-{
-    let mut count = 0;
-    for _ in 0..u64::MAX {
-        if count == into.len() {
-            break;
-        }
-        match file.read_at(&mut into[count..], place.wrapping_add(count as u64)) {
-            Ok(0) => break,
-            Ok(more) => count += more,
-            Err(error) if error.kind() == ErrorKind::Interrupted => {}
-            Err(error) => return Err(error),
-        }
-    }
-    Ok(count)
-}
-
 impl Disk for FileDisk {
-    ghost use Rattle.tb_disk.specs.Files.{file_disk};
+    ghost use Rattle.tb_disk.specs.Files.{file_disk, KeepsSync, HasFailed, HasNoName, IsOwed, IsOpenedAnew};
 
     ghost disk = { file_disk };
 
@@ -76,11 +97,10 @@ impl Disk for FileDisk {
         ensures same { OnOk result (LeavesDisk (file_disk self.old) (file_disk self.new)) }
         ensures fails { OnErr result (Fails (file_disk self.old) (file_disk self.new)) }
         ensures one_fault { OnErr result (self.new.faults.count ≡ counted self.old.faults.count) }
-        ensures kept { self.new.sync_failed ≡ self.old.sync_failed }
+        ensures kept { KeepsSync self.old self.new }
     {
-        let metadata = self.file.metadata();
-        let metadata = self.told(metadata)?;
-        Ok(metadata.len())
+        let len = self.file.len();
+        self.told(len)
     }
 
     fn read(&mut self, place: u64, into: &mut [u8]) -> Result<usize, Failed>
@@ -88,9 +108,9 @@ impl Disk for FileDisk {
         ensures same { OnOk result (LeavesDisk (file_disk self.old) (file_disk self.new)) }
         ensures fails { OnErr result (Fails (file_disk self.old) (file_disk self.new)) }
         ensures one_fault { OnErr result (self.new.faults.count ≡ counted self.old.faults.count) }
-        ensures kept { self.new.sync_failed ≡ self.old.sync_failed }
+        ensures kept { KeepsSync self.old self.new }
     {
-        let count = read_whole(&self.file, place, into);
+        let count = self.file.read(place, into);
         self.told(count)
     }
 
@@ -100,9 +120,9 @@ impl Disk for FileDisk {
         ensures writes { OnOk result (Takes (Wrote place bytes.now) (file_disk self.old) (file_disk self.new)) }
         ensures fails { OnErr result (FailsToWrite place (length bytes.now) (file_disk self.old) (file_disk self.new)) }
         ensures one_fault { OnErr result (self.new.faults.count ≡ counted self.old.faults.count) }
-        ensures kept { self.new.sync_failed ≡ self.old.sync_failed }
+        ensures kept { KeepsSync self.old self.new }
     {
-        let written = self.file.write_all_at(bytes, place);
+        let written = self.file.write_at(place, bytes);
         self.told(written)
     }
 
@@ -111,9 +131,9 @@ impl Disk for FileDisk {
         ensures cuts { OnOk result (Takes (CutTo len) (file_disk self.old) (file_disk self.new)) }
         ensures fails { OnErr result (FailsToCut len (file_disk self.old) (file_disk self.new)) }
         ensures one_fault { OnErr result (self.new.faults.count ≡ counted self.old.faults.count) }
-        ensures kept { self.new.sync_failed ≡ self.old.sync_failed }
+        ensures kept { KeepsSync self.old self.new }
     {
-        let cut = self.file.set_len(len);
+        let cut = self.file.cut(len);
         self.told(cut)
     }
 
@@ -121,16 +141,23 @@ impl Disk for FileDisk {
         ensures syncs { OnOk result (Takes Synced (file_disk self.old) (file_disk self.new)) }
         ensures fails { OnErr result (Fails (file_disk self.old) (file_disk self.new)) }
         ensures one_fault { OnErr result (self.new.faults.count ≡ counted self.old.faults.count) }
-        // Once one has failed, so does each later one.
-        ensures stays_failed { self.old.sync_failed ≡ true → IsErr result }
-        ensures noted { IsErr result ↔ (self.new.sync_failed ≡ true) }
+        // Once one has failed, none succeeds that didn't open the file anew.
+        ensures stays_failed { HasFailed self.old → OnOk result (IsOpenedAnew self.old self.new) }
+        // A file without a name isn't opened anew.
+        ensures nameless { HasFailed self.old → HasNoName self.old → IsErr result }
+        // What the device didn't take at first is told by the first sync.
+        ensures owed { IsOwed self.old → IsErr result }
+        ensures noted { IsErr result ↔ HasFailed self.new }
     {
-        if self.sync_failed {
-            return Err(self.faults.rise());
-        }
-        // This puts the data and the length on the disk.
-        let synced = self.file.sync_data();
-        self.sync_failed = synced.is_err();
+        let synced = match self.last_sync {
+            LastSync::Succeeded => self.file.sync(),
+            LastSync::Owed => Err(io::ErrorKind::Other.into()),
+            LastSync::Failed => self.file.open_anew(),
+        };
+        self.last_sync = match &synced {
+            Ok(()) => LastSync::Succeeded,
+            Err(_) => LastSync::Failed,
+        };
         self.told(synced)
     }
 

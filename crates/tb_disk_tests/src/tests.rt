@@ -1,3 +1,4 @@
+//! Tests of the disk in memory, and of a disk over a file of the system.
 use std::fs::{File, OpenOptions};
 use std::process::Abort;
 use std::test::Fail;
@@ -94,5 +95,71 @@ fn a_real_file_is_a_disk(rt: HostRuntime) -> Result<(), Fail> {
     assert_eq!(rt; buffer, *b"dxy.");
     assert_eq!(rt; disk.sync(), Ok(()));
     fs::remove_file(&rt, path.as_path())?;
+    Ok(())
+}
+
+// An empty file of this name in the current folder.
+fn made(rt: &HostRuntime, name: &str) -> Result<File, Fail> {
+    let file = OpenOptions::new()
+        .read(true)
+        .write(true)
+        .create(true)
+        .truncate(true)
+        .open(rt, name)?;
+    Ok(file)
+}
+
+#[test]
+fn a_first_write_leaves_what_stands_round_it(rt: HostRuntime) -> Result<(), Fail> {
+    let name = "tb_disk_first_write";
+    let mut disk = FileDisk::named(rt, name, made(&rt, name)?);
+    assert_eq!(rt; disk.write_at(0, b"01234567890123456789abcdef"), Ok(()));
+    assert_eq!(rt; disk.sync(), Ok(()));
+    let again = OpenOptions::new().read(true).write(true).open(&rt, name)?;
+    let mut disk = FileDisk::named(rt, name, again);
+    assert_eq!(rt; disk.write_at(21, b"xy"), Ok(()));
+    assert_eq!(rt; disk.sync(), Ok(()));
+    let mut buffer = *b"............................";
+    assert_eq!(rt; disk.read(0, &mut buffer), Ok(26));
+    assert_eq!(rt; buffer, *b"01234567890123456789axydef..");
+    fs::remove_file(&rt, name)?;
+    Ok(())
+}
+
+#[test]
+fn a_long_end_stays_behind_the_first_write(rt: HostRuntime) -> Result<(), Fail> {
+    let name = "tb_disk_long_end";
+    let file = made(&rt, name)?;
+    file.set_len(50_000)?;
+    let mut disk = FileDisk::named(rt, name, file);
+    assert_eq!(rt; disk.write_at(40_000, b"end"), Ok(()));
+    assert_eq!(rt; disk.sync(), Ok(()));
+    let again = OpenOptions::new().read(true).write(true).open(&rt, name)?;
+    let mut disk = FileDisk::named(rt, name, again);
+    assert_eq!(rt; disk.write_at(16, b"x"), Ok(()));
+    assert_eq!(rt; disk.cut(45_000), Ok(()));
+    assert_eq!(rt; disk.len(), Ok(45_000));
+    let mut buffer = *b"....";
+    assert_eq!(rt; disk.read(40_000, &mut buffer), Ok(4));
+    assert_eq!(rt; buffer, *b"end\0");
+    fs::remove_file(&rt, name)?;
+    Ok(())
+}
+
+#[test]
+fn a_file_that_went_away_fails_until_it_is_back(rt: HostRuntime) -> Result<(), Fail> {
+    let name = "tb_disk_went_away";
+    let other = "tb_disk_went_away_to";
+    let mut disk = FileDisk::named(rt, name, made(&rt, name)?);
+    fs::rename(&rt, name, other)?;
+    assert_eq!(rt; disk.sync(), Err(Failed), "the name leads nowhere");
+    let _other_file = made(&rt, name)?;
+    assert_eq!(rt; disk.sync(), Err(Failed), "it leads to another file");
+    fs::remove_file(&rt, name)?;
+    fs::rename(&rt, other, name)?;
+    assert_eq!(rt; disk.sync(), Ok(()), "the file is opened anew");
+    assert_eq!(rt; disk.write_at(0, b"abc"), Ok(()));
+    assert_eq!(rt; disk.sync(), Ok(()));
+    fs::remove_file(&rt, name)?;
     Ok(())
 }
