@@ -10,6 +10,8 @@ pub mod FrameLemmas
 pub mod OpeningLemmas
 pub mod SinceLemmas
 pub mod Exactness
+pub mod BehindLemmas
+pub mod NearLemmas
 pub mod WritingImages
 pub mod WritingLemmas
 pub mod WritingRuns

@@ -86,7 +86,7 @@ pub Ends-closed : (form : Form) (ordinal gate : ℕ) (rest : List ℕ) → gate 
 Ends-closed form ordinal gate rest shut payload more is same = shut (cc)
 
 -- what is no frame doesn't begin with one
-no_frame : (form : Form) (ordinal : ℕ) (rest payload more : List ℕ) → IsPayload payload
+pub no_frame : (form : Form) (ordinal : ℕ) (rest payload more : List ℕ) → IsPayload payload
     → rest ≡ framed_in form ordinal payload ++ more → IsNoFrameIn form ordinal rest → ⊥
 no_frame form ordinal rest payload more is same none =
     let long : length rest ≡ head_of form + length payload + length more =

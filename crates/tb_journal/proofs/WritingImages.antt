@@ -1,14 +1,14 @@
 -- What a crash leaves of a file into which a journal is written.
-use Rattle.std.proofs.Common.{zero, suc, ◌≡◌, ◌≢◌, ◌≤◌, ◌<◌, ◌⊎◌, inl, inr, ⊎_elim, ℕ, ◌+◌, List, [], ◌∷◌, ◌++◌, length, get_or, take, drop, refl, sym, ◌∙◌, ap, subst, arith, append_assoc, length-append, take-append-drop, true, false}
-use Rattle.std.specs.Prelude.{max, min, slice_index, Bool}
+use Rattle.std.proofs.Common.{zero, suc, ◌≡◌, ◌≢◌, ◌≤◌, ◌<◌, ◌⊎◌, inl, inr, ℕ, ◌+◌, List, [], ◌∷◌, ◌++◌, length, get_or, take, drop, refl, sym, ◌∙◌, ap, subst, arith, append_assoc, length-append, take-append-drop, true, false}
+use Rattle.std.specs.Prelude.{max, slice_index, Bool}
 use Rattle.std.specs.Bool.{Decides}
 use Rattle.std.proofs.lemmas.List.{take_at, drop_at, drop_more, length-take-le, get_or-append_right, drop_all, take_all, append-nil}
-use Rattle.std.proofs.lemmas.Bool.{cases_eq, cases_lt, cases_Bool}
+use Rattle.std.proofs.lemmas.Bool.{cases_eq, cases_lt}
 use Rattle.std.proofs.lemmas.Slice.Eq.{bytes_eq-Decides}
 use Rattle.std.specs.Str.{bytes_eq}
-use Rattle.tb_disk.specs.Steps.{over, Torn, MaybeCut, Wrote, Tore, CutTo, Synced, Step}
+use Rattle.tb_disk.specs.Steps.{over, Torn, Wrote, Tore, CutTo, Synced}
 use Rattle.tb_disk.specs.Past.{Past, Then, contents_of, MayLeave, Follows, IsSynced, Leaves}
-use Rattle.tb_disk.proofs.Moments.{Leaves-start, Leaves-step, Leaves-both, Leaves-weaker}
+use Rattle.tb_disk.proofs.Moments.{Leaves-start, Leaves-step, Leaves-both}
 use Rattle.tb_journal.specs.Journal.{WritesInPart}
 use Rattle.tb_journal.specs.declared.form.Form.TheVariants.{Second}
 use Rattle.tb_journal.specs.Frames.{title_of, header_of, framed, frames, front, IsPayload, ArePayloads}

@@ -1,22 +1,22 @@
 -- What the device calls of a writer make of its disk.
-use Rattle.std.proofs.Common.{◌≡◌, ◌≢◌, ◌≤◌, ◌<◌, ◌⊎◌, inl, inr, ⊎_elim, ℕ, ◌+◌, ◌-◌, List, [], ◌∷◌, ◌++◌, length, get_or, take, drop, refl, sym, ◌∙◌, ap, subst, arith, Some, None, Option, IfSome, length-append, append_assoc}
+use Rattle.std.proofs.Common.{◌≡◌, ◌≢◌, ◌≤◌, ◌<◌, ◌⊎◌, inl, inr, ℕ, ◌+◌, ◌-◌, List, [], ◌∷◌, ◌++◌, length, get_or, take, drop, refl, sym, ◌∙◌, ap, subst, arith, Some, None, Option, IfSome, length-append}
 use Rattle.std.specs.Prelude.{min}
 use Rattle.std.proofs.lemmas.List.{drop_more}
-use Rattle.tb_disk.specs.Steps.{Step, Wrote, CutTo, Synced, over}
-use Rattle.tb_disk.specs.Past.{Past, Then, contents_of, MayLeave, Leaves, IsSynced}
-use Rattle.tb_disk.specs.Disks.{DiskState, Takes, LeavesDisk, Fails, FailsToCut, FailsToWrite, Gives, Reaches, after_step}
-use Rattle.tb_disk.proofs.Moments.{Leaves-start, Leaves-step, Leaves-both, Leaves-weaker}
+use Rattle.tb_disk.specs.Steps.{Wrote, CutTo, Synced}
+use Rattle.tb_disk.specs.Past.{Past, Then, contents_of, Leaves}
+use Rattle.tb_disk.specs.Disks.{DiskState, Takes, Fails, FailsToCut, FailsToWrite, Gives, after_step}
+use Rattle.tb_disk.proofs.Moments.{Leaves-start, Leaves-both, Leaves-weaker}
 use Rattle.tb_journal.specs.Journal.{Told, WritesInPart, SyncsOrNot}
 use Rattle.tb_journal.specs.Opening.{Measures}
 use Rattle.tb_journal.proofs.ToldLemmas.{Told-both, Told-weaker, told_given, told_after, told_now, still_silent, told_step}
 use Rattle.tb_journal.proofs.Calls.{write_fails, two_steps}
 use Rattle.tb_journal.specs.declared.form.Form.TheVariants.{Second}
 use Rattle.tb_journal.specs.Frames.{head_in, framed, frames, IsPayload}
-use Rattle.tb_journal.specs.Writing.{IsBlank, IsOldOrBlank, IsBlankOr, IsWritten, IsSealed, Begins, StopsUnsealed, Adds, AddsInPart, Seals, SealsInPart}
+use Rattle.tb_journal.specs.Writing.{IsBlank, IsOldOrBlank, IsBlankOr, IsWritten, IsSealed, StopsUnsealed, Adds, AddsInPart, Seals, SealsInPart}
 use Rattle.tb_journal.specs.WriterSteps.{IsLong, IsShort, IsBroken, IsCut, IsClosed, LeavesOldOrBlank, LeavesBlank, Unseals, Cuts, Titles, Replaces, Closes, SetsSeal, SetsSealInPart, IsPlaceOf}
 use Rattle.tb_journal.proofs.Gates.{length-title}
 use Rattle.tb_journal.proofs.Spelling.{length-head}
-use Rattle.tb_journal.proofs.WritingImages.{title, unseals, unseals_in_part, unsealed_already, unsealed_start, cuts, cuts_in_part, titles_in_part, titles_cut, titles_short, end_in_part, closes, adds, behind_head_in_part, written_start, seals, seals_in_part}
+use Rattle.tb_journal.proofs.WritingImages.{title, unseals, unseals_in_part, unsealed_already, cuts, cuts_in_part, titles_in_part, titles_cut, titles_short, end_in_part, closes, adds, behind_head_in_part, seals, seals_in_part}
 
 -- a call that left the bytes as they were
 pub told_same : (P : Past → Past → Type 0) (Q : Past → Type 0) (old new : DiskState) → new.past ≡ old.past

@@ -1,12 +1,12 @@
 -- A journal that is written from its beginning to its seal.
-use Rattle.std.proofs.Common.{zero, suc, ◌≡◌, ◌≤◌, ◌<◌, ◌⊎◌, inl, inr, ⊎_elim, ℕ, ◌+◌, List, [], ◌∷◌, ◌++◌, length, map, get_or, take, refl, sym, ◌∙◌, ap, subst, arith, append_assoc, length-append, IfSome, Result, Err, IfErr}
+use Rattle.std.proofs.Common.{zero, suc, ◌≡◌, ◌≤◌, ◌<◌, inl, inr, ℕ, ◌+◌, List, [], ◌∷◌, ◌++◌, length, map, get_or, take, refl, sym, ◌∙◌, ap, subst, arith, append_assoc, length-append, IfSome, Result, Err, IfErr}
 use Rattle.std.proofs.lemmas.List.{append-nil, get_or-map, take_more, length-map, length-take-le}
 use Rattle.tb_disk.specs.Steps.{Synced}
-use Rattle.tb_disk.specs.Past.{Past, Then, contents_of, MayLeave, Leaves}
+use Rattle.tb_disk.specs.Past.{Past, Then, contents_of, Leaves}
 use Rattle.tb_disk.specs.Disks.{DiskState}
 use Rattle.tb_disk.proofs.Moments.{Leaves-start, Leaves-both, Leaves-weaker}
 use Rattle.tb_journal.specs.Journal.{Told}
-use Rattle.tb_journal.proofs.ToldLemmas.{Told-both, Told-weaker, told_after, told_now, told_still}
+use Rattle.tb_journal.proofs.ToldLemmas.{Told-both, Told-weaker, told_after, told_now}
 use Rattle.tb_journal.specs.declared.form.Form.TheVariants.{Second}
 use Rattle.tb_journal.specs.Frames.{header, framed, frames, front, IsPayload, ArePayloads}
 use Rattle.tb_journal.specs.Writing.{IsBlank, IsOldOrBlank, IsBlankOr, IsOldBlankOr, IsWritten, IsWriting, start, behind, Writes, Begins, StopsUnsealed, Adds, AddsAll, AddsInPart, AddsAllInPart, Seals, SealsInPart, Rewrites, RewritesInPart}

@@ -5,6 +5,7 @@ pub mod Journals
 pub mod Opening
 pub mod Places
 pub mod Windows
+pub mod Behind
 pub mod Answers
 pub mod Writing
 pub mod WriterSteps

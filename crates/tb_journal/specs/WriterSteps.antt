@@ -1,5 +1,5 @@
 -- What holds between the steps of a writer.
-use Rattle.std.specs.Prelude.{◌≡◌, ◌≢◌, ◌⊎◌, ℕ, ◌≤◌, ◌<◌, List, [], ◌∷◌, ◌++◌, length}
+use Rattle.std.specs.Prelude.{◌≡◌, ◌≢◌, ℕ, ◌≤◌, ◌<◌, List, [], ◌∷◌, ◌++◌, length}
 use Rattle.tb_disk.specs.Past.{Past, contents_of, IsSynced, Leaves}
 use Rattle.tb_journal.specs.declared.form.Form.TheVariants.{Second}
 use Rattle.tb_journal.specs.Frames.{title_of, closed_gate, sealed, ArePayloads, frames}

@@ -8,8 +8,10 @@ ghost use Rattle.tb_journal.specs.Frames.{IsPayload};
 ghost use Rattle.tb_journal.specs.Journal.{Told, HoldsSoMany, Adds, Doubts, Stays, LeavesOldOrNew, Settles, StaysInDoubt, LeavesInDoubt, AddsInPart, SyncsOrNot, staged_past, opened_past};
 ghost use Rattle.tb_journal.specs.Journals.{SinceOpening, IsJournal};
 ghost use Rattle.tb_journal.specs.Places.{StandsAt, GivesFrame, StandsBetween};
-ghost use Rattle.tb_journal.specs.Windows.{Shows};
+ghost use Rattle.tb_journal.specs.Windows.{Shows, AreAt};
+ghost use Rattle.tb_journal.specs.Behind.{most_behind};
 
+use crate::behind::MOST_BEHIND;
 use crate::device::{gate_is_open, open_gate, read_frame, stage};
 use crate::fault::DiskFault;
 use crate::form::Form;
@@ -171,6 +173,37 @@ impl<D: Disk> Journal<D> {
             Ok(found) => Ok(Some(found)),
             Err(Failed) => Err(DiskFault),
         }
+    }
+
+    /// Reads what stands behind the standing gate byte into the window as its payload: all of it, or one byte more than
+    /// an append leaves there. The window shows this disk or nothing yet.
+    pub fn read_behind(&mut self, into: &mut Window) -> Result<(), DiskFault>
+        requires sure { self.old.doubt ≡ None }
+        requires end { self.old.gate < 2 ^ 42 }
+        requires window { Shows (D.disk self.old.disk) into.old }
+        ensures bytes { OnOk result (IfSome (D.disk self.old.disk).past
+            (λ past. AreAt (self.old.gate + 1) (most_behind + 1) into.new.payload (contents_of past))) }
+        // So many frames stand before the gate.
+        ensures many { IfSome (D.disk self.old.disk).past (HoldsSoMany self.old.gate self.old.ordinal) }
+        ensures window { Shows (D.disk self.new.disk) into.new }
+        ensures kept { (D.disk self.new.disk).past ≡ (D.disk self.old.disk).past }
+        ensures same { (self.new.gate ≡ self.old.gate) × (self.new.ordinal ≡ self.old.ordinal)
+            × (self.new.doubt ≡ self.old.doubt) × (self.new.opened ≡ self.old.opened) }
+        ensures fault { OnErr result (Rose (D.disk self.old.disk).faults (D.disk self.new.disk).faults) }
+        ensures no_fault { OnOk result ((D.disk self.new.disk).faults ≡ (D.disk self.old.disk).faults) }
+        ensures count { NeverFalls (D.disk self.old.disk).faults (D.disk self.new.disk).faults }
+    {
+        match into.read_payload(&mut self.disk, self.gate + 1, MOST_BEHIND + 1) {
+            Ok(()) => Ok(()),
+            Err(Failed) => Err(DiskFault),
+        }
+    }
+
+    /// The ordinal of the frame that will stand at the gate.
+    pub fn ordinal(&self) -> u64
+        ensures { result ≡ self.now.ordinal }
+    {
+        self.ordinal
     }
 
     /// Adds a payload. Once it has returned Ok, each crash leaves the payload. After a fault the payload may count or

@@ -123,6 +123,29 @@ impl Window {
         true
     }
 
+    /// Reads so many bytes from the place on, or what the disk has of them, and takes them as the payload.
+    pub(crate) fn read_payload<D: Disk>(
+        &mut self,
+        disk: &mut D,
+        place: u64,
+        need: usize,
+    ) -> Result<(), Failed>
+        requires need { need ≤ 65536 }
+        requires shows { Shows (D.disk disk.old) self.old }
+        ensures shows { Shows (D.disk disk.new) self.new }
+        ensures payload { OnOk result (IfSome (D.disk disk.old).past
+            (λ past. AreAt place need self.new.payload (contents_of past))) }
+        ensures kept { (D.disk disk.new).past ≡ (D.disk disk.old).past }
+        ensures fault { OnErr result (Rose (D.disk disk.old).faults (D.disk disk.new).faults) }
+        ensures no_fault { OnOk result ((D.disk disk.new).faults ≡ (D.disk disk.old).faults) }
+        ensures count { NeverFalls (D.disk disk.old).faults (D.disk disk.new).faults }
+    {
+        self.fill(disk, place, need)?;
+        let count = self.bytes_at(place, need).len();
+        let _ = self.take_payload(place, count);
+        Ok(())
+    }
+
     /// No payload was read.
     pub(crate) fn take_none(&mut self)
         ensures none { self.new.payload ≡ [] }

@@ -1,4 +1,5 @@
-ghost use Rattle.std.specs.Prelude.{◌≡◌, None};
+//! Tests of the journal through its public calls.
+ghost use Rattle.std.specs.Prelude.{◌≡◌, ◌<◌, ◌^◌, None};
 ghost use Rattle.tb_journal.specs.declared.form.Form.TheVariants.{First};
 ghost use Rattle.tb_journal.specs.Places.{StandsAt, StandsAtIn};
 
@@ -474,4 +475,49 @@ fn the_longest_payloads_are_kept(rt: HostRuntime) {
     assert!(rt; longest_added(&rt, alloc, &mut journal, &mut want, b'q', 30));
     assert!(rt; longest_added(&rt, alloc, &mut journal, &mut want, b'r', 43));
     assert!(rt; payloads_on(&rt, alloc, journal.into_disk()) == want);
+}
+
+// What stands behind the gate of a journal.
+fn read_on<D: Disk>(rt: &impl Abort, alloc: Global, journal: &mut Journal<D>) -> Vec<u8>
+    requires sure { journal.old.doubt ≡ None }
+    requires end { journal.old.gate < 2 ^ 42 }
+{
+    let mut window = Window::new();
+    assert!(rt; journal.read_behind(&mut window).is_ok());
+    window.payload().to_vec(alloc).expect(rt, "memory")
+}
+
+// The same of the journal on a disk.
+fn behind(rt: &impl Abort, alloc: Global, file: &[u8]) -> Vec<u8> {
+    let mut journal = open(rt, alloc, disk_of(rt, alloc, file, &[], 0));
+    assert!(rt; !journal.unsure() && journal.gate() < 70_000 && journal.ordinal() == 0);
+    read_on(rt, alloc, &mut journal)
+}
+
+// Two frames of two bytes and of one, with a closed gate before them.
+const CLOSED: &[u8] = b"TBHOSTJOURNAL002\x01\0\
+    \0\0\0\x02\0\0\0\0\0\0\0\0\xa1\xb2\
+    \x01\0\0\0\x01\0\0\0\0\0\0\0\x01\xc3\
+    \0";
+
+#[test]
+fn what_stands_behind_a_closed_gate_is_read(rt: HostRuntime) {
+    let alloc = rt.alloc();
+    assert!(rt; behind(&rt, alloc, CLOSED).as_slice() == &CLOSED[18..]);
+    assert!(rt; behind(&rt, alloc, &CLOSED[..18]).is_empty());
+    let many = [b'x'; 32_790];
+    let long = joined(&rt, alloc, &CLOSED[..18], &many, b"");
+    assert!(rt; long.len() <= 40_000);
+    let disk = MemoryDisk::new(alloc, &long, 40_000, LOG_ROOM, Vec::new(alloc), 0);
+    let mut journal = open(&rt, alloc, disk.expect(&rt, "memory"));
+    assert!(rt; !journal.unsure() && journal.gate() < 70_000);
+    assert_eq!(rt; read_on(&rt, alloc, &mut journal).len(), MOST_BEHIND + 1);
+}
+
+#[test]
+fn two_frames_are_found_by_their_ordinals(rt: HostRuntime) {
+    let frames = &CLOSED[18..];
+    assert!(rt; two_frames(0, frames) == Some((b"\xa1\xb2".as_slice(), b"\xc3".as_slice())));
+    assert!(rt; two_frames(1, frames).is_none());
+    assert!(rt; two_frames(0, &frames[..14]).is_none());
 }

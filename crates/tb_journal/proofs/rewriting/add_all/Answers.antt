@@ -1,10 +1,10 @@
 -- One payload more is added.
-use Rattle.std.proofs.Common.{◌≡◌, ◌+◌, ◌++◌, ◌∷◌, ◌≤◌, ◌<◌, ℕ, List, [], length, map, take, get_or, refl, sym, ap, subst, ◌∙◌, arith, Bor}
+use Rattle.std.proofs.Common.{ℕ, List, [], length, map, take, get_or, refl, sym, ap, subst, ◌∙◌, arith, Bor}
 use Rattle.std.proofs.lemmas.List.{length-map}
 use Rattle.tb_journal.specs.Journal.{Told}
 use Rattle.tb_journal.proofs.Calls.{on_err}
-use Rattle.tb_journal.specs.Frames.{IsPayload, ArePayloads, frames}
-use Rattle.tb_journal.specs.Writing.{Adds, AddsAll, AddsAllInPart}
+use Rattle.tb_journal.specs.Frames.{IsPayload, frames}
+use Rattle.tb_journal.specs.Writing.{AddsAll}
 use Rattle.tb_journal.proofs.WritingRuns.{told_none, told_more, told_part, payload_in, frames_within, length-frames_push, next_of, one_more, so_many}
 use Rattle.tb_journal.proofs.rewriting.add_all.Goals as goal
 

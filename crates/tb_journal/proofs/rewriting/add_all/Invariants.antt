@@ -1,5 +1,5 @@
 -- The payloads so far are added.
-use Rattle.std.proofs.Common.{◌≡◌, ◌≤◌, ◌+◌, ℕ, List, length, map, take}
+use Rattle.std.proofs.Common.{◌≡◌, ◌≤◌, ◌+◌, length, map, take}
 use Rattle.tb_journal.specs.Journal.{Told}
 use Rattle.tb_journal.specs.Frames.{frames}
 use Rattle.tb_journal.specs.Writing.{AddsAll}

@@ -1,5 +1,5 @@
 -- A journal was begun, its payloads added, and sealed, or in part.
-use Rattle.std.proofs.Common.{◌≡◌, ℕ, List, length, map, sym, ap, subst, ◌∙◌, arith}
+use Rattle.std.proofs.Common.{ℕ, length, map, sym, ap, subst, ◌∙◌, arith}
 use Rattle.std.proofs.lemmas.List.{length-map}
 use Rattle.tb_journal.specs.Frames.{frames}
 use Rattle.tb_journal.specs.Journal.{Told}

@@ -1,7 +1,7 @@
 -- A journal was begun over a short file, or over a long one.
 use Rattle.tb_journal.proofs.Calls.{on_ok_map, on_err_map, on_err}
 use Rattle.tb_disk.specs.Past.{contents_of}
-use Rattle.std.proofs.Common.{inr, arith}
+use Rattle.std.proofs.Common.{inr}
 use Rattle.tb_journal.specs.Writing.{Begins, StopsUnsealed}
 use Rattle.tb_journal.specs.WriterSteps.{Titles, LeavesBlank}
 use Rattle.tb_journal.proofs.WritingLemmas.{begin_measuring, begin_from, blank_is_enough}

@@ -1,5 +1,4 @@
 -- The seal was read, and broken where it stood.
-use Rattle.std.proofs.Common.{◌≡◌, ℕ, List, arith}
 use Rattle.tb_journal.proofs.Calls.{on_ok_map, on_err_map, on_err}
 use Rattle.tb_journal.specs.WriterSteps.{LeavesOldOrBlank, IsLong}
 use Rattle.tb_journal.proofs.WritingImages.{unsealed_start}
