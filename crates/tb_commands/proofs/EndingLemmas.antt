@@ -20,6 +20,7 @@ usage-at_2 (ending.Unsealed byte) is = absurd (omega (arith, is))
 usage-at_2 (ending.RegisterDiffers auction) is = absurd (omega (arith, is))
 usage-at_2 ending.KeeperFault is = absurd (omega (arith, is))
 usage-at_2 (ending.Forked place) is = absurd (omega (arith, is))
+usage-at_2 (ending.DamagedBehind place) is = absurd (omega (arith, is))
 
 -- that the disk wasn't opened is told by the status
 abbrev is_unopened_at : ℕ → Bool

@@ -25,6 +25,7 @@ mod FollowTakeLemmas
 mod ParcelTextLemmas
 mod FollowGroupLemmas
 pub mod FollowEndLemmas
+pub mod CheckLemmas
 pub mod WriteLemmas
 mod TableLemmas
 mod RowLemmas

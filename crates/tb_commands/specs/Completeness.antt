@@ -73,6 +73,10 @@ pub record AnswersScript (ended : Ending) (IsIn IsOutside : Type 0) : Type 0 whe
 abbrev pub HasDiffered : Ending → Type 0
 HasDiffered ended = (auction : List ℕ) × (ended ≡ ending.RegisterDiffers auction)
 
+-- damage was found behind the gate at a place, which is told
+abbrev pub FoundDamage : Ending → Type 0
+FoundDamage ended = (place : ℕ) × (ended ≡ ending.DamagedBehind place)
+
 -- the disk failed, or memory ran out
 abbrev pub LackedDisk : Ending → Type 0
 LackedDisk ended = (ended ≡ ending.DiskFault) ⊎ LackedMemory ended
@@ -112,6 +116,8 @@ Completes (command.Import operator caller) input disk ended =
     ((number : ℕ) × IsFirstBad text number)))
 Completes (command.Report operator caller asked csv) input disk ended = Opens disk ended (IsAnswered ended)
 Completes command.Migrate input disk ended = OpensIn First disk ended (IsAnswered ended)
+Completes command.Check input disk ended =
+    Opens disk ended ((ended ≡ ending.DiskFault) ⊎ FoundDamage ended ⊎ IsAnswered ended)
 Completes (command.FollowSend from) input disk ended = Opens disk ended ((ended ≡ ending.DiskFault) ⊎ IsAnswered ended)
 Completes command.FollowTake input disk ended =
     Opens disk ended (WhereTold input.left (λ text. AnswersParcels disk text ended))

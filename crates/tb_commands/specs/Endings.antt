@@ -7,6 +7,8 @@ use Rattle.tb_units.specs.Bytes.{line_feed}
 use Rattle.tb_desk.specs.declared.fault.OpenFault.{OpenFault}
 use Rattle.tb_desk.specs.declared.fault.OpenFault.TheVariants as fault
 use Rattle.tb_desk.specs.declared.fault.MigrateFault.TheVariants as migrate_fault
+use Rattle.tb_commands.specs.declared.command_endings.CheckEnding.{CheckEnding}
+use Rattle.tb_commands.specs.declared.command_endings.CheckEnding.TheVariants as check_ending
 use Rattle.tb_commands.specs.declared.command_endings.DiskEnding.{DiskEnding}
 use Rattle.tb_commands.specs.declared.command_endings.DiskEnding.TheVariants as disk_ending
 use Rattle.tb_commands.specs.declared.command_endings.MigrateEnding.{MigrateEnding}
@@ -42,6 +44,7 @@ status_of (ending.Unsealed byte) = 11
 status_of (ending.RegisterDiffers auction) = 12
 status_of ending.KeeperFault = 13
 status_of (ending.Forked place) = 14
+status_of (ending.DamagedBehind place) = 15
 
 -- the ending where the desk wasn't opened
 abbrev pub ending_of : OpenFault → Ending
@@ -83,6 +86,13 @@ of_send send_ending.Done = ending.Done
 of_send send_ending.WriteFault = ending.WriteFault
 of_send send_ending.DiskFault = ending.DiskFault
 of_send (send_ending.Damaged place) = ending.Damaged place
+
+-- where `check` did, on a desk
+abbrev pub of_check : CheckEnding → Ending
+of_check check_ending.Done = ending.Done
+of_check check_ending.WriteFault = ending.WriteFault
+of_check check_ending.DiskFault = ending.DiskFault
+of_check (check_ending.DamagedBehind place) = ending.DamagedBehind place
 
 -- where `follow take` did, with a copy that was opened
 abbrev pub of_take : TakeEnding → Ending
@@ -137,6 +147,7 @@ message_of (ending.Unsealed byte) = codes "unsealed " ++ hexadecimal (byte ∷ [
 message_of (ending.RegisterDiffers auction) = codes "register differs at " ++ auction ++ line_feed ∷ []
 message_of ending.KeeperFault = codes "keeper fault" ++ line_feed ∷ []
 message_of (ending.Forked place) = codes "forked at " ++ decimal place ++ line_feed ∷ []
+message_of (ending.DamagedBehind place) = codes "damaged behind " ++ decimal place ++ line_feed ∷ []
 
 -- the sink has taken the message whole, or failed and has taken a prefix of it
 abbrev pub Tells : SinkState → SinkState → List ℕ → Type 0

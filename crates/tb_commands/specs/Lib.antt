@@ -19,6 +19,7 @@ pub mod ParcelInput
 pub mod FollowTakeRun
 pub mod FollowSendRun
 pub mod FollowSteps
+pub mod CheckRun
 pub mod RegisterRun
 pub mod TableInput
 pub mod Completeness

@@ -1,7 +1,7 @@
 //! How each command ends: the endings that it has, and no others.
 ghost use Rattle.std.specs.Prelude.{◌≡◌};
 ghost use Rattle.tb_commands.specs.Endings.{of_disk, of_migrate, of_print, of_register, of_send, of_serve, of_take};
-ghost use Rattle.tb_commands.specs.Endings.{of_text};
+ghost use Rattle.tb_commands.specs.Endings.{of_check, of_text};
 
 use crate::ending::Ending;
 use tb_desk::{MigrateFault, OpenFault};
@@ -52,6 +52,16 @@ pub enum SendEnding {
     DiskFault,
     /// The group at this place reads otherwise than it was opened.
     Damaged(u64),
+}
+
+/// How `check` ends on a desk that was opened.
+#[derive(Clone, Copy, Debug, PartialEq, Eq)]
+pub enum CheckEnding {
+    Done,
+    WriteFault,
+    DiskFault,
+    /// Behind the gate at this place stands what no append leaves.
+    DamagedBehind(u64),
 }
 
 /// How `follow take` ends with a copy that was opened.
@@ -184,6 +194,32 @@ impl TakeEnding {
             TakeEnding::DiskFault => Ending::DiskFault,
             TakeEnding::Forked(place) => Ending::Forked(place),
             TakeEnding::OutOfMemory => Ending::OutOfMemory,
+        }
+    }
+}
+
+impl CheckEnding {
+    /// How the program ends then.
+    pub fn ending(self) -> Ending
+        ensures { result ≡ of_check self }
+    {
+        match self {
+            CheckEnding::Done => Ending::Done,
+            CheckEnding::WriteFault => Ending::WriteFault,
+            CheckEnding::DiskFault => Ending::DiskFault,
+            CheckEnding::DamagedBehind(place) => Ending::DamagedBehind(place),
+        }
+    }
+}
+
+impl DiskEnding<CheckEnding> {
+    /// How the program ends then.
+    pub fn ending(self) -> Ending
+        ensures { result ≡ of_disk of_check self }
+    {
+        match self {
+            DiskEnding::Opened(own) => own.ending(),
+            DiskEnding::Unopened(fault) => Ending::of(fault),
         }
     }
 }

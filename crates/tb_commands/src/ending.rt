@@ -36,6 +36,8 @@ pub enum Ending {
     KeeperFault,
     /// The parcel of this place can't be of the history that is followed.
     Forked(u64),
+    /// Behind the gate at this place of the journal stands what no append leaves.
+    DamagedBehind(u64),
 }
 
 impl Ending {
@@ -71,6 +73,7 @@ impl Ending {
             Ending::RegisterDiffers(_) => 12,
             Ending::KeeperFault => 13,
             Ending::Forked(_) => 14,
+            Ending::DamagedBehind(_) => 15,
         }
     }
 
@@ -93,6 +96,7 @@ impl Ending {
             Ending::RegisterDiffers(auction) => register_differs(auction),
             Ending::KeeperFault => text(b"keeper fault\n"),
             Ending::Forked(place) => number_line(b"forked at ", *place),
+            Ending::DamagedBehind(place) => number_line(b"damaged behind ", *place),
         }
     }
 }

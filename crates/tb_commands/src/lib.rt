@@ -3,6 +3,7 @@
 
 mod answer;
 mod award_command;
+mod check_command;
 mod command_endings;
 mod ending;
 mod follow_send_command;
@@ -24,9 +25,10 @@ mod table_input;
 mod trial_command;
 
 pub use award_command::award;
+pub use check_command::check;
 pub use command_endings::{
-    DiskEnding, MigrateEnding, PrintEnding, RegisterEnding, SendEnding, ServeEnding, TakeEnding,
-    TextEnding,
+    CheckEnding, DiskEnding, MigrateEnding, PrintEnding, RegisterEnding, SendEnding, ServeEnding,
+    TakeEnding, TextEnding,
 };
 pub use ending::Ending;
 pub use follow_send_command::follow_send;

@@ -11,3 +11,4 @@ pub mod GroupAnswerLemmas
 pub mod MigrationLemmas
 pub mod RepeatLemmas
 pub mod WalkingLemmas
+pub mod RemainsLemmas

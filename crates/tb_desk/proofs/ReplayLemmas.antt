@@ -55,7 +55,7 @@ holds_reads payloads gate past holds = record {
 
 module _ (version : Version) where
   -- where the bytes of a list of records begin with some records, the list goes on behind these
-  spellings-split : (group others : List Entry) (rest : List ℕ) → All IsInRange group → All IsInRange others
+  pub spellings-split : (group others : List Entry) (rest : List ℕ) → All IsInRange group → All IsInRange others
       → spellings_in version group ++ rest ≡ spellings_in version others
       → (more : List Entry) × (others ≡ group ++ more) × (rest ≡ spellings_in version more)
   spellings-split [] others rest in_range also same = (others, refl, same)

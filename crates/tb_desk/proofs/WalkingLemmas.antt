@@ -24,7 +24,7 @@ use Rattle.tb_desk.proofs.ReplayLemmas.{holds_reads}
 -- ---- the first place
 
 -- where nothing is in doubt, the disk holds the payloads
-holds_sure : (payloads : List (List ℕ)) (doubt : List Entry) (gate : ℕ) (past : Past) → doubt ≡ []
+pub holds_sure : (payloads : List (List ℕ)) (doubt : List Entry) (gate : ℕ) (past : Past) → doubt ≡ []
     → HoldsAt payloads doubt gate past → Holds payloads gate past
 holds_sure payloads [] gate past none holds = holds
 holds_sure payloads (entry ∷ entries) gate past none holds = cc

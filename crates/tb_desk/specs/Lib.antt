@@ -6,3 +6,4 @@ pub mod Replaying
 pub mod Migration
 pub mod Repeats
 pub mod Walking
+pub mod Remains

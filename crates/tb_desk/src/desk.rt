@@ -25,11 +25,13 @@ ghost use Rattle.tb_desk.specs.Replay.{IsExact, LeavesRefused};
 ghost use Rattle.tb_desk.specs.Replaying.{IsReplayed, IsReplayFault};
 ghost use Rattle.tb_desk.specs.Repeats.{IsRepeatAt};
 ghost use Rattle.tb_desk.specs.Walking.{IsBehind, GivesGroup};
+ghost use Rattle.tb_desk.specs.Remains.{HasRemains};
 ghost use Rattle.tb_desk.specs.Turn.{Turns, Replies, IsOneOf, AreBids, AreNumbered};
 ghost use Rattle.tb_desk.specs.Desks.{held, noted, IsSame, IsRead, CrashesSince, replies_of, Tells, told_by, CountsFault, doubted_by};
 
 use crate::fault::{OpenFault, lifted};
 use crate::frames::Frames;
+use crate::remains::{Remains, remains_of};
 use crate::replay::replay;
 use crate::reply::{GroupReply, Reply};
 use crate::steps::{turn, turn_group};
@@ -273,6 +275,24 @@ impl<D: Disk> Desk<D> {
         ensures count { NeverFalls (D.disk self.old.disk).faults (D.disk self.new.disk).faults }
     {
         self.journal.next_frame(place, into)
+    }
+
+    /// What remains in the journal behind its last group. A fault leaves nothing in doubt, and isn't counted by `faults`.
+    pub fn remains(&mut self) -> Result<Remains, DiskFault>
+        requires sure { self.old.doubt ≡ [] }
+        ensures finds { IfOk result (λ found. IfSome (D.disk self.old.disk).past
+            (λ past. HasRemains (contents_of past) found)) }
+        ensures kept { (D.disk self.new.disk).past ≡ (D.disk self.old.disk).past }
+        ensures same { IsRead self.old self.new }
+        ensures fault { OnErr result (Rose (D.disk self.old.disk).faults (D.disk self.new.disk).faults) }
+        ensures no_fault { OnOk result ((D.disk self.new.disk).faults ≡ (D.disk self.old.disk).faults) }
+        ensures count { NeverFalls (D.disk self.old.disk).faults (D.disk self.new.disk).faults }
+    {
+        let mut window = Window::new();
+        self.journal.read_behind(&mut window)?;
+        let gate = self.journal.gate();
+        let ordinal = self.journal.ordinal();
+        Ok(remains_of(gate, ordinal, window.payload()))
     }
 
     /// Whether a group is in doubt.

@@ -2,7 +2,7 @@
 use crate::tests::{desk_on, disk_of, moment};
 use std::alloc::Global;
 use std::process::Abort;
-use tb_desk::Desk;
+use tb_desk::{Desk, Remains};
 use tb_journal::Window;
 use tb_message::Entry;
 
@@ -65,4 +65,29 @@ fn an_entry_stands_as_it_is(rt: HostRuntime) {
     assert!(rt; !desk.stands(&later));
     assert!(rt; !desk.stands(&another));
     assert!(rt; !desk.stands(&reused));
+}
+
+// What remains behind the gate of a file.
+fn remains_in(rt: &impl Abort, alloc: Global, file: &[u8]) -> Option<Remains> {
+    let disk = disk_of(rt, alloc, file, &[], 0);
+    let Ok(mut desk) = Desk::open(alloc, disk) else {
+        return None;
+    };
+    desk.remains().ok()
+}
+
+// With the first gate closed both frames stand behind it, and with the second one alone.
+#[test]
+fn what_remains_behind_a_gate_is_found(rt: HostRuntime) {
+    let alloc = rt.alloc();
+    let mut file = TWO.to_vec(alloc).expect(&rt, "memory");
+    assert!(rt; remains_in(&rt, alloc, &file) == Some(Remains::Nothing));
+    assert_eq!(rt; file.len(), 121);
+    file[67] = 0;
+    assert!(rt; remains_in(&rt, alloc, &file) == Some(Remains::TornAppend));
+    file[17] = 0;
+    assert!(rt; remains_in(&rt, alloc, &file) == Some(Remains::Damage(17)));
+    // A record that is none: its submitter's name has a capital.
+    file[81] = b'O';
+    assert!(rt; remains_in(&rt, alloc, &file) == Some(Remains::TornAppend));
 }

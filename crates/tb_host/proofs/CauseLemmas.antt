@@ -12,7 +12,8 @@ use Rattle.tb_terms.specs.declared.cusip.Cusip.{Cusip}
 use Rattle.tb_commands.specs.AwardRun.{AwardEnds}
 use Rattle.tb_commands.specs.DiskRun.{Unopened}
 use Rattle.tb_commands.specs.Endings.{ending_of, of_disk, of_migrate, of_print, of_register, of_send, of_serve}
-use Rattle.tb_commands.specs.Endings.{of_take, of_text}
+use Rattle.tb_commands.specs.Endings.{of_check, of_take, of_text}
+use Rattle.tb_commands.specs.CheckRun.{CheckEnds}
 use Rattle.tb_commands.specs.FollowSendRun.{FollowSendEnds}
 use Rattle.tb_commands.specs.FollowTakeRun.{FollowTakeEnds}
 use Rattle.tb_host.specs.HostRun.{HasCause, Objects, devices, handed, moved, registry}
@@ -21,8 +22,10 @@ use Rattle.tb_commands.specs.MigrateRun.{MigrateEnds}
 use Rattle.tb_commands.specs.RegisterRun.{RegisterEnds}
 use Rattle.tb_commands.specs.ReportRun.{ReportEnds}
 use Rattle.tb_commands.specs.RunEnds.{RunEnds}
-use Rattle.tb_host.specs.ServeRun.{ServeEnds, ToldEnds, served_text}
+use Rattle.tb_host.specs.ServeRun.{ServeEnds}
 use Rattle.tb_commands.specs.TrialRun.{TrialEnds}
+use Rattle.tb_commands.specs.declared.command_endings.CheckEnding.{CheckEnding}
+use Rattle.tb_commands.specs.declared.command_endings.CheckEnding.TheVariants as check_ending
 use Rattle.tb_commands.specs.declared.command_endings.DiskEnding.{DiskEnding}
 use Rattle.tb_commands.specs.declared.command_endings.DiskEnding.TheVariants as disk_ending
 use Rattle.tb_commands.specs.declared.command_endings.MigrateEnding.{MigrateEnding}
@@ -163,6 +166,26 @@ module _ {G K : Type 0} (gate : G → GateState K) (old new : Objects G) where
       HasCause-of ending.OutOfMemory tt
   migrate-cause (migrate_ending.Unmigrated migrate_fault.SpareFault) ends unread =
       HasCause-of ending.DiskFault (inr ends.tells.2)
+
+  check-cause-here : (own : DiskEnding CheckEnding)
+      → CheckEnds own old.input new.input (devices old) (devices new)
+      → HasCause gate (of_disk of_check own) old new
+  check-cause-here (disk_ending.Opened check_ending.Done) checked =
+      HasCause-of ending.Done (ap (λ (i : SourceState). i.faults) checked.unread, checked.ends.3.cause)
+  check-cause-here (disk_ending.Opened check_ending.WriteFault) checked =
+      HasCause-of ending.WriteFault checked.ends.3.cause
+  check-cause-here (disk_ending.Opened check_ending.DiskFault) checked =
+      HasCause-of ending.DiskFault (inl checked.ends.3.cause.0)
+  check-cause-here (disk_ending.Opened (check_ending.DamagedBehind place)) checked =
+      HasCause-of (ending.DamagedBehind place) tt
+  check-cause-here (disk_ending.Unopened why) checked = unopened-cause why checked.ends.unopened
+
+  -- `check`
+  pub check-cause : (own : DiskEnding CheckEnding) (ended : Ending)
+      → ended ≡ of_disk of_check own
+      → CheckEnds own old.input new.input (devices old) (devices new)
+      → HasCause gate ended old new
+  check-cause own ended is checked = cause-as ended (of_disk of_check own) is (check-cause-here own checked)
 
   send-cause-here : (from : ℕ) (own : DiskEnding SendEnding)
       → FollowSendEnds from own old.input new.input (devices old) (devices new)

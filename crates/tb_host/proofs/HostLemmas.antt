@@ -16,12 +16,15 @@ use Rattle.tb_words.specs.declared.command.Command.TheVariants as command
 use Rattle.tb_words.proofs.OneCommandLemmas.{one_command}
 use Rattle.tb_commands.specs.Completeness.{Completes}
 use Rattle.tb_commands.specs.Endings.{IsUnopened, ending_of, of_disk, of_migrate, of_print, of_register, of_send}
-use Rattle.tb_commands.specs.Endings.{of_serve, of_take, of_text}
+use Rattle.tb_commands.specs.Endings.{of_check, of_serve, of_take, of_text}
+use Rattle.tb_commands.specs.CheckRun.{CheckEnds}
 use Rattle.tb_commands.specs.FollowSendRun.{FollowSendEnds}
 use Rattle.tb_host.specs.HostRun.{EndsAs, Objects, Reports, devices, handed, moved, registry}
 use Rattle.tb_commands.specs.RegisterRun.{RegisterEnds}
 use Rattle.tb_commands.specs.ReportRun.{ReportEnds, inquiry}
 use Rattle.tb_commands.specs.RunEnds.{Devices, NotBegun}
+use Rattle.tb_commands.specs.declared.command_endings.CheckEnding.{CheckEnding}
+use Rattle.tb_commands.specs.declared.command_endings.CheckEnding.TheVariants as check_ending
 use Rattle.tb_commands.specs.declared.command_endings.DiskEnding.{DiskEnding}
 use Rattle.tb_commands.specs.declared.command_endings.DiskEnding.TheVariants as disk_ending
 use Rattle.tb_commands.specs.declared.command_endings.MigrateEnding.{MigrateEnding}
@@ -41,6 +44,7 @@ use Rattle.tb_commands.specs.declared.command_endings.TextEnding.TheVariants as 
 use Rattle.tb_commands.specs.declared.ending.Ending.{Ending}
 use Rattle.tb_commands.specs.declared.ending.Ending.TheVariants as ending
 use Rattle.tb_commands.specs.declared.report_command.Inquiry.{Inquiry}
+use Rattle.tb_commands.proofs.CheckLemmas.{check-completes}
 use Rattle.tb_commands.proofs.CompleteLemmas.{award-completes}
 use Rattle.tb_commands.proofs.DiskLemmas.{Unopened-untouched}
 use Rattle.tb_commands.proofs.FollowEndLemmas.{send-completes, take-completes}
@@ -125,6 +129,12 @@ send-known send_ending.WriteFault is = cc
 send-known send_ending.DiskFault is = cc
 send-known (send_ending.Damaged place) is = cc
 
+check-known : (own : CheckEnding) → ¬ (of_check own ≡ ending.Usage)
+check-known check_ending.Done is = cc
+check-known check_ending.WriteFault is = cc
+check-known check_ending.DiskFault is = cc
+check-known (check_ending.DamagedBehind place) is = cc
+
 take-known : (own : TakeEnding) → ¬ (of_take own ≡ ending.Usage)
 take-known take_ending.Done is = cc
 take-known (take_ending.BadInput number) is = cc
@@ -203,6 +213,15 @@ module _ {G K : Type 0} (gate : G → GateState K) (source : K → SourceState) 
   EndsAs-send said from own ended old new said_is is ends =
       subst (λ (c : Command). EndsAs gate source sink c clock ended old new) (sym said_is) (own, is, ends)
 
+  -- a look behind the gate that was asked by the words of the command
+  pub EndsAs-check : (said : Command) (own : DiskEnding CheckEnding) (ended : Ending) (old new : Objects G)
+      → said ≡ command.Check
+      → ended ≡ of_disk of_check own
+      → CheckEnds own old.input new.input (devices old) (devices new)
+      → EndsAs gate source sink said clock ended old new
+  EndsAs-check said own ended old new said_is is ends =
+      subst (λ (c : Command). EndsAs gate source sink c clock ended old new) (sym said_is) (own, is, ends)
+
   -- a filing that was asked by the words of the command
   pub EndsAs-register : (said : Command) (bill : Option Cusip) (own : DiskEnding RegisterEnding) (ended : Ending)
       (old new : Objects G)
@@ -249,6 +268,16 @@ module _ {G K : Type 0} (gate : G → GateState K) (source : K → SourceState) 
     migrate_ending.Unmigrated (migrate_fault.From fault.OutOfMemory),
     refl,
     migrate-untouched (moved objects),
+  )
+  EndsAs-memory command.Check objects = (
+    disk_ending.Unopened fault.OutOfMemory,
+    refl,
+    record {
+      ends = not_begun-memory objects.input (devices objects);
+      unread = refl;
+      steps = (Unopened-untouched objects.disk).refused;
+      harmless = (Unopened-untouched objects.disk).harmless;
+    },
   )
   EndsAs-memory (command.FollowSend from) objects = (
     disk_ending.Unopened fault.OutOfMemory,
@@ -297,6 +326,9 @@ module _ {G K : Type 0} (gate : G → GateState K) (source : K → SourceState) 
   Completes-here command.Migrate ended old new (own, is, ends) =
       subst (Completes command.Migrate old.input old.disk) (sym is)
       (migrate-completes own old.input (moved old) (moved new) ends)
+  Completes-here command.Check ended old new (own, is, ends) =
+      subst (Completes command.Check old.input old.disk) (sym is)
+      (check-completes own old.input new.input (devices old) (devices new) ends)
   Completes-here (command.FollowSend from) ended old new (own, is, ends) =
       subst (Completes (command.FollowSend from) old.input old.disk) (sym is)
       (send-completes from own old.input new.input (devices old) (devices new) ends)
@@ -324,6 +356,7 @@ module _ {G K : Type 0} (gate : G → GateState K) (source : K → SourceState) 
   EndsAs-known (command.Report operator caller asked csv) ended old new (own, is, ends) usage =
       disk-known of_print print-known own (sym is ∙ usage)
   EndsAs-known command.Migrate ended old new (own, is, ends) usage = migrate-known own (sym is ∙ usage)
+  EndsAs-known command.Check ended old new (own, is, ends) usage = disk-known of_check check-known own (sym is ∙ usage)
   EndsAs-known (command.FollowSend from) ended old new (own, is, ends) usage =
       disk-known of_send send-known own (sym is ∙ usage)
   EndsAs-known command.FollowTake ended old new (own, is, ends) usage =

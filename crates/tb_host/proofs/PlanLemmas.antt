@@ -17,6 +17,7 @@ HasGates-planned (command.Serve operator port workers links) plan gates planned 
 HasGates-planned (command.Import operator caller) plan gates planned as_many = tt
 HasGates-planned (command.Report operator caller asked csv) plan gates planned as_many = tt
 HasGates-planned command.Migrate plan gates planned as_many = tt
+HasGates-planned command.Check plan gates planned as_many = tt
 HasGates-planned (command.FollowSend from) plan gates planned as_many = tt
 HasGates-planned command.FollowTake plan gates planned as_many = tt
 HasGates-planned (command.Register bill) plan gates planned as_many = tt

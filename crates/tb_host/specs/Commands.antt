@@ -27,6 +27,7 @@ uses_of (command.Import operator caller) =
 uses_of (command.Report operator caller asked csv) =
     record { input = false; out = true; disk = true; spare = false; gates = false; keeper = false }
 uses_of command.Migrate = record { input = false; out = true; disk = true; spare = true; gates = false; keeper = false }
+uses_of command.Check = record { input = false; out = true; disk = true; spare = false; gates = false; keeper = false }
 uses_of (command.FollowSend from) =
     record { input = false; out = true; disk = true; spare = false; gates = false; keeper = false }
 uses_of command.FollowTake =

@@ -7,6 +7,7 @@ use Rattle.tb_disk.specs.Disks.{DiskState}
 use Rattle.tb_gates.specs.Clocks.{ClockState}
 use Rattle.tb_gates.specs.Gates.{GateState}
 use Rattle.tb_commands.specs.AwardRun.{AwardEnds}
+use Rattle.tb_commands.specs.CheckRun.{CheckEnds}
 use Rattle.tb_commands.specs.FollowSendRun.{FollowSendEnds}
 use Rattle.tb_commands.specs.FollowTakeRun.{FollowTakeEnds}
 use Rattle.tb_commands.specs.ImportRun.{ImportEnds}
@@ -19,7 +20,7 @@ use Rattle.tb_host.specs.ServeRun.{Handed, OneRose, ServeEnds}
 use Rattle.tb_commands.specs.TrialRun.{TrialEnds}
 use Rattle.tb_words.specs.declared.command.Command.{Command}
 use Rattle.tb_words.specs.declared.command.Command.TheVariants as command
-use Rattle.tb_commands.specs.Endings.{Tells, message_of, of_disk, of_migrate, of_print, of_register, of_send}
+use Rattle.tb_commands.specs.Endings.{Tells, message_of, of_check, of_disk, of_migrate, of_print, of_register, of_send}
 use Rattle.tb_commands.specs.Endings.{of_serve, of_take, of_text, status_of}
 use Rattle.tb_commands.specs.declared.ending.Ending.{Ending}
 use Rattle.tb_commands.specs.declared.ending.Ending.TheVariants as ending
@@ -71,6 +72,8 @@ module _ {G K : Type 0} (gate : G → GateState K) (source : K → SourceState) 
       (devices old) (devices new))
   EndsAs command.Migrate clock ended old new =
       Ends of_migrate ended (λ own. MigrateEnds own (moved old) (moved new))
+  EndsAs command.Check clock ended old new =
+      Ends (of_disk of_check) ended (λ own. CheckEnds own old.input new.input (devices old) (devices new))
   EndsAs (command.FollowSend from) clock ended old new =
       Ends (of_disk of_send) ended (λ own. FollowSendEnds from own old.input new.input (devices old) (devices new))
   EndsAs command.FollowTake clock ended old new =

@@ -13,8 +13,8 @@ use std::alloc::Global;
 use std::sync::Wait;
 use std::thread::Threads;
 use tb_commands::{
-    Ending, Inquiry, Sender, award, follow_send, follow_take, import, migrate, register, report,
-    run, trial,
+    Ending, Inquiry, Sender, award, check, follow_send, follow_take, import, migrate, register,
+    report, run, trial,
 };
 use tb_disk::Disk;
 use tb_gates::{Clock, Gate};
@@ -38,12 +38,12 @@ pub struct Ended<D: Disk> {
 /// holds no journal; what it begins with is told. 8: the journal is damaged; the place is told. 9: out of memory. 10: a
 /// gate failed. 11: the journal isn't sealed; the byte in the seal's place is told. 12: the register has another row of
 /// a published auction; its name is told. 13: the keeper of the register failed. 14: a parcel is a fork; its place is
-/// told.
+/// told. 15: behind the gate of the journal stands what no append leaves; the place is told.
 ///
-/// `run`, `import`, `report`, `follow`, `register` and `serve` work on the journal that `disk` holds. `migrate` reads
-/// the journal of the first version that it holds, and writes into `spare`, which no other command touches. `serve`
-/// alone touches the gates, of which there are as many as its words say; it and `import` read the clock. `register`
-/// alone touches the keeper.
+/// `run`, `import`, `report`, `check`, `follow`, `register` and `serve` work on the journal that `disk` holds.
+/// `migrate` reads the journal of the first version that it holds, and writes into `spare`, which no other command
+/// touches. `serve` alone touches the gates, of which there are as many as its words say; it and `import` read the
+/// clock. `register` alone touches the keeper.
 pub fn host_main<
     D: Disk + Send + Drop,
     G: Gate + Send + Drop,
@@ -69,8 +69,8 @@ pub fn host_main<
     requires gates { (said : declared.Command) → AreWordsOf said (map string_bytes words.now)
         → HasGates said (vec_len gates.old) }
     // Where the words are a command, it ends as its record says (`AwardEnds`, `RunEnds`, `ServeEnds`, `ImportEnds`,
-    // `ReportEnds`, `MigrateEnds`, `FollowSendEnds`, `FollowTakeEnds`, `RegisterEnds`, `TrialEnds`), with the status of
-    // that ending, which is told.
+    // `ReportEnds`, `MigrateEnds`, `CheckEnds`, `FollowSendEnds`, `FollowTakeEnds`, `RegisterEnds`, `TrialEnds`), with
+    // the status of that ending, which is told.
     ensures ends { (said : declared.Command) → AreWordsOf said (map string_bytes words.now)
         → EndsWith result.status (E.sink err.old) (E.sink err.new) (λ ended.
         EndsAs G.gate G.Conn.source G.Conn.sink said (C.clock clock) ended
@@ -318,6 +318,10 @@ fn do_command<
         }
         Command::Migrate => {
             let (own, disk) = migrate(alloc, out, disk, spare);
+            (own.ending(), disk)
+        }
+        Command::Check => {
+            let (own, disk) = check(alloc, out, disk);
             (own.ending(), disk)
         }
         Command::FollowSend { from } => {

@@ -5,6 +5,8 @@
 #[cfg(test)]
 mod account_tests;
 #[cfg(test)]
+mod check_tests;
+#[cfg(test)]
 mod disk_tests;
 #[cfg(test)]
 mod follow_tests;

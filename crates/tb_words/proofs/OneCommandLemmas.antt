@@ -145,6 +145,7 @@ one_spelled (command.Report operator caller asked csv)
     let switches : csv ≡ switch = one_switch csv switch (sym is_one.line.switch ∙ is_other.line.switch) in
     cc (names, keys, queries, switches)
 one_spelled command.Migrate command.Migrate items named is_one is_other = refl
+one_spelled command.Check command.Check items named is_one is_other = refl
 one_spelled (command.FollowSend from) (command.FollowSend place) items named is_one is_other =
     let same : codes "send" ∷ decimal from ∷ [] ≡ codes "send" ∷ decimal place ∷ [] =
     sym is_one.line.places ∙ is_other.line.places in

@@ -76,6 +76,7 @@ name_of (command.Serve operator port workers links) = codes "serve"
 name_of (command.Import operator caller) = codes "import"
 name_of (command.Report operator caller asked csv) = codes "report"
 name_of command.Migrate = codes "migrate"
+name_of command.Check = codes "check"
 name_of (command.FollowSend from) = codes "follow"
 name_of command.FollowTake = codes "follow"
 name_of (command.Register cusip) = codes "register"
@@ -103,6 +104,7 @@ line_of (command.Report operator caller asked csv) = record {
   csv = csv;
 }
 line_of command.Migrate = record { places = []; options = []; csv = false }
+line_of command.Check = record { places = []; options = []; csv = false }
 line_of (command.FollowSend from) = record { places = codes "send" ∷ decimal from ∷ []; options = []; csv = false }
 line_of command.FollowTake = record { places = codes "take" ∷ []; options = []; csv = false }
 line_of (command.Register cusip) = record { places = []; options = bill_option cusip; csv = false }
@@ -121,6 +123,7 @@ IsInRange (command.Import operator caller) = (is_name operator ≡ true) × IsKe
 IsInRange (command.Report operator caller asked csv) =
     (is_name operator ≡ true) × IsKey caller × IsQuery asked × (csv ≡ true → has_table asked ≡ true)
 IsInRange command.Migrate = ⊤
+IsInRange command.Check = ⊤
 IsInRange (command.FollowSend from) = from < 2 ^ 64
 IsInRange command.FollowTake = ⊤
 IsInRange (command.Register cusip) = IfSome cusip IsBill

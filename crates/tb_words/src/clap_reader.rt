@@ -32,6 +32,7 @@ fn host<'a>(alloc: Global) -> Result<clap::Command<'a>, AllocError> {
         .subcommand(import(alloc)?)?
         .subcommand(report(alloc)?)?
         .subcommand(clap::Command::new(alloc, "migrate"))?
+        .subcommand(clap::Command::new(alloc, "check"))?
         .subcommand(follow(alloc)?)?
         .subcommand(register(alloc)?)?
         .subcommand(trial(alloc)?)
@@ -116,6 +117,8 @@ fn said(matches: &ArgMatches<'_>) -> Option<Command> {
         said_report(given)
     } else if name == "migrate" {
         Some(Command::Migrate)
+    } else if name == "check" {
+        Some(Command::Check)
     } else if name == "follow" {
         said_follow(given)
     } else if name == "register" {

@@ -35,6 +35,8 @@ pub enum Command {
     },
     /// Migrates the journal of the first version into the spare.
     Migrate,
+    /// Tells what remains in the journal behind its last group.
+    Check,
     /// Sends a standby the parcels of all entries from this place on.
     FollowSend {
         from: u64,

@@ -38,6 +38,8 @@ fn read_named(name: &str, words: &[String]) -> Option<Command>
         report(words)
     } else if name == "migrate" {
         migrate(words)
+    } else if name == "check" {
+        check(words)
     } else if name == "follow" {
         follow(words)
     } else if name == "register" {
@@ -121,6 +123,15 @@ fn migrate(words: &[String]) -> Option<Command>
 {
     match places_alone(words)? {
         Places::Nothing => Some(Command::Migrate),
+        _ => None,
+    }
+}
+
+fn check(words: &[String]) -> Option<Command>
+    ensures { IsReadAs (codes "check") (map string_bytes words.now) result }
+{
+    match places_alone(words)? {
+        Places::Nothing => Some(Command::Check),
         _ => None,
     }
 }

@@ -125,6 +125,7 @@ fn commands_have_their_values(rt: HostRuntime) {
         )
     );
     assert!(rt; reads_as(&rt, "migrate", Ok(Command::Migrate)));
+    assert!(rt; reads_as(&rt, "check", Ok(Command::Check)));
     assert!(rt;
         reads_as(
             &rt,
@@ -165,6 +166,7 @@ fn lines_inside_the_set_are_taken_by_both(rt: HostRuntime) {
     assert!(rt; taken(&rt, "import --op root --key k1"));
     assert!(rt; taken(&rt, "import --key=op:root --op=root"));
     assert!(rt; taken(&rt, "migrate"));
+    assert!(rt; taken(&rt, "check"));
     assert!(rt; taken(&rt, "follow send 0"));
     assert!(rt; taken(&rt, "follow take"));
     assert!(rt; taken(&rt, "register"));
@@ -221,7 +223,7 @@ fn words_of_run_outside_the_set(rt: HostRuntime) {
 }
 
 #[test]
-fn words_of_serve_migrate_and_trial_outside_the_set(rt: HostRuntime) {
+fn words_of_serve_migrate_check_and_trial_outside_the_set(rt: HostRuntime) {
     assert!(rt; refused(&rt, "serve --op root --port 8080 --workers 2"));
     assert!(rt; refused(&rt, "serve --op root --port 0 --workers 2 --links 1"));
     assert!(rt; refused(&rt, "serve --op root --port 65536 --workers 2 --links 1"));
@@ -236,6 +238,8 @@ fn words_of_serve_migrate_and_trial_outside_the_set(rt: HostRuntime) {
     );
     assert!(rt; refused(&rt, "migrate spare"));
     assert!(rt; refused(&rt, "migrate --op root"));
+    assert!(rt; refused(&rt, "check auction.journal"));
+    assert!(rt; refused(&rt, "check --csv"));
     assert!(rt; refused(&rt, "trial 1"));
     assert!(rt; refused(&rt, "trial 1 0"));
     assert!(rt; refused(&rt, "trial 1 1000001"));

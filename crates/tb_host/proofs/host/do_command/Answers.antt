@@ -1,6 +1,6 @@
 use Rattle.std.proofs.Common.{refl}
-use Rattle.tb_host.proofs.CauseLemmas.{register-cause, report-cause, send-cause, serve-cause, trial-cause}
-use Rattle.tb_host.proofs.HostLemmas.{EndsAs-register, EndsAs-report, EndsAs-send}
+use Rattle.tb_host.proofs.CauseLemmas.{check-cause, register-cause, report-cause, send-cause, serve-cause, trial-cause}
+use Rattle.tb_host.proofs.HostLemmas.{EndsAs-check, EndsAs-register, EndsAs-report, EndsAs-send}
 use Rattle.tb_host.proofs.host.do_command.Goals as goal
 
 pub returns-in-Serve-clause-causes : goal.returns-in-Serve-clause-causes
@@ -49,3 +49,15 @@ pub returns-in-Register-clause-causes : goal.returns-in-Register-clause-causes
 returns-in-Register-clause-causes g c =
     register-cause g.G.Gate.gate _ _ c.in-Register.cusip c.register-own.result.0 c.ending-in-Register.result
     c.ending-in-Register.ensures (c.register-own.ensures.ends (g.I.Source.source c.args.input.now))
+
+pub returns-in-Check-clause-ends : goal.returns-in-Check-clause-ends
+returns-in-Check-clause-ends g c =
+    EndsAs-check g.G.Gate.gate g.G.Conn.Source.source g.G.Conn.Sink.sink (g.C.Clock.clock c.args.clock)
+    c.args.command.now c.check-own.result.0 c.ending-in-Check.result _ _
+    c.in-Check.is c.ending-in-Check.ensures
+    (c.check-own.ensures.ends (g.I.Source.source c.args.input.now))
+
+pub returns-in-Check-clause-causes : goal.returns-in-Check-clause-causes
+returns-in-Check-clause-causes g c =
+    check-cause g.G.Gate.gate _ _ c.check-own.result.0 c.ending-in-Check.result
+    c.ending-in-Check.ensures (c.check-own.ensures.ends (g.I.Source.source c.args.input.now))
