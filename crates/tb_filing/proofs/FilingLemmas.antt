@@ -15,7 +15,7 @@ use Rattle.tb_register.specs.Tables.{row_named, registered, put_in}
 use Rattle.tb_register.specs.Keepers.{KeeperState}
 use Rattle.tb_register.proofs.CallerLemmas.{registered_last, told_last, length-put_in}
 use Rattle.tb_register.proofs.RegisterLemmas.{put_in_new, put_in_stays, put_in_there, registered_stays}
-use Rattle.tb_filing.specs.Rows.{AreRowsOf, IsRowOf}
+use Rattle.tb_filing.specs.Rows.{IsRowOf}
 use Rattle.tb_filing.specs.Filing.{Agrees, Differs, Files, FilesAll, FilesSome, FilingEnds, HadOther, IsPutAs, counted}
 use Rattle.tb_filing.specs.declared.filing.FilingFault.{FilingFault}
 use Rattle.tb_filing.specs.declared.filing.FilingFault.TheVariants as fault

@@ -2,14 +2,13 @@
 use Rattle.std.proofs.Common.{◌≡◌, ◌⊎◌, ℕ, ◌+◌, ◌*◌, ◌^◌, ◌%◌, ◌≤◌, ◌==◌, ◌&&◌, ◌||◌, Bool, true, false, not, cond}
 use Rattle.std.proofs.Common.{is_none}
 use Rattle.std.proofs.Common.{if◌then◌else◌, nat_le, inl, inr, Option, Some, None, List, [], ◌∷◌, ◌++◌, length, sum_by}
-use Rattle.std.proofs.Common.{refl, sym, ap, subst, ◌∙◌, arith, append-nil}
+use Rattle.std.proofs.Common.{refl, ap, subst, ◌∙◌, arith, append-nil}
 use Rattle.std.specs.List.{AllByRecursion, filter, find, list_any}
 use Rattle.std.proofs.lemmas.Bool.{cases_Bool, and_parts, leb-true}
 use Rattle.std.proofs.lemmas.List.Folds.{list_any-append}
 use Rattle.std.proofs.lemmas.List.Sums.{sum_by-append, sum_by-cons}
 use Rattle.tb_units.specs.Multiples.{is_multiple}
 use Rattle.tb_units.specs.declared.amount.Dollars.{Dollars}
-use Rattle.tb_units.specs.declared.lines.RateLine.{RateLine}
 use Rattle.tb_units.specs.declared.moment.Moment.{Moment}
 use Rattle.tb_units.specs.declared.rate.Rate.{Rate}
 use Rattle.tb_units.proofs.SumLemmas.{cond-le, sum_by-filter, sum_by_agree}
@@ -17,7 +16,6 @@ use Rattle.tb_terms.specs.Announcements.{has_amounts, has_closings, has_dates, i
 use Rattle.tb_terms.specs.Cusips.{is_cusip}
 use Rattle.tb_terms.specs.declared.announcement.Announcement.{Announcement}
 use Rattle.tb_terms.specs.declared.checking.TermsFault.TheVariants as fault
-use Rattle.tb_award.specs.Cuts.{total_of}
 use Rattle.tb_award.proofs.AwardLemmas.{total-within}
 use Rattle.tb_message.specs.declared.message.Entry.{Entry}
 use Rattle.tb_message.specs.declared.message.Message.{Message}
@@ -31,18 +29,17 @@ use Rattle.tb_history.specs.declared.reading.Reading.TheVariants as reading
 use Rattle.tb_history.specs.declared.readings.Figures.{Figures}
 use Rattle.tb_history.specs.declared.readings.Results.{Results}
 use Rattle.tb_history.specs.declared.roster.Enrolment.{Enrolment}
-use Rattle.tb_history.specs.Awarded.{Bidding, limit_for, par_in_all, par_under, rates, recognised_under}
+use Rattle.tb_history.specs.Awarded.{Bidding, par_under, rates, recognised_under}
 use Rattle.tb_history.specs.Entries.{bid_by, cancelled_by, is_same, operator}
 use Rattle.tb_history.specs.Holdings.{bidding_in, par_added}
-use Rattle.tb_history.specs.Legal.{Follows, IsLegal}
+use Rattle.tb_history.specs.Legal.{IsLegal}
 use Rattle.tb_history.specs.LiveBids.{bids, bids_of, cancels, is_live, is_of, live_bids_in, noncompetitive_in, par_of}
-use Rattle.tb_history.specs.LiveBids.{reports, standing_of}
+use Rattle.tb_history.specs.LiveBids.{standing_of}
 use Rattle.tb_history.specs.Readings.{AreFigures, IsReading}
 use Rattle.tb_history.specs.Roster.{add_on_of, add_ons, announcement_of, announcements, enrolment_of, enrolments}
 use Rattle.tb_history.specs.Roster.{is_enrolled, is_under}
 use Rattle.tb_history.specs.SoundBids.{IsSoundBid}
 use Rattle.tb_history.specs.Verdict.{verdict_on}
-use Rattle.tb_history.proofs.AcceptedLemmas.{Passes}
 use Rattle.tb_history.proofs.AddOnLemmas.{found-known}
 use Rattle.tb_history.proofs.CloseLemmas.{IsLegal-close, IsLegal-distinct}
 use Rattle.tb_history.proofs.ClosedLemmas.{IsInOrder, IsLegal-in_order, found-in, offering_of}
@@ -51,7 +48,7 @@ use Rattle.tb_history.proofs.EachLemmas.{IsLegal-each, bids-grow}
 use Rattle.tb_history.proofs.GrowthLemmas.{bids-snoc, cancels-snoc, is_enrolled-snoc}
 use Rattle.tb_history.proofs.LegalLemmas.{by_entries}
 use Rattle.tb_history.proofs.LengthLemmas.{IsLegal-enrolments, sum_by_plus}
-use Rattle.tb_history.proofs.SameLemmas.{is_same-equal, is_same-refl, is_same-sym}
+use Rattle.tb_history.proofs.SameLemmas.{is_same-equal, is_same-sym}
 use Rattle.tb_history.proofs.SoundLemmas.{accepted-sound}
 use Rattle.tb_register.specs.Making.{FitsRow, awarded}
 

@@ -1,13 +1,11 @@
 -- The published auctions of a history, by their places.
-use Rattle.std.proofs.Common.{◌≡◌, ℕ, zero, suc, ◌+◌, ◌<◌, ◌≤◌, List, [], ◌∷◌, ◌++◌, Bool, true, false, Option, Some}
+use Rattle.std.proofs.Common.{◌≡◌, ℕ, zero, suc, ◌+◌, ◌<◌, ◌≤◌, List, [], ◌∷◌, ◌++◌, Bool, true, false, Some}
 use Rattle.std.proofs.Common.{None}
-use Rattle.std.proofs.Common.{length, take, drop, not, refl, sym, ap, subst, ◌∙◌, arith, length-append}
+use Rattle.std.proofs.Common.{length, take, drop, refl, ap, subst, arith, length-append}
 use Rattle.std.specs.Prelude.{slice_get, codes, ◌||◌}
 use Rattle.std.proofs.Math.Seq.{take-nil}
 use Rattle.std.specs.List.{flat_map}
 use Rattle.tb_units.specs.Names.{is_name, name_of}
-use Rattle.tb_terms.specs.Rows.{refusal_in}
-use Rattle.tb_terms.specs.declared.refusal.Refusal.{Refusal}
 use Rattle.tb_message.specs.declared.message.Entry.{Entry}
 use Rattle.tb_message.specs.declared.message.Message.{Message}
 use Rattle.tb_message.specs.declared.message.Message.TheVariants as message

@@ -1,5 +1,5 @@
 -- What putting one row does.
-use Rattle.std.proofs.Common.{◌≡◌, ℕ, List, Bool, true, false, Option, Some, None, refl, sym, ap, subst, ◌∙◌}
+use Rattle.std.proofs.Common.{◌≡◌, List, true, false, Option, Some, None, refl, sym, ap, ◌∙◌}
 use Rattle.std.specs.Prelude.{Ok, Err, IfSome}
 use Rattle.std.specs.Option.{option_map}
 use Rattle.tb_register.specs.Rows.{Kept, kept}
@@ -12,6 +12,11 @@ use Rattle.tb_register.proofs.RegisterLemmas.{put_in_there}
 use Rattle.tb_filing.specs.Filing.{HadOther, IsPutAs, of_keeper}
 use Rattle.tb_filing.specs.declared.filing.FilingFault.TheVariants as fault
 use Rattle.tb_filing.proofs.SameLemmas.{same_row}
+
+-- a row is refused for want of memory where the keeper lacked it
+pub memory_of : (why : KeeperFault) → of_keeper why ≡ fault.OutOfMemory → why ≡ keeper.OutOfMemory
+memory_of keeper.Failed is = absurd (cc (is))
+memory_of keeper.OutOfMemory is = refl
 
 module _ (row : Row) (old new : KeeperState) where
   -- the keeper refused

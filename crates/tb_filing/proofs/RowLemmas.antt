@@ -9,9 +9,7 @@ use Rattle.tb_message.specs.declared.message.Entry.{Entry}
 use Rattle.tb_message.specs.declared.query.Query.TheVariants as query
 use Rattle.tb_history.specs.Entries.{is_same, operator}
 use Rattle.tb_history.specs.Roster.{announcements}
-use Rattle.tb_history.specs.declared.reading.Reading.{Reading}
 use Rattle.tb_history.specs.declared.reading.Reading.TheVariants as reading
-use Rattle.tb_history.specs.declared.readings.Results.{Results}
 use Rattle.tb_history.proofs.ReadingLemmas.{IsReading-one}
 use Rattle.tb_history.proofs.SameLemmas.{is_same-equal}
 use Rattle.tb_register.specs.Rows.{Kept}
@@ -20,7 +18,6 @@ use Rattle.tb_register.specs.Tables.{row_named, put_where, put_in, registered}
 use Rattle.tb_register.proofs.MemberLemmas.{in_cons, in_front, in_none, in_rest}
 use Rattle.tb_register.proofs.OrderLemmas.{same_name}
 use Rattle.tb_register.proofs.TableLemmas.{named_added}
-use Rattle.tb_register.proofs.RegisterLemmas.{put_in_stays, registered_stays}
 use Rattle.tb_filing.specs.Rows.{AreRowsOf, IsRowOf}
 
 -- what is found passes the test

@@ -1,5 +1,5 @@
 -- Rows are told by what a table keeps of them.
-use Rattle.std.proofs.Common.{◌≡◌, ◌≤◌, ◌^◌, ◌==◌, ◌&&◌, ℕ, List, Bool, true, Option, Some, None, bytes_eq, refl, ap}
+use Rattle.std.proofs.Common.{◌≡◌, ◌≤◌, ◌^◌, ◌==◌, ◌&&◌, Bool, true, Option, Some, None, bytes_eq, refl, ap}
 use Rattle.std.specs.Option.{option_eq, option_map}
 use Rattle.std.proofs.lemmas.Bool.{and_parts, eqb-true}
 use Rattle.std.proofs.Math.Bridge.{le_prop}

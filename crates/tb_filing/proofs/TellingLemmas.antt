@@ -1,6 +1,6 @@
 -- What is told behind a filing.
-use Rattle.std.proofs.Common.{◌≡◌, ℕ, List, [], Option, Some, None, map, refl, sym, ap, subst, ◌∙◌, append-nil}
-use Rattle.std.specs.Prelude.{Ok, Err, IfSome}
+use Rattle.std.proofs.Common.{◌≡◌, ℕ, List, [], Option, Some, None, refl, sym, ap, subst, ◌∙◌, append-nil}
+use Rattle.std.specs.Prelude.{Err, IfSome}
 use Rattle.tb_link.specs.Counts.{Rose}
 use Rattle.tb_terms.specs.declared.cusip.Cusip.{Cusip}
 use Rattle.tb_message.specs.declared.message.Entry.{Entry}
@@ -61,15 +61,18 @@ module _ (bill : Option Cusip) (history : List Entry) where
   -- all is filed and told
   pub IsToldAs-here : (tally : Tally) (rows : List Kept) (text : List ℕ) (old mid new : KeeperState)
       → FilesAll history (publications history) tally old mid
+      → mid.faults ≡ old.faults
       → new.table ≡ mid.table
+      → new.faults ≡ mid.faults
       → IfSome mid.table (λ table. rows ≡ told_rows bill table)
       → text ≡ register_text tally.added tally.present rows
       → IsToldAs bill history text old new
-  IsToldAs-here tally rows text old mid new files same are is = record {
+  IsToldAs-here tally rows text old mid new files filed same none are is = record {
     tally = tally;
     files = FilesAll-same history (publications history) tally old mid new files same;
     text_is = told new.table (subst (λ (t : Option (List Kept)). IfSome t (λ table. rows ≡ told_rows bill table))
         (sym same) are);
+    no_fault = none ∙ filed;
   }
     where
       told : (now : Option (List Kept))

@@ -1,5 +1,5 @@
 -- What filing the published auctions does to the register.
-use Rattle.std.specs.Prelude.{◌≡◌, ◌≢◌, ℕ, ◌+◌, List, [], ◌∷◌, ◌++◌, length, Bool, true, false, Option, Some, None}
+use Rattle.std.specs.Prelude.{◌≡◌, ◌≢◌, ℕ, ◌+◌, List, ◌∷◌, ◌++◌, length, Bool, true, false, Some, None}
 use Rattle.std.specs.Prelude.{Result, Ok, Err, IfSome}
 use Rattle.std.specs.List.{AllByRecursion}
 use Rattle.std.specs.Option.{option_map}
@@ -71,6 +71,10 @@ pub record Differs (name : List ℕ) (history : List Entry) (old new : KeeperSta
   pub row : Kept
   pub row_is : IsRowOf history name row
   pub other : IfSome old.table (HadOther name row)
+
+-- where memory ran out the keeper counted no fault
+abbrev pub LacksMemory : KeeperState → KeeperState → FilingFault → Type 0
+LacksMemory old new why = why ≡ fault.OutOfMemory → new.faults ≡ old.faults
 
 -- how filing ends
 abbrev pub FilingEnds : List Entry → Result Tally FilingFault → KeeperState → KeeperState → Type 0

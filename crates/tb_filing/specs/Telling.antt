@@ -19,11 +19,13 @@ abbrev pub told_rows : Option Cusip → List Kept → List Kept
 told_rows None table = []
 told_rows (Some bill) table = of_cusip bill.bytes table
 
--- all published auctions are filed, and this is the text of it, where the keeper tells its table
+-- all published auctions are filed, this is the text of it, where the keeper tells its table, and no fault of the keeper
+-- was passed over
 pub record IsToldAs (bill : Option Cusip) (history : List Entry) (text : List ℕ) (old new : KeeperState) : Type 0 where
   pub tally : Tally
   pub files : FilesAll history (publications history) tally old new
   pub text_is : IfSome new.table (λ table. text ≡ register_text tally.added tally.present (told_rows bill table))
+  pub no_fault : new.faults ≡ old.faults
 
 -- how filing and telling ends
 abbrev pub TellingEnds : Option Cusip → List Entry → Result (Vec ℕ) FilingFault → KeeperState → KeeperState → Type 0

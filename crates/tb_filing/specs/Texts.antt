@@ -1,5 +1,5 @@
 -- The register as a text.
-use Rattle.std.specs.Prelude.{ℕ, List, [], ◌∷◌, ◌++◌, map, codes, Option, Some, None}
+use Rattle.std.specs.Prelude.{ℕ, List, [], ◌∷◌, map, codes, Option, Some, None}
 use Rattle.std.specs.Fmt.{decimal}
 use Rattle.tb_units.specs.Decimals.{rate_text, percent_text, price_text}
 use Rattle.tb_terms.specs.Texts.{day_text}

@@ -1,7 +1,7 @@
 //! Published auctions are filed: the row of each is put into the register.
-ghost use Rattle.std.specs.Prelude.{◌≡◌, ◌+◌, ◌^◌, ◌<◌};
+ghost use Rattle.std.specs.Prelude.{◌≡◌, ◌+◌, ◌^◌, ◌<◌, IfErr, IsTrue};
 ghost use Rattle.tb_register.specs.Rows.{kept};
-ghost use Rattle.tb_filing.specs.Filing.{FilingEnds, IsPutAs, counted};
+ghost use Rattle.tb_filing.specs.Filing.{FilingEnds, IsPutAs, LacksMemory, counted};
 
 use crate::results::row_on;
 use std::alloc::Global;
@@ -79,7 +79,9 @@ pub fn file_published<D: Disk, K: Keeper>(
     desk: &Desk<D>,
     keeper: &mut K,
 ) -> Result<Tally, FilingFault>
-    ensures { FilingEnds desk.now.host.history result (K.keeper keeper.old) (K.keeper keeper.new) }
+    ensures ends { FilingEnds desk.now.host.history result (K.keeper keeper.old) (K.keeper keeper.new) }
+    ensures lacked { IsTrue K.counts_failures
+        → IfErr result (LacksMemory (K.keeper keeper.old) (K.keeper keeper.new)) }
 {
     // The number of entries, below 2^33, is told with the history: there are no more publications.
     let _ = desk.entries();
@@ -100,8 +102,11 @@ pub fn file_published<D: Disk, K: Keeper>(
 }
 
 // Puts a row, and tells whether it is added; else it was there.
+#[tactic(auto, using(crate::proofs::PutLemmas::memory_of))]
 fn put<K: Keeper>(keeper: &mut K, row: &Row) -> Result<bool, FilingFault>
-    ensures { IsPutAs (kept row.now) result (K.keeper keeper.old) (K.keeper keeper.new) }
+    ensures put { IsPutAs (kept row.now) result (K.keeper keeper.old) (K.keeper keeper.new) }
+    ensures lacked { IsTrue K.counts_failures
+        → IfErr result (LacksMemory (K.keeper keeper.old) (K.keeper keeper.new)) }
 {
     match keeper.put(row)? {
         None => Ok(true),

@@ -1,8 +1,9 @@
 //! Published auctions are filed, and it is told what the register has then.
-ghost use Rattle.std.specs.Prelude.{◌≡◌, Option, IfOk, IfErr, IfSome, map};
+ghost use Rattle.std.specs.Prelude.{◌≡◌, Option, IfOk, IfErr, IfSome, IsTrue, map};
 ghost use Rattle.tb_link.specs.Counts.{Rose};
 ghost use Rattle.tb_register.specs.Rows.{kept};
 ghost use Rattle.tb_register.specs.declared.keeper.KeeperFault.TheVariants as fault;
+ghost use Rattle.tb_filing.specs.Filing.{LacksMemory};
 ghost use Rattle.tb_filing.specs.Telling.{TellingEnds, told_rows};
 
 use crate::filing::{FilingFault, file_published};
@@ -21,7 +22,9 @@ pub fn file_and_tell<D: Disk, K: Keeper>(
     bill: &Option<Cusip>,
     keeper: &mut K,
 ) -> Result<Vec<u8>, FilingFault>
-    ensures { TellingEnds bill.now desk.now.host.history result (K.keeper keeper.old) (K.keeper keeper.new) }
+    ensures ends { TellingEnds bill.now desk.now.host.history result (K.keeper keeper.old) (K.keeper keeper.new) }
+    ensures lacked { IsTrue K.counts_failures
+        → IfErr result (LacksMemory (K.keeper keeper.old) (K.keeper keeper.new)) }
 {
     let tally = file_published(alloc, desk, keeper)?;
     let rows = rows_of(alloc, bill, keeper)?;
@@ -40,6 +43,8 @@ fn rows_of<K: Keeper>(
     ensures no_fault { IfOk result (λ rows. (K.keeper keeper.new).faults ≡ (K.keeper keeper.old).faults) }
     ensures rose { IfErr result (λ why. why ≡ fault.Failed
         → Rose (K.keeper keeper.old).faults (K.keeper keeper.new).faults) }
+    ensures lacked { IsTrue K.counts_failures → IfErr result (λ why. why ≡ fault.OutOfMemory
+        → (K.keeper keeper.new).faults ≡ (K.keeper keeper.old).faults) }
 {
     match bill {
         Some(bill) => keeper.of_cusip(bill),

@@ -1,12 +1,12 @@
 -- The rows that a table has, in whatever order.
-use Rattle.std.proofs.Common.{◌≡◌, ◌⊎◌, inl, inr, ℕ, zero, suc, ◌+◌, ◌<◌, ◌≤◌, List, [], ◌∷◌, length, get_or, Contains}
-use Rattle.std.proofs.Common.{Bool, true, false, not, ◌&&◌, if◌then◌else◌, cond, bytes_eq}
+use Rattle.std.proofs.Common.{◌≡◌, ◌⊎◌, inl, inr, ℕ, zero, suc, List, [], ◌∷◌, Contains}
+use Rattle.std.proofs.Common.{Bool, true, false, if◌then◌else◌, bytes_eq}
 use Rattle.std.proofs.Common.{refl, sym, ap, subst, ◌∙◌, arith}
 use Rattle.std.specs.List.Sorted.{IsPermutation}
 use Rattle.std.proofs.lemmas.List.Sorted.{IsPermutation-refl, IsPermutation-cons, IsPermutation-trans}
 use Rattle.std.proofs.lemmas.List.Sorted.{IsPermutation-sym, IsPermutation-middle}
 use Rattle.tb_register.specs.Rows.{Kept}
-use Rattle.tb_register.specs.Tables.{is_before, is_table, IsTable, added, of_cusip}
+use Rattle.tb_register.specs.Tables.{is_before, IsTable, added, of_cusip}
 use Rattle.tb_register.proofs.OrderLemmas.{before_itself, before_one_way, both_tests, true_or_false}
 use Rattle.tb_register.proofs.TableLemmas.{all_after}
 

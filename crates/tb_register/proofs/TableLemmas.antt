@@ -1,11 +1,11 @@
 -- What adding a row makes of a table.
-use Rattle.std.proofs.Common.{◌≡◌, ℕ, List, [], ◌∷◌, ◌&&◌, Bool, true, false, not, Option, Some, None}
+use Rattle.std.proofs.Common.{◌≡◌, ℕ, List, [], ◌∷◌, Bool, true, false, not, Option, Some, None}
 use Rattle.std.proofs.Common.{if◌then◌else◌, bytes_eq, refl, sym, ap, subst, ◌∙◌}
 use Rattle.std.specs.List.{list_all}
 use Rattle.tb_register.specs.Rows.{Kept}
-use Rattle.tb_register.specs.Tables.{is_before, is_table, IsTable, row_named, added, put_where, put_in, of_cusip}
+use Rattle.tb_register.specs.Tables.{is_before, IsTable, row_named, added, put_where, put_in, of_cusip}
 use Rattle.tb_register.proofs.OrderLemmas.{before_then, before_back, both_tests, not_untrue, true_or_false}
-use Rattle.tb_register.proofs.OrderLemmas.{same_name, names_differ}
+use Rattle.tb_register.proofs.OrderLemmas.{same_name}
 
 -- no row has this name
 abbrev pub IsFree : List ℕ → List Kept → Type 0

@@ -1,10 +1,10 @@
 -- What contracts see of a keeper of the register, and what each call does to it.
 use Rattle.std.specs.Prelude.{◌≡◌, ℕ, List, map, Option, IfSome}
 use Rattle.std.specs.Option.{option_map}
-use Rattle.tb_link.specs.Counts.{Rose, NeverFalls}
+use Rattle.tb_link.specs.Counts.{Rose, NeverFalls, counted}
 use Rattle.tb_register.specs.declared.row.Row.{Row}
 use Rattle.tb_register.specs.declared.keeper.KeeperFault.{KeeperFault}
-use Rattle.tb_register.specs.declared.keeper.KeeperFault.TheVariants.{Failed}
+use Rattle.tb_register.specs.declared.keeper.KeeperFault.TheVariants.{Failed, OutOfMemory}
 use Rattle.tb_register.specs.Rows.{Kept, kept}
 use Rattle.tb_register.specs.Tables.{IsTable, row_named, put_in, of_cusip}
 
@@ -30,6 +30,15 @@ pub record Refuses (old new : KeeperState) (fault : KeeperFault) : Type 0 where
   pub table : new.table ≡ old.table
   pub rose : fault ≡ Failed → Rose old.faults new.faults
   pub count : NeverFalls old.faults new.faults
+
+-- where memory ran out no fault was counted
+abbrev pub LacksMemory : ℕ → ℕ → KeeperFault → Type 0
+LacksMemory old new fault = fault ≡ OutOfMemory → new ≡ old
+
+-- a refused call counts one fault where the keeper failed, and none where memory ran out
+pub record CountsFault (old new : ℕ) (fault : KeeperFault) : Type 0 where
+  pub failed : fault ≡ Failed → new ≡ counted old
+  pub lacked : LacksMemory old new fault
 
 -- a table that is told is in order
 abbrev pub IsInOrder : KeeperState → Type 0

@@ -1,7 +1,7 @@
 //! What a keeper of the register promises.
-ghost use Rattle.std.specs.Prelude.{◌≤◌, IfOk, IfErr};
+ghost use Rattle.std.specs.Prelude.{◌≤◌, Bool, IsTrue, IfOk, IfErr};
 ghost use Rattle.tb_link.specs.Counts.{last_count};
-ghost use Rattle.tb_register.specs.Keepers.{KeeperState, Puts, Gives, Refuses, IsInOrder};
+ghost use Rattle.tb_register.specs.Keepers.{KeeperState, Puts, Gives, Refuses, LacksMemory, IsInOrder};
 
 use crate::row::Row;
 use std::alloc::AllocError;
@@ -56,15 +56,22 @@ pub trait Keeper {
     /// Its table, where it tells that, and its count of faults.
     ghost keeper: { Self → KeeperState };
 
+    /// Whether its count rises only where it answers that it failed.
+    ghost counts_failures: { Bool };
+
     /// Puts a row, where none of its auction is there. Else it answers the row that is there, and the table stays.
     fn put(&mut self, row: &Row) -> Result<Option<Row>, KeeperFault>
         ensures puts { IfOk result (Puts row.now (keeper self.old) (keeper self.new)) }
-        ensures refused { IfErr result (Refuses (keeper self.old) (keeper self.new)) };
+        ensures refused { IfErr result (Refuses (keeper self.old) (keeper self.new)) }
+        ensures lacked { IsTrue counts_failures
+            → IfErr result (LacksMemory (keeper self.old).faults (keeper self.new).faults) };
 
     /// The rows of a bill, in order.
     fn of_cusip(&mut self, cusip: &Cusip) -> Result<Vec<Row>, KeeperFault>
         ensures gives { IfOk result (λ rows. Gives cusip.now.bytes (keeper self.old) (keeper self.new) rows.items) }
-        ensures refused { IfErr result (Refuses (keeper self.old) (keeper self.new)) };
+        ensures refused { IfErr result (Refuses (keeper self.old) (keeper self.new)) }
+        ensures lacked { IsTrue counts_failures
+            → IfErr result (LacksMemory (keeper self.old).faults (keeper self.new).faults) };
 
     /// A table that is told is in order.
     ghost in_order: { (self : Self) → IsInOrder (keeper self) };

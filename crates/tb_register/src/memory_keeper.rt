@@ -1,12 +1,12 @@
 //! A keeper in memory, which tells its table.
-ghost use Rattle.std.specs.Prelude.{◌≡◌, ◌≤◌, ◌↔◌, Some, Err, [], length, map};
+ghost use Rattle.std.specs.Prelude.{◌≡◌, ◌≤◌, ◌↔◌, true, Some, Err, [], length, map};
 ghost use Rattle.std.specs.Prelude.{IfOk, IfErr, OnOk, OnErr, IsErr, Contains};
 ghost use Rattle.std.specs.List.{insert};
 ghost use Rattle.std.specs.Option.{option_map};
 ghost use Rattle.tb_link.specs.Counts.{counted};
 ghost use Rattle.tb_register.specs.Rows.{kept};
 ghost use Rattle.tb_register.specs.Tables.{IsTable, row_named, added, of_cusip};
-ghost use Rattle.tb_register.specs.Keepers.{Puts, Gives, Refuses};
+ghost use Rattle.tb_register.specs.Keepers.{Puts, Gives, Refuses, LacksMemory, CountsFault};
 
 use crate::keeper::{Keeper, KeeperFault};
 use crate::row::Row;
@@ -112,12 +112,16 @@ impl Keeper for MemoryKeeper {
 
     ghost keeper = { memory_keeper };
 
+    ghost counts_failures = { true };
+
     #[tactic(auto, using(crate::proofs::TableLemmas::table_added))]
     fn put(&mut self, row: &Row) -> Result<Option<Row>, KeeperFault>
         ensures puts { IfOk result (Puts row.now (memory_keeper self.old) (memory_keeper self.new)) }
         ensures refused { IfErr result (Refuses (memory_keeper self.old) (memory_keeper self.new)) }
+        ensures lacked { IfErr result (LacksMemory self.old.faults.count self.new.faults.count) }
         // It fails at the stated calls and at no other.
         ensures exactly { (result ≡ Err KeeperFault.Failed) ↔ Contains self.old.fails.items self.old.calls }
+        ensures counts { IfErr result (CountsFault self.old.faults.count self.new.faults.count) }
         ensures call { CountsCall self.old self.new }
     {
         self.pass()?;
@@ -132,7 +136,9 @@ impl Keeper for MemoryKeeper {
         ensures gives { IfOk result (λ rows.
             Gives cusip.now.bytes (memory_keeper self.old) (memory_keeper self.new) rows.items) }
         ensures refused { IfErr result (Refuses (memory_keeper self.old) (memory_keeper self.new)) }
+        ensures lacked { IfErr result (LacksMemory self.old.faults.count self.new.faults.count) }
         ensures exactly { (result ≡ Err KeeperFault.Failed) ↔ Contains self.old.fails.items self.old.calls }
+        ensures counts { IfErr result (CountsFault self.old.faults.count self.new.faults.count) }
         ensures call { CountsCall self.old self.new }
     {
         self.pass()?;

@@ -1,12 +1,13 @@
 -- What statements 2, 3 and 4 leave, by their results.
 use Rattle.std.proofs.Common.{◌≡◌, ℕ, List, Option, Some, None, Result, Ok, Err, IfOk, OnOk, refl, sym, ap, subst, ◌∙◌}
 use Rattle.std.specs.Prelude.{IsTrue, OnErr, IfErr}
-use Rattle.sqlite.specs.declared.error.Error.{Error}
+use Rattle.tb_register.specs.declared.keeper.KeeperFault.{KeeperFault}
 use Rattle.sqlite.specs.Values.{bound_value}
 use Rattle.sqlite.specs.Order.{Row}
 use Rattle.sqlite.specs.Effect.{Database}
 use Rattle.sqlite.specs.Listing.{understood}
-use Rattle.sqlite.specs.State.{State, Executes, Shown, FailsToQuery}
+use Rattle.sqlite.specs.State.{State, Shown}
+use Rattle.tb_register_sql.specs.Statements.{Ran, FailsToAnswer}
 use Rattle.sqlite.proofs.Callers.{IsPlain}
 use Rattle.tb_register.specs.Rows.{Kept, KeptFigures}
 use Rattle.tb_register.specs.Tables.{row_named, added}
@@ -18,11 +19,11 @@ use Rattle.tb_register_sql.proofs.TableLemmas.{kept_cells, put_kept}
 use Rattle.tb_register_sql.proofs.RefusalLemmas.{Stays, refused_stays, unanswered_stays, answered_stays}
 
 -- statement 2 adds a row whose name none has
-pub row_added : (old new : State) (row : Kept) (result : Result ℕ Error) → IsMade old
+pub row_added : (old new : State) (row : Kept) (result : Result ℕ KeeperFault) → IsMade old
     → row_named row.auction (rows_of old) ≡ None
-    → Executes insert_text (cells_of row) old new result
+    → Ran insert_text (cells_of row) old new result
     → OnOk result (Adds row old new)
-row_added old new row (Err error) was free runs = tt
+row_added old new row (Err why) was free runs = tt
 row_added old new row (Ok count) was free runs =
     let rows = old.now.trees 0 in
     let effect = adds old new row count was.schema runs in
@@ -37,7 +38,7 @@ row_added old new row (Ok count) was free runs =
     }
 
 -- where the database stays, so does the table
-stays_made : (old new : State) → IsMade old → Stays old new → StaysMade old new
+pub stays_made : (old new : State) → IsMade old → Stays old new → StaysMade old new
 stays_made old new was stays =
     record {
       made = record {
@@ -49,26 +50,26 @@ stays_made old new was stays =
     }
 
 -- statement 2 leaves the table where it is refused
-pub insert_refused : (old new : State) (params : Row) (result : Result ℕ Error) → IsMade old
+pub insert_refused : (old new : State) (params : Row) (result : Result ℕ KeeperFault) → IsMade old
     → IsTrue new.is_open
-    → Executes insert_text params old new result
+    → Ran insert_text params old new result
     → OnErr result (StaysMade old new)
 insert_refused old new params (Ok count) was is_open runs = tt
-insert_refused old new params (Err error) was is_open runs =
-    stays_made old new was (refused_stays old new insert_text params error was.settled is_open runs)
+insert_refused old new params (Err why) was is_open runs =
+    stays_made old new was (refused_stays old new insert_text params runs.0 was.settled is_open runs.2)
 
 -- a query that is answered, or isn't, leaves the table
 pub query_stays : (old new : State) (sql : List ℕ) (params : Row) {Rows : Type 0} (items : Rows → List Row)
-    (result : Result Rows Error) → IsMade old
+    (result : Result Rows KeeperFault) → IsMade old
     → IsTrue new.is_open
     → IsPlain (understood old.now.schema sql)
     → IfOk result (λ rows. Shown sql params old new (items rows))
-    → IfErr result (FailsToQuery sql params old new)
+    → IfErr result (FailsToAnswer sql params old new)
     → StaysMade old new
 query_stays old new sql params items (Ok rows) was is_open plain shown fails =
     stays_made old new was (answered_stays old new sql params (items rows) plain was.settled shown)
-query_stays old new sql params items (Err error) was is_open plain shown fails =
-    stays_made old new was (unanswered_stays old new sql params error was.settled is_open fails)
+query_stays old new sql params items (Err why) was is_open plain shown fails =
+    stays_made old new was (unanswered_stays old new sql params fails.0 was.settled is_open fails.2)
 
 -- statement 3 is such a query
 pub find_is_plain : (state : State) → IsMade state → IsPlain (understood state.now.schema find_text)

@@ -16,7 +16,7 @@ use Rattle.sqlite.specs.Order.{Row as Stored, column, value_cmp}
 use Rattle.sqlite_value.proofs.OrderLemmas.{value_cmp-Text}
 use Rattle.tb_register.specs.declared.row.Row.{Row}
 use Rattle.tb_register.specs.Rows.{Kept, kept}
-use Rattle.tb_register.specs.Tables.{added, of_cusip}
+use Rattle.tb_register.specs.Tables.{of_cusip}
 use Rattle.tb_register.proofs.TableLemmas.{table_of_cusip}
 use Rattle.tb_register.proofs.MemberLemmas.{of_cusip_added}
 use Rattle.tb_register.proofs.SortLemmas.{sorted_is_table}

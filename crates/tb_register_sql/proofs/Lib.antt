@@ -3,6 +3,9 @@ pub mod EffectLemmas
 pub mod RefusalLemmas
 pub mod CreatedLemmas
 pub mod AddedLemmas
+pub mod CountLemmas
+pub mod StandingLemmas
 pub mod TableLemmas
 pub mod BillLemmas
+pub mod ShelfLemmas
 pub mod MemoryLemmas

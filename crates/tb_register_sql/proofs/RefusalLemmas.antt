@@ -1,6 +1,6 @@
 -- A statement that is refused leaves the database as it was, and so does a query.
-use Rattle.std.proofs.Common.{◌≡◌, ◌⊎◌, inl, inr, ℕ, List, true, false, Option, Some, None, Err}
-use Rattle.std.proofs.Common.{refl, sym, ap, subst, ◌∙◌}
+use Rattle.std.proofs.Common.{◌≡◌, inl, inr, ℕ, List, false, Option, Some, None, Err}
+use Rattle.std.proofs.Common.{sym, subst, ◌∙◌}
 use Rattle.std.specs.Prelude.{IsTrue}
 use Rattle.std.proofs.lemmas.Bool.{cases_Bool}
 use Rattle.sqlite.specs.Order.{Row}
@@ -19,7 +19,7 @@ abbrev pub Stays : State → State → Type 0
 Stays old new = (new.now ≡ old.now) × IsSettled new
 
 -- a call that changes nothing leaves it
-unchanged_stays : (old new : State) → IsSettled old → IsUnchanged old new → Stays old new
+pub unchanged_stays : (old new : State) → IsSettled old → IsUnchanged old new → Stays old new
 unchanged_stays old new settled same = (
   same.0.now_is,
   record {

@@ -1,5 +1,7 @@
 -- What the four texts mean.
-use Rattle.std.proofs.Common.{◌≡◌, ℕ, pos, negsuc, List, [], ◌∷◌, codes, false, None, Ok, refl}
+use Rattle.std.proofs.Common.{◌≡◌, ◌≤◌, ℕ, pos, negsuc, List, [], ◌∷◌, length, codes, false}
+use Rattle.std.proofs.Common.{None, Result, Ok, Err, refl}
+use Rattle.std.proofs.Common.{lit≤}
 use Rattle.sqlite.specs.declared.types.Value.TheVariants.{Null, Int}
 use Rattle.sqlite.specs.Term.{Term, lit, col, op2}
 use Rattle.sqlite.specs.Query.{Query, inner, end}
@@ -8,8 +10,10 @@ use Rattle.sqlite_sql.specs.declared.ops.CompareOp.TheVariants.{Eq}
 use Rattle.sqlite_value.specs.declared.keys.Collation.TheVariants.{Binary}
 use Rattle.sqlite.specs.Source.TheVariants.{Values}
 use Rattle.sqlite_schema.specs.declared.command.Command.{Command}
-use Rattle.sqlite.specs.Command.TheVariants.{Insert, Select, CreateTable}
+use Rattle.sqlite.specs.Command.TheVariants.{Insert, Select, CreateTable, Nothing}
 use Rattle.sqlite.specs.Compile.{table_defined_by}
+use Rattle.sqlite_resolve.specs.declared.compiled.Compiled.{Compiled}
+use Rattle.sqlite_resolve.specs.declared.error.CompileError.{CompileError}
 use Rattle.sqlite_tied.specs.Compute.{everything}
 use Rattle.sqlite.specs.Listing.{understood, reads_listing}
 use Rattle.sqlite.proofs.Callers.{IsPlain, command_of, statement_of}
@@ -22,6 +26,11 @@ pub create_is : (command_of (understood no_schema create_text) ≡ CreateTable)
     × (table_defined_by create_text ≡ Ok auctions)
 unfolding understood everything
 create_is = (refl, refl, refl)
+
+-- over a table that stands it is nothing
+pub create_again : command_of (understood register_schema create_text) ≡ Nothing
+unfolding understood everything
+create_again = refl
 
 -- the values of a new row: its number, which is chosen, and the nine parameters
 abbrev pub terms : List Term
@@ -75,6 +84,20 @@ of_cusip_is = refl
 pub create_plain : IsPlain (understood no_schema create_text)
 unfolding understood everything
 create_plain = (refl, refl)
+
+pub create_again_plain : IsPlain (understood register_schema create_text)
+unfolding understood everything
+create_again_plain = (refl, refl)
+
+-- the text is one statement that takes so many parameters
+abbrev pub IsWhole : List ℕ → ℕ → Result Compiled CompileError → Type 0
+IsWhole sql given (Ok compiled) = (length sql ≤ compiled.tail) × (length compiled.names ≡ given)
+IsWhole sql given (Err fault) = ⊥
+
+-- statement 1 is so over a table that stands
+pub create_again_whole : IsWhole create_text 0 (understood register_schema create_text)
+unfolding understood everything
+create_again_whole = (lit≤ tt, refl)
 
 pub insert_plain : IsPlain (understood register_schema insert_text)
 unfolding understood everything

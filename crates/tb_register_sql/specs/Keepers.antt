@@ -10,4 +10,4 @@ untold faults = record { table = None; faults = faults }
 
 -- the one in memory tells its table
 abbrev pub memory_sql_keeper : MemorySqlKeeper → KeeperState
-memory_sql_keeper keeper = record { table = Some (kept_table keeper.kept); faults = keeper.faults.count }
+memory_sql_keeper keeper = record { table = Some (kept_table keeper.kept); faults = keeper.refusals.faults.count }

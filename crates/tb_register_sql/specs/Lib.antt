@@ -1,4 +1,5 @@
 pub mod Auctions
 pub mod Shelves
+pub mod Statements
 pub mod Memory
 pub mod Keepers

@@ -8,7 +8,7 @@ use Rattle.tb_register_sql.specs.declared.memory_shelf.MemoryShelf.{MemoryShelf}
 
 -- the table that the connection stands for
 abbrev pub shelf_table : MemoryShelf → List Kept
-shelf_table memory = shelf_rows memory.shelf.is_made (state over_memory memory.shelf.connection)
+shelf_table memory = shelf_rows (state over_memory memory.shelf.connection)
 
 -- no row before the connection is opened
 abbrev pub kept_table : Option MemoryShelf → List Kept

@@ -1,7 +1,8 @@
 -- The table in SQL, and the rows that it stands for.
-use Rattle.std.specs.Prelude.{◌≡◌, ◌≤◌, ◌^◌, ⊤, ℕ, ℤ, pos, List, [], ◌∷◌, length, Bool, true, false, IsTrue}
-use Rattle.std.specs.Prelude.{if◌then◌else◌, Option, Some, None, IfSome}
+use Rattle.std.specs.Prelude.{◌≡◌, ◌⊎◌, ◌≤◌, ◌^◌, ⊤, ℕ, ℤ, pos, List, [], ◌∷◌, length, Bool, true, false, IsTrue}
+use Rattle.std.specs.Prelude.{Option, Some, None, IfSome}
 use Rattle.std.specs.Ordering.{is_eq}
+use Rattle.sqlite.specs.Table.{Table}
 use Rattle.sqlite.specs.declared.types.Value.{Value}
 use Rattle.sqlite.specs.declared.types.Value.TheVariants.{Null, Int, Text}
 use Rattle.sqlite.specs.Order.{Row, column, value_cmp}
@@ -131,15 +132,20 @@ pub record IsMade (s : State) : Type 0 where
 abbrev pub rows_of : State → List Kept
 rows_of s = table_of (s.now.trees 0)
 
--- the table is made, or the database is empty
+-- The table is made. Before statement 1 has succeeded once the database may be empty, and it may have the table of an
+-- earlier run.
 abbrev pub IsShelf : Bool → State → Type 0
 IsShelf true s = IsMade s
-IsShelf false s = IsUnmade s
+IsShelf false s = IsUnmade s ⊎ IsMade s
 
--- the rows, and none before the table is made
-abbrev pub shelf_rows : Bool → State → List Kept
-shelf_rows true s = rows_of s
-shelf_rows false s = []
+-- the rows of a database with these tables: none where there is no table
+abbrev pub rows_under : List Table → State → List Kept
+rows_under [] s = []
+rows_under (table ∷ tables) s = rows_of s
+
+-- the rows that the database has of the register
+abbrev pub shelf_rows : State → List Kept
+shelf_rows s = rows_under s.now.schema.tables s
 
 -- the table stays
 pub record StaysMade (old new : State) : Type 0 where

@@ -2,6 +2,7 @@
 #![tactic(auto)]
 
 mod binding;
+mod counting;
 mod decoding;
 mod memory_shelf;
 mod memory_sql_keeper;

@@ -4,9 +4,11 @@ ghost use Rattle.std.specs.Option.{option_map};
 ghost use Rattle.sqlite.specs.Held.{state};
 ghost use Rattle.sqlite.specs.Steps.{over_memory};
 ghost use Rattle.tb_register.specs.Rows.{kept};
+ghost use Rattle.tb_register.specs.Keepers.{CountsFault};
 ghost use Rattle.tb_register.specs.Tables.{IsTable, row_named, put_in, of_cusip};
 ghost use Rattle.tb_register_sql.specs.Shelves.{IsShelf, shelf_rows};
 
+use crate::counting::Refusals;
 use crate::shelf::Shelf;
 use sqlite::{Connection, MemStore};
 use std::alloc::Global;
@@ -18,7 +20,7 @@ use tb_terms::Cusip;
 pub(crate) struct MemoryShelf {
     shelf: Shelf<MemStore>,
     ghost told: { ∥ IsShelf shelf.is_made (state over_memory shelf.connection) ∥₁ },
-    ghost in_order: { IsTable (shelf_rows shelf.is_made (state over_memory shelf.connection)) },
+    ghost in_order: { IsTable (shelf_rows (state over_memory shelf.connection)) },
 }
 
 impl MemoryShelf {
@@ -38,20 +40,28 @@ impl MemoryShelf {
         })
     }
 
-    pub fn put(&mut self, row: &Row) -> Result<Option<Row>, KeeperFault>
+    pub fn put(&mut self, row: &Row, refusals: &mut Refusals) -> Result<Option<Row>, KeeperFault>
         ensures found { IfOk result (λ found. option_map kept found
             ≡ row_named row.now.auction (shelf_table self.old)) }
         ensures put { OnOk result (shelf_table self.new ≡ put_in (kept row.now) (shelf_table self.old)) }
         ensures refused { OnErr result (shelf_table self.new ≡ shelf_table self.old) }
+        ensures no_fault { OnOk result (refusals.new ≡ refusals.old) }
+        ensures counts { IfErr result (CountsFault refusals.old.faults.count refusals.new.faults.count) }
     {
-        self.shelf.put(row)
+        self.shelf.put(row, refusals)
     }
 
-    pub fn of_cusip(&mut self, cusip: &Cusip) -> Result<Vec<Row>, KeeperFault>
+    pub fn of_cusip(
+        &mut self,
+        cusip: &Cusip,
+        refusals: &mut Refusals,
+    ) -> Result<Vec<Row>, KeeperFault>
         ensures gives { IfOk result (λ rows. map kept rows.items
             ≡ of_cusip cusip.now.bytes (shelf_table self.old)) }
         ensures same { shelf_table self.new ≡ shelf_table self.old }
+        ensures no_fault { OnOk result (refusals.new ≡ refusals.old) }
+        ensures counts { IfErr result (CountsFault refusals.old.faults.count refusals.new.faults.count) }
     {
-        self.shelf.of_cusip(cusip)
+        self.shelf.of_cusip(cusip, refusals)
     }
 }

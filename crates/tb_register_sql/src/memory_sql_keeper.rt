@@ -1,14 +1,13 @@
 //! The keeper over a connection in memory, which tells its table.
-ghost use Rattle.std.specs.Prelude.{◌≡◌, Some, [], IfOk, IfErr, OnErr};
+ghost use Rattle.std.specs.Prelude.{◌≡◌, true, Some, [], IfOk, IfErr, OnErr};
 ghost use Rattle.tb_register.specs.Tables.{IsTable};
-ghost use Rattle.tb_register.specs.Keepers.{Puts, Gives, Refuses};
+ghost use Rattle.tb_register.specs.Keepers.{Puts, Gives, Refuses, CountsFault, LacksMemory};
 ghost use Rattle.tb_register_sql.specs.Memory.{kept_table};
 ghost use Rattle.tb_register_sql.specs.Memory.{shelf_table};
 
+use crate::counting::Refusals;
 use crate::memory_shelf::MemoryShelf;
-use crate::sql_keeper::count;
 use std::alloc::Global;
-use tb_link::Faults;
 use tb_register::{Keeper, KeeperFault, Row};
 use tb_terms::Cusip;
 
@@ -17,7 +16,7 @@ use tb_terms::Cusip;
 pub struct MemorySqlKeeper {
     alloc: Global,
     kept: Option<MemoryShelf>,
-    faults: Faults,
+    refusals: Refusals,
     ghost in_order: { IsTable (kept_table kept) },
 }
 
@@ -31,14 +30,14 @@ impl MemorySqlKeeper {
         MemorySqlKeeper {
             alloc,
             kept: None,
-            faults: Faults::none(),
+            refusals: Refusals::none(),
         }
     }
 
     // What was kept so far, or a new connection.
     fn take(&mut self) -> Result<MemoryShelf, KeeperFault>
         ensures table { IfOk result (λ shelf. Some (shelf_table shelf) ≡ (memory_sql_keeper self.old).table) }
-        ensures faults { self.new.faults ≡ self.old.faults }
+        ensures faults { self.new.refusals ≡ self.old.refusals }
         ensures refused { OnErr result ((memory_sql_keeper self.new).table ≡ (memory_sql_keeper self.old).table) }
         ensures fault { IfErr result (λ fault. fault ≡ KeeperFault.OutOfMemory) }
     {
@@ -54,28 +53,36 @@ impl Keeper for MemorySqlKeeper {
 
     ghost keeper = { memory_sql_keeper };
 
+    ghost counts_failures = { true };
+
+    #[tactic(auto, using(crate::proofs::CountLemmas::counted_refuses))]
     fn put(&mut self, row: &Row) -> Result<Option<Row>, KeeperFault>
         ensures puts { IfOk result (Puts row.now (memory_sql_keeper self.old) (memory_sql_keeper self.new)) }
         ensures refused { IfErr result (Refuses (memory_sql_keeper self.old) (memory_sql_keeper self.new)) }
+        ensures lacked { IfErr result (LacksMemory self.old.refusals.faults.count self.new.refusals.faults.count) }
+        ensures counts { IfErr result (CountsFault self.old.refusals.faults.count self.new.refusals.faults.count) }
     {
         let mut shelf = self.take()?;
-        let answer = shelf.put(row);
+        let answer = shelf.put(row, &mut self.refusals);
         self.kept = Some(shelf);
-        count(answer, &mut self.faults)
+        answer
     }
 
+    #[tactic(auto, using(crate::proofs::CountLemmas::counted_refuses))]
     fn of_cusip(&mut self, cusip: &Cusip) -> Result<Vec<Row>, KeeperFault>
         ensures gives { IfOk result (λ rows.
             Gives cusip.now.bytes (memory_sql_keeper self.old) (memory_sql_keeper self.new) rows.items) }
         ensures refused { IfErr result (Refuses (memory_sql_keeper self.old) (memory_sql_keeper self.new)) }
+        ensures lacked { IfErr result (LacksMemory self.old.refusals.faults.count self.new.refusals.faults.count) }
+        ensures counts { IfErr result (CountsFault self.old.refusals.faults.count self.new.refusals.faults.count) }
     {
         let mut shelf = self.take()?;
-        let answer = shelf.of_cusip(cusip);
+        let answer = shelf.of_cusip(cusip, &mut self.refusals);
         self.kept = Some(shelf);
-        count(answer, &mut self.faults)
+        answer
     }
 
     ghost in_order = { λ self. self.in_order };
 
-    ghost bounded = { λ self. self.faults.bounded };
+    ghost bounded = { λ self. self.refusals.faults.bounded };
 }

@@ -1,5 +1,6 @@
 //! Rows of the register, as statements 3 and 4 answer them.
-ghost use Rattle.std.specs.Prelude.{IsTrue, IfOk, OnOk, ◌≡◌, map, slice_get};
+ghost use Rattle.std.specs.Prelude.{IsTrue, IfOk, IfErr, OnOk, ◌≡◌, ◌≤◌, ◌+◌, ◌++◌, length, map};
+ghost use Rattle.std.specs.Prelude.{slice_get, vec_len, vec_capacity};
 ghost use Rattle.std.specs.Option.{option_map};
 ghost use Rattle.std.specs.List.Sorted.{IsPermutation, IsSortedByKey};
 ghost use Rattle.std.specs.Ordering.{nat_cmp};
@@ -7,33 +8,36 @@ ghost use Rattle.std.specs.Cmp.Lexicographic.{slice_cmp};
 ghost use Rattle.sqlite.specs.State.{HasCleanDisk};
 ghost use Rattle.sqlite.specs.Held.{state};
 ghost use Rattle.tb_register.specs.Rows.{kept};
+ghost use Rattle.tb_register.specs.Keepers.{CountsFault};
 ghost use Rattle.tb_register.specs.Tables.{row_named, of_cusip};
 ghost use Rattle.tb_register_sql.specs.Shelves.{IsMade, StaysMade, rows_of, kept_from};
 
-use crate::decoding::decode;
-use crate::statements::{refusal, show_cusip, show_named};
+use crate::counting::{Refusals, read};
+use crate::statements::{show_cusip, show_named};
 use sqlite::{Alter, Connection};
 use std::alloc::{AllocError, Global};
 use tb_register::{KeeperFault, Row};
 use tb_terms::Cusip;
 use tb_units::Ident;
 
-fn first_of(stored: &[sqlite::Row]) -> Result<Option<Row>, KeeperFault>
-    ensures { IfOk result (λ found. option_map kept found ≡ slice_get (map kept_from stored.now) 0) }
+fn first_of(stored: &[sqlite::Row], refusals: &mut Refusals) -> Result<Option<Row>, KeeperFault>
+    ensures first { IfOk result (λ found. option_map kept found ≡ slice_get (map kept_from stored.now) 0) }
+    // No memory is needed: a row that can't be read is a fault.
+    ensures failed { IfErr result (λ why. why ≡ KeeperFault.Failed) }
+    ensures no_fault { OnOk result (refusals.new ≡ refusals.old) }
+    ensures counts { IfErr result (CountsFault refusals.old.faults.count refusals.new.faults.count) }
 {
     if stored.is_empty() {
         return Ok(None);
     }
-    match decode(&stored[0]) {
-        Some(row) => Ok(Some(row)),
-        None => Err(KeeperFault::Failed),
-    }
+    Ok(Some(read(&stored[0], refusals)?))
 }
 
 /// The row of this name, if there is one.
 pub(crate) fn find<S: Alter>(
     conn: &mut Connection<S>,
     name: &Ident,
+    refusals: &mut Refusals,
 ) -> Result<Option<Row>, KeeperFault>
     ensures found { HasCleanDisk (state S.Store conn.new)
         → IsMade (state S.Store conn.old)
@@ -42,27 +46,42 @@ pub(crate) fn find<S: Alter>(
         → IsTrue (state S.Store conn.new).is_open
         → IsMade (state S.Store conn.old)
         → StaysMade (state S.Store conn.old) (state S.Store conn.new) }
+    ensures no_fault { OnOk result (refusals.new ≡ refusals.old) }
+    ensures counts { IfErr result (CountsFault refusals.old.faults.count refusals.new.faults.count) }
 {
-    match show_named(conn, name) {
-        Ok(stored) => first_of(&stored),
-        Err(error) => Err(refusal(error)),
-    }
+    let stored = show_named(conn, name, refusals)?;
+    first_of(&stored, refusals)
 }
 
-fn decode_all(alloc: Global, stored: &[sqlite::Row]) -> Result<Vec<Row>, KeeperFault>
-    ensures { IfOk result (λ rows. map kept rows.items ≡ map kept_from stored.now) }
+// Reads the rows into a list that has room for them.
+fn read_into(
+    rows: &mut Vec<Row>,
+    stored: &[sqlite::Row],
+    refusals: &mut Refusals,
+) -> Result<(), KeeperFault>
+    requires { vec_len rows.old + length stored.now ≤ vec_capacity rows.old }
+    ensures read { OnOk result (map kept rows.new.items ≡ map kept rows.old.items ++ map kept_from stored.now) }
+    ensures failed { IfErr result (λ why. why ≡ KeeperFault.Failed) }
+    ensures no_fault { OnOk result (refusals.new ≡ refusals.old) }
+    ensures counts { IfErr result (CountsFault refusals.old.faults.count refusals.new.faults.count) }
 {
-    let mut rows = Vec::new(alloc);
     for each in stored {
-        match decode(each) {
-            Some(row) => {
-                if rows.push(row).is_err() {
-                    return Err(KeeperFault::OutOfMemory);
-                }
-            }
-            None => return Err(KeeperFault::Failed),
-        }
+        rows.push_reserved(read(each, refusals)?);
     }
+    Ok(())
+}
+
+fn read_all(
+    alloc: Global,
+    stored: &[sqlite::Row],
+    refusals: &mut Refusals,
+) -> Result<Vec<Row>, KeeperFault>
+    ensures read { IfOk result (λ rows. map kept rows.items ≡ map kept_from stored.now) }
+    ensures no_fault { OnOk result (refusals.new ≡ refusals.old) }
+    ensures counts { IfErr result (CountsFault refusals.old.faults.count refusals.new.faults.count) }
+{
+    let mut rows = Vec::with_capacity(alloc, stored.len())?;
+    read_into(&mut rows, stored, refusals)?;
     Ok(rows)
 }
 
@@ -73,11 +92,17 @@ fn sort(rows: &mut Vec<Row>) -> Result<(), AllocError>
     rows.sort_by_key(|row| row.auction)
 }
 
-fn in_order(alloc: Global, stored: &[sqlite::Row]) -> Result<Vec<Row>, KeeperFault>
+fn in_order(
+    alloc: Global,
+    stored: &[sqlite::Row],
+    refusals: &mut Refusals,
+) -> Result<Vec<Row>, KeeperFault>
     ensures moved { IfOk result (λ rows. IsPermutation (map kept_from stored.now) (map kept rows.items)) }
     ensures sorted { IfOk result (λ rows. IsSortedByKey (λ row. row.auction) (slice_cmp nat_cmp) rows.items) }
+    ensures no_fault { OnOk result (refusals.new ≡ refusals.old) }
+    ensures counts { IfErr result (CountsFault refusals.old.faults.count refusals.new.faults.count) }
 {
-    let mut rows = decode_all(alloc, stored)?;
+    let mut rows = read_all(alloc, stored, refusals)?;
     sort(&mut rows)?;
     Ok(rows)
 }
@@ -87,6 +112,7 @@ pub(crate) fn of_cusip<S: Alter>(
     alloc: Global,
     conn: &mut Connection<S>,
     cusip: &Cusip,
+    refusals: &mut Refusals,
 ) -> Result<Vec<Row>, KeeperFault>
     ensures gives { HasCleanDisk (state S.Store conn.new)
         → IsMade (state S.Store conn.old)
@@ -95,9 +121,9 @@ pub(crate) fn of_cusip<S: Alter>(
         → IsTrue (state S.Store conn.new).is_open
         → IsMade (state S.Store conn.old)
         → StaysMade (state S.Store conn.old) (state S.Store conn.new) }
+    ensures no_fault { OnOk result (refusals.new ≡ refusals.old) }
+    ensures counts { IfErr result (CountsFault refusals.old.faults.count refusals.new.faults.count) }
 {
-    match show_cusip(conn, cusip) {
-        Ok(stored) => in_order(alloc, &stored),
-        Err(error) => Err(refusal(error)),
-    }
+    let stored = show_cusip(conn, cusip, refusals)?;
+    in_order(alloc, &stored, refusals)
 }

@@ -1,15 +1,19 @@
-//! The four statements, over whatever store: what each does to the table, and that a refused one leaves it.
-ghost use Rattle.std.specs.Prelude.{IsTrue, IfOk, OnOk, OnErr, ◌≡◌, ◌↔◌, [], map, filter, None};
+//! The four statements, over whatever store: what each does to the table, and that a refused one leaves it and is
+//! counted.
+ghost use Rattle.std.specs.Prelude.{IsTrue, IfOk, IfErr, OnOk, OnErr, ◌≡◌, [], map, filter, None};
 ghost use Rattle.std.specs.List.Sorted.{IsPermutation};
 ghost use Rattle.sqlite.specs.State.{HasCleanDisk};
 ghost use Rattle.sqlite.specs.Held.{state};
 ghost use Rattle.tb_register.specs.Rows.{kept};
 ghost use Rattle.tb_register.specs.Tables.{row_named};
+ghost use Rattle.tb_register.specs.Keepers.{CountsFault};
 ghost use Rattle.tb_register_sql.specs.Shelves.{IsUnmade, IsMade, StaysMade, Adds, rows_of, shown, is_at};
+ghost use Rattle.tb_register_sql.specs.Statements.{LacksOrFails};
 
 use crate::binding::{amount, day, high_of, percent_of, price_of};
+use crate::counting::{Refusals, ask, run};
 use sqlite::types::ValueRef;
-use sqlite::{Alter, Connection, Error, ErrorCode};
+use sqlite::{Alter, Connection};
 use tb_register::{KeeperFault, Row};
 use tb_terms::Cusip;
 use tb_units::Ident;
@@ -30,7 +34,10 @@ const OF_CUSIP: &str =
     "SELECT auction, cusip, issue, maturity, offering, total, high, percent, price FROM auctions WHERE cusip = ?1";
 
 /// Makes the table, where it isn't there.
-pub(crate) fn create<S: Alter>(conn: &mut Connection<S>) -> Result<usize, Error>
+pub(crate) fn create<S: Alter>(
+    conn: &mut Connection<S>,
+    refusals: &mut Refusals,
+) -> Result<usize, KeeperFault>
     ensures made { HasCleanDisk (state S.Store conn.new)
         → IsTrue (state S.Store conn.new).is_open
         → IsUnmade (state S.Store conn.old)
@@ -43,12 +50,27 @@ pub(crate) fn create<S: Alter>(conn: &mut Connection<S>) -> Result<usize, Error>
         → IsTrue (state S.Store conn.new).is_open
         → IsUnmade (state S.Store conn.old)
         → OnErr result (IsUnmade (state S.Store conn.new)) }
+    // A table that stands stays, and isn't refused for standing.
+    ensures stays { HasCleanDisk (state S.Store conn.new)
+        → IsTrue (state S.Store conn.new).is_open
+        → IsMade (state S.Store conn.old)
+        → StaysMade (state S.Store conn.old) (state S.Store conn.new) }
+    ensures stands { HasCleanDisk (state S.Store conn.new)
+        → IsTrue (state S.Store conn.old).is_open
+        → IsMade (state S.Store conn.old)
+        → IfErr result (LacksOrFails (state S.Store conn.old) (state S.Store conn.new)) }
+    ensures no_fault { OnOk result (refusals.new ≡ refusals.old) }
+    ensures counts { IfErr result (CountsFault refusals.old.faults.count refusals.new.faults.count) }
 {
-    conn.execute(CREATE, &[])
+    run(conn, CREATE, &[], refusals)
 }
 
 /// Adds a row, whose name none has.
-pub(crate) fn insert<S: Alter>(conn: &mut Connection<S>, row: &Row) -> Result<usize, Error>
+pub(crate) fn insert<S: Alter>(
+    conn: &mut Connection<S>,
+    row: &Row,
+    refusals: &mut Refusals,
+) -> Result<usize, KeeperFault>
     ensures added { HasCleanDisk (state S.Store conn.new)
         → IsTrue (state S.Store conn.new).is_open
         → IsMade (state S.Store conn.old)
@@ -58,8 +80,11 @@ pub(crate) fn insert<S: Alter>(conn: &mut Connection<S>, row: &Row) -> Result<us
         → IsTrue (state S.Store conn.new).is_open
         → IsMade (state S.Store conn.old)
         → OnErr result (StaysMade (state S.Store conn.old) (state S.Store conn.new)) }
+    ensures no_fault { OnOk result (refusals.new ≡ refusals.old) }
+    ensures counts { IfErr result (CountsFault refusals.old.faults.count refusals.new.faults.count) }
 {
-    conn.execute(
+    run(
+        conn,
         INSERT,
         &[
             ValueRef::Text(row.auction.bytes()),
@@ -72,6 +97,7 @@ pub(crate) fn insert<S: Alter>(conn: &mut Connection<S>, row: &Row) -> Result<us
             percent_of(row.figures),
             price_of(row.figures),
         ],
+        refusals,
     )
 }
 
@@ -79,7 +105,8 @@ pub(crate) fn insert<S: Alter>(conn: &mut Connection<S>, row: &Row) -> Result<us
 pub(crate) fn show_named<S: Alter>(
     conn: &mut Connection<S>,
     name: &Ident,
-) -> Result<Vec<sqlite::Row>, Error>
+    refusals: &mut Refusals,
+) -> Result<Vec<sqlite::Row>, KeeperFault>
     ensures rows { HasCleanDisk (state S.Store conn.new)
         → IsMade (state S.Store conn.old)
         → IfOk result (λ rows. IsPermutation
@@ -89,15 +116,18 @@ pub(crate) fn show_named<S: Alter>(
         → IsTrue (state S.Store conn.new).is_open
         → IsMade (state S.Store conn.old)
         → StaysMade (state S.Store conn.old) (state S.Store conn.new) }
+    ensures no_fault { OnOk result (refusals.new ≡ refusals.old) }
+    ensures counts { IfErr result (CountsFault refusals.old.faults.count refusals.new.faults.count) }
 {
-    conn.query_all(FIND, &[ValueRef::Text(name.bytes())])
+    ask(conn, FIND, &[ValueRef::Text(name.bytes())], refusals)
 }
 
 /// The rows of this bill, as they are stored.
 pub(crate) fn show_cusip<S: Alter>(
     conn: &mut Connection<S>,
     cusip: &Cusip,
-) -> Result<Vec<sqlite::Row>, Error>
+    refusals: &mut Refusals,
+) -> Result<Vec<sqlite::Row>, KeeperFault>
     ensures rows { HasCleanDisk (state S.Store conn.new)
         → IsMade (state S.Store conn.old)
         → IfOk result (λ rows. IsPermutation
@@ -107,16 +137,8 @@ pub(crate) fn show_cusip<S: Alter>(
         → IsTrue (state S.Store conn.new).is_open
         → IsMade (state S.Store conn.old)
         → StaysMade (state S.Store conn.old) (state S.Store conn.new) }
+    ensures no_fault { OnOk result (refusals.new ≡ refusals.old) }
+    ensures counts { IfErr result (CountsFault refusals.old.faults.count refusals.new.faults.count) }
 {
-    conn.query_all(OF_CUSIP, &[ValueRef::Text(&cusip.bytes)])
-}
-
-/// What a keeper answers where a statement was refused.
-pub(crate) fn refusal(error: Error) -> KeeperFault
-    ensures { (result ≡ KeeperFault.OutOfMemory) ↔ (error ≡ Error.SqliteFailure ErrorCode.OutOfMemory) }
-{
-    match error {
-        Error::SqliteFailure(ErrorCode::OutOfMemory) => KeeperFault::OutOfMemory,
-        _ => KeeperFault::Failed,
-    }
+    ask(conn, OF_CUSIP, &[ValueRef::Text(&cusip.bytes)], refusals)
 }

@@ -6,8 +6,8 @@ use Rattle.tb_filing.proofs.PutLemmas.{put-same}
 use Rattle.tb_filing.proofs.SameLemmas.{equal_rows}
 use Rattle.tb_filing.proofs.filing.put.Goals as goal
 
-pub returns-in-Some : goal.returns-in-Some
-returns-in-Some g c =
+pub returns-in-Some-clause-put : goal.returns-in-Some-clause-put
+returns-in-Some-clause-put g c =
     let old : KeeperState = g.K.Keeper.keeper c.args.keeper.now in
     let new : KeeperState = g.K.Keeper.keeper c.put.new.self in
     put-same c.args.row.now old new c.in-Some.found

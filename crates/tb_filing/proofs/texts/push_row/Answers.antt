@@ -1,5 +1,5 @@
 -- The words of a row were put, and then the end of the line.
-use Rattle.std.proofs.Common.{◌≡◌, ◌∷◌, ◌++◌, ap, ◌∙◌}
+use Rattle.std.proofs.Common.{◌∷◌, ◌++◌, ap, ◌∙◌}
 use Rattle.tb_units.specs.Bytes.{blank}
 use Rattle.tb_register.specs.Rows.{kept}
 use Rattle.tb_filing.proofs.TextLemmas.{row-line}

@@ -7,5 +7,5 @@ use Rattle.tb_register_sql.proofs.reading.in_order.Goals as goal
 
 pub returns-clause-moved : goal.returns-clause-moved
 returns-clause-moved c =
-    subst (λ rows. IsPermutation rows (map kept c.sort.new.rows.items)) c.in_ok-rows.ensures
+    subst (λ rows. IsPermutation rows (map kept c.sort.new.rows.items)) c.in_ok-rows.ensures.read
     (IsPermutation-map kept c.in_ok-rows.rows.items c.sort.new.rows.items c.sort.ensures.moved)

@@ -3,7 +3,7 @@ use Rattle.std.proofs.Common.{subst, refl}
 use Rattle.std.specs.Option.{option_map}
 use Rattle.sqlite.specs.Held.{state}
 use Rattle.sqlite.specs.Order.{Row}
-use Rattle.sqlite.specs.State.{Executes}
+use Rattle.tb_register_sql.specs.Statements.{Ran}
 use Rattle.tb_register.specs.Rows.{kept, kept_figures}
 use Rattle.tb_register_sql.specs.Auctions.{insert_text}
 use Rattle.tb_register_sql.proofs.AddedLemmas.{row_added, insert_refused, bound_figure}
@@ -12,10 +12,10 @@ use Rattle.tb_register_sql.proofs.statements.insert.Goals as goal
 pub returns-clause-added : goal.returns-clause-added
 returns-clause-added g c clean is_open was free =
     let old = state g.S.Store c.args.conn.now in
-    let new = state g.S.Store c.execute.new.self in
+    let new = state g.S.Store c.run.new.conn in
     let figures = option_map kept_figures c.args.row.now.figures in
-    row_added old new (kept c.args.row.now) c.execute.result was free
-    (subst (λ (params : Row). Executes insert_text params old new c.execute.result)
+    row_added old new (kept c.args.row.now) c.run.result was free
+    (subst (λ (params : Row). Ran insert_text params old new c.run.result)
     (rw (
       c.bytes.ensures.bytes,
       c.day.ensures,
@@ -28,10 +28,10 @@ returns-clause-added g c clean is_open was free =
       bound_figure (λ f. f.high) figures,
       bound_figure (λ f. f.percent) figures,
       bound_figure (λ f. f.price) figures,
-    ) refl) (c.execute.ensures.runs clean))
+    ) refl) (c.run.ensures.ran clean))
 
 pub returns-clause-refused : goal.returns-clause-refused
 returns-clause-refused g c clean is_open was =
     let old = state g.S.Store c.args.conn.now in
-    let new = state g.S.Store c.execute.new.self in
-    insert_refused old new _ c.execute.result was is_open (c.execute.ensures.runs clean)
+    let new = state g.S.Store c.run.new.conn in
+    insert_refused old new _ c.run.result was is_open (c.run.ensures.ran clean)

@@ -9,14 +9,14 @@ use Rattle.tb_register_sql.proofs.statements.show_cusip.Goals as goal
 pub returns-clause-rows : goal.returns-clause-rows
 returns-clause-rows g c clean was =
     let old = state g.S.Store c.args.conn.now in
-    let new = state g.S.Store c.query_all.new.self in
-    IfOk-weaker c.query_all.result _ _
+    let new = state g.S.Store c.ask.new.conn in
+    IfOk-weaker c.ask.result _ _
     (λ rows shown. shows_cusip old new c.args.cusip.now.bytes rows.items was.schema shown)
-    (c.query_all.ensures.ok clean)
+    (c.ask.ensures.shown clean)
 
 pub returns-clause-same : goal.returns-clause-same
 returns-clause-same g c clean is_open was =
     let old = state g.S.Store c.args.conn.now in
-    let new = state g.S.Store c.query_all.new.self in
-    query_stays old new of_cusip_text _ (λ rows. rows.items) c.query_all.result was is_open (of_cusip_is_plain old was)
-    (c.query_all.ensures.ok clean) (c.query_all.ensures.err clean)
+    let new = state g.S.Store c.ask.new.conn in
+    query_stays old new of_cusip_text _ (λ rows. rows.items) c.ask.result was is_open (of_cusip_is_plain old was)
+    (c.ask.ensures.shown clean) (c.ask.ensures.refused clean)
