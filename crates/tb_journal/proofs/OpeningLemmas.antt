@@ -183,14 +183,13 @@ abbrev pub Refuses : JournalFault → Past → Past → Type 0
 Refuses fault before now = IsTrueOf (contents_of before) (Err fault) × LeavesRefused fault before now
     × IsHarmless before now
 
--- a fault of the disk, or want of memory
-refuses_disk : (fault : JournalFault) (before now : Past) → (fault ≡ DiskFault) ⊎ (fault ≡ OutOfMemory)
+-- a fault of the disk
+refuses_disk : (fault : JournalFault) (before now : Past)
+    → fault ≡ DiskFault
     → BreaksOff before now
     → IsHarmless before now
     → Refuses fault before now
-refuses_disk fault before now (inl is) broken harmless =
-    subst (λ (answer : JournalFault). Refuses answer before now) (sym is) (tt, broken, harmless)
-refuses_disk fault before now (inr is) broken harmless =
+refuses_disk fault before now is broken harmless =
     subst (λ (answer : JournalFault). Refuses answer before now) (sym is) (tt, broken, harmless)
 
 -- an opening that did nothing, or a sync, is broken off
@@ -230,7 +229,7 @@ pub measuring_fails : (fault : JournalFault) (old new : DiskState) → fault ≡
     → Told old new SyncsOrNot → Told old new (Refuses fault)
 measuring_fails fault old new is = Told-weaker SyncsOrNot (Refuses fault) old new
     (λ before now part.
-    refuses_disk fault before now (inl is) (breaks_reading before now part) (read_fails before now part))
+    refuses_disk fault before now is (breaks_reading before now part) (read_fails before now part))
 
 -- an empty journal couldn't be made
 pub find_making_fails : (fault : JournalFault) (size : ℕ) (old mid new : DiskState) → fault ≡ DiskFault
@@ -238,7 +237,7 @@ pub find_making_fails : (fault : JournalFault) (size : ℕ) (old mid new : DiskS
 find_making_fails fault size old mid new is short = Told-both (Measures size) MadeInPart (Refuses fault) old mid new
     (λ before mid now measures part. (
     let within : length (contents_of before) ≤ 18 = omega (arith, short, measures.1) in
-    refuses_disk fault before now (inl is) (breaks_making before mid now measures.0 within part)
+    refuses_disk fault before now is (breaks_making before mid now measures.0 within part)
     (making_fails before mid now measures.0 within part)))
 
 -- at most 18 bytes stand for no payload

@@ -265,7 +265,7 @@ walked_broken form (Some past) size ordinal place (Damaged at) long measured kno
 walked_broken form (Some past) size ordinal place DiskFault long measured known stops = tt
 walked_broken form (Some past) size ordinal place (NotAJournal found) long measured known stops = absurd stops
 walked_broken form (Some past) size ordinal place (Unsealed byte) long measured known stops = absurd stops
-walked_broken form (Some past) size ordinal place OutOfMemory long measured known stops = tt
+walked_broken form (Some past) size ordinal place OutOfMemory long measured known stops = absurd stops
 
 -- the first gate is within a file that is longer than an empty journal
 pub first_within : (form : Form) → first_place form ≤ empty_of form

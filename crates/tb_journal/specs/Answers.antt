@@ -19,14 +19,23 @@ abbrev pub IsUnsealedIn : Form → List ℕ → ℕ → Type 0
 IsUnsealedIn First file byte = ⊥
 IsUnsealedIn Second file byte = IsUnsealed file byte
 
--- the answer is true of the file
+-- the answer is true of the file: where memory ran out it is a journal
 abbrev pub IsTrueIn : Form → List ℕ → Answer → Type 0
 IsTrueIn form file (Ok payloads) = StandsIn form payloads file
 IsTrueIn form file (Err (NotAJournal found)) = IsForeignTo form file found
 IsTrueIn form file (Err (Unsealed byte)) = IsUnsealedIn form file byte
 IsTrueIn form file (Err (Damaged place)) = IsDamagedIn form file place
 IsTrueIn form file (Err DiskFault) = Unit {0}
-IsTrueIn form file (Err OutOfMemory) = Unit {0}
+IsTrueIn form file (Err OutOfMemory) = (payloads : List (List ℕ)) × StandsIn form payloads file
+
+-- a walk to the gate takes no memory, and finds no seal in the first form
+abbrev pub ComesOfWalk : JournalFault → Form → Type 0
+ComesOfWalk OutOfMemory form = ⊥
+ComesOfWalk (Unsealed byte) First = ⊥
+ComesOfWalk (Unsealed byte) Second = Unit {0}
+ComesOfWalk (NotAJournal found) form = Unit {0}
+ComesOfWalk (Damaged place) form = Unit {0}
+ComesOfWalk DiskFault form = Unit {0}
 
 -- the answer speaks of the file, and not of a failing disk or of memory
 abbrev pub SpeaksOfFile : Answer → Type 0

@@ -8,7 +8,7 @@ ghost use Rattle.tb_disk.specs.Past.{Then, contents_of};
 ghost use Rattle.tb_journal.specs.Journal.{Told, SyncsOrNot};
 ghost use Rattle.tb_journal.specs.Places.{ReadsSome, StandsAtIn, GivesFrameIn, StandsBetweenIn};
 ghost use Rattle.tb_journal.specs.Windows.{Shows};
-ghost use Rattle.tb_journal.specs.Answers.{IsTrueIn, IsExactIn, IsExactAtIn};
+ghost use Rattle.tb_journal.specs.Answers.{ComesOfWalk, IsTrueIn, IsExactIn, IsExactAtIn};
 
 use crate::device::read_frame;
 use crate::fault::{DiskFault, JournalFault};
@@ -37,6 +37,7 @@ fn find_first<D: Disk>(disk: &mut D) -> Result<u64, JournalFault>
     ensures behind { IfOk result (λ gate. 16 ≤ gate) }
     ensures err { IfErr result (λ why. Told (D.disk disk.old) (D.disk disk.new) (λ before now.
         SyncsOrNot before now × IsTrueIn First (contents_of before) (Err why))) }
+    ensures walks { IfErr result (λ why. ComesOfWalk why First) }
     ensures fault { IfErr result (λ why. why ≡ fault.DiskFault
         → Rose (D.disk disk.old).faults (D.disk disk.new).faults) }
     ensures no_fault { OnOk result ((D.disk disk.new).faults ≡ (D.disk disk.old).faults) }
@@ -72,6 +73,8 @@ impl<'d, D: Disk> FirstJournal<'d, D> {
             (λ past. IsExactAtIn First journal.gate (contents_of past))) }
         ensures exact_refusal { IfErr result (λ refused. IfSome (D.disk disk.old).past
             (λ past. IsExactIn First (contents_of past) (Err refused.1))) }
+        // It is never refused for want of memory, or as unsealed.
+        ensures walks { IfErr result (λ refused. ComesOfWalk refused.1 First) }
         ensures fault { IfErr result (λ refused. refused.1 ≡ fault.DiskFault
             → Rose (D.disk disk.old).faults (D.disk refused.0.now).faults) }
         ensures no_fault { IfOk result (λ journal. (D.disk journal.disk.now).faults ≡ (D.disk disk.old).faults) }

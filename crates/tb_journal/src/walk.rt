@@ -10,7 +10,7 @@ ghost use Rattle.tb_journal.specs.Journal.{Told, SyncsOrNot};
 ghost use Rattle.tb_journal.specs.Opening.{Measures};
 ghost use Rattle.tb_journal.specs.Places.{EndsAt, PassesFrame, StopsAt};
 ghost use Rattle.tb_journal.specs.Windows.{Shows};
-ghost use Rattle.tb_journal.specs.Answers.{IsTrueIn};
+ghost use Rattle.tb_journal.specs.Answers.{ComesOfWalk, IsTrueIn};
 
 use crate::fault::JournalFault;
 use crate::form::Form;
@@ -44,6 +44,7 @@ fn read_title<D: Disk>(disk: &mut D, form: Form) -> Result<(), JournalFault>
     ensures ok { OnOk result (IfSome (D.disk disk.old).past (λ past. take 16 (contents_of past) ≡ title_of form)) }
     ensures err { IfErr result (λ fault. IfSome (D.disk disk.old).past
         (λ past. IsTrueIn form (contents_of past) (Err fault))) }
+    ensures walks { IfErr result (λ fault. ComesOfWalk fault form) }
     ensures kept { (D.disk disk.new).past ≡ (D.disk disk.old).past }
     ensures fault { IfErr result (λ fault. fault ≡ DiskFault → Rose (D.disk disk.old).faults (D.disk disk.new).faults) }
     ensures no_fault { OnOk result ((D.disk disk.new).faults ≡ (D.disk disk.old).faults) }
@@ -66,6 +67,7 @@ fn read_seal<D: Disk>(disk: &mut D) -> Result<(), JournalFault>
     ensures ok { OnOk result (IfSome (D.disk disk.old).past (λ past. slice_index (contents_of past) 16 ≡ sealed)) }
     ensures err { IfErr result (λ fault. IfSome (D.disk disk.old).past
         (λ past. IsTrueIn Second (contents_of past) (Err fault))) }
+    ensures walks { IfErr result (λ fault. ComesOfWalk fault Second) }
     ensures kept { (D.disk disk.new).past ≡ (D.disk disk.old).past }
     ensures fault { IfErr result (λ fault. fault ≡ DiskFault → Rose (D.disk disk.old).faults (D.disk disk.new).faults) }
     ensures no_fault { OnOk result ((D.disk disk.new).faults ≡ (D.disk disk.old).faults) }
@@ -88,6 +90,7 @@ fn read_header<D: Disk>(disk: &mut D, form: Form) -> Result<(), JournalFault>
         (λ past. take (first_place form) (contents_of past) ≡ header_of form)) }
     ensures err { IfErr result (λ fault. IfSome (D.disk disk.old).past
         (λ past. IsTrueIn form (contents_of past) (Err fault))) }
+    ensures walks { IfErr result (λ fault. ComesOfWalk fault form) }
     ensures kept { (D.disk disk.new).past ≡ (D.disk disk.old).past }
     ensures fault { IfErr result (λ fault. fault ≡ DiskFault → Rose (D.disk disk.old).faults (D.disk disk.new).faults) }
     ensures no_fault { OnOk result ((D.disk disk.new).faults ≡ (D.disk disk.old).faults) }
@@ -120,6 +123,7 @@ fn pass_frame<D: Disk>(
     ensures err { IfErr result (λ fault. IfSome (D.disk disk.old).past
         (λ past. StopsAt form ordinal place (contents_of past) fault)) }
     ensures window { Shows (D.disk disk.new) window.new }
+    ensures walks { IfErr result (λ fault. ComesOfWalk fault form) }
     ensures kept { (D.disk disk.new).past ≡ (D.disk disk.old).past }
     ensures fault { IfErr result (λ fault. fault ≡ DiskFault → Rose (D.disk disk.old).faults (D.disk disk.new).faults) }
     ensures no_fault { OnOk result ((D.disk disk.new).faults ≡ (D.disk disk.old).faults) }
@@ -155,6 +159,7 @@ pub fn find_gate<D: Disk>(disk: &mut D, form: Form, size: u64) -> Result<(u64, u
     ensures behind { IfOk result (λ found. (first_place form ≤ found.0) × (found.1 ≤ found.0)) }
     ensures err { IfErr result (λ fault. IfSome (D.disk disk.old).past
         (λ past. IsTrueIn form (contents_of past) (Err fault))) }
+    ensures walks { IfErr result (λ fault. ComesOfWalk fault form) }
     ensures kept { (D.disk disk.new).past ≡ (D.disk disk.old).past }
     ensures fault { IfErr result (λ fault. fault ≡ DiskFault → Rose (D.disk disk.old).faults (D.disk disk.new).faults) }
     ensures no_fault { OnOk result ((D.disk disk.new).faults ≡ (D.disk disk.old).faults) }

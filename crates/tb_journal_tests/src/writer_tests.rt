@@ -1,3 +1,4 @@
+//! Tests of a journal that is written anew. Its bytes were written by hand.
 ghost use Rattle.std.specs.Prelude.{◌≤◌};
 
 use std::alloc::Global;

@@ -1,3 +1,4 @@
+//! Tests of sources and sinks, in memory and over the standard library.
 use std::io::{self, ErrorKind, Read};
 use std::test::Fail;
 use tb_link::*;
