@@ -8,7 +8,7 @@ use Rattle.tb_message.specs.declared.version.Version.TheVariants.{First}
 use Rattle.tb_history.specs.Legal.{IsLegal}
 use Rattle.tb_desk.specs.declared.fault.MigrateFault.{MigrateFault}
 use Rattle.tb_desk.specs.declared.fault.MigrateFault.TheVariants.{From, SpareFault}
-use Rattle.tb_desk.specs.Replay.{IsExactIn}
+use Rattle.tb_desk.specs.Replay.{IsExactIn, IsSealed}
 use Rattle.tb_desk.specs.Stands.{StandsForHistory, StandsForHistoryIn}
 
 -- in the first version the file stood for this history, which is legal
@@ -45,3 +45,8 @@ pub record Migrated (first spare : Option Past) (count : ℕ) : Type 0 where
 abbrev pub IsExactRefusal : Option Past → MigrateFault → Type 0
 IsExactRefusal first (From why) = IfSome first (λ past. IsExactIn First (contents_of past) (Err why))
 IsExactRefusal first SpareFault = Unit {0}
+
+-- a journal of the first version has no seal, so that none is missing
+abbrev pub HasNoSeal : MigrateFault → Type 0
+HasNoSeal (From why) = IsSealed why
+HasNoSeal SpareFault = Unit {0}

@@ -56,6 +56,14 @@ IsTrueIn version file (Err (fault.Damaged place)) =
 IsTrueIn version file (Err fault.DiskFault) = Unit {0}
 IsTrueIn version file (Err fault.OutOfMemory) = Unit {0}
 
+-- the refusal isn't that a seal is missing
+abbrev pub IsSealed : OpenFault → Type 0
+IsSealed (fault.Unsealed byte) = ⊥
+IsSealed (fault.NotAJournal found) = Unit {0}
+IsSealed (fault.Damaged place) = Unit {0}
+IsSealed fault.DiskFault = Unit {0}
+IsSealed fault.OutOfMemory = Unit {0}
+
 -- the answer speaks of the file, and not of a failing disk or of memory
 abbrev pub SpeaksOfFile : Answer → Type 0
 SpeaksOfFile answer = (answer ≢ Err fault.DiskFault) × (answer ≢ Err fault.OutOfMemory)

@@ -163,15 +163,19 @@ impl<D: Disk> Desk<D> {
         }
     }
 
-    /// Takes the memory for a message, and for what is in doubt.
+    /// Takes the memory for a message, and for what is in doubt. It is wanting only where there is no room afterwards.
     pub fn make_room(&mut self, message: &Message) -> Result<(), OutOfMemory>
         ensures fits { OnOk result (Fits self.new.host.room (behind self.new.doubt message.now)) }
+        ensures lacks { OnErr result (¬ Fits self.new.host.room (behind self.new.doubt message.now)) }
         // All else stays, and no room is lost, whatever the result.
         ensures history { self.new.host.history ≡ self.old.host.history }
         ensures room { KeepsRoom self.old.host.room self.new.host.room }
         ensures same { IsSame self.old self.new }
     {
-        self.host.make_room(&self.doubt, message)
+        match self.host.make_room(&self.doubt, message) {
+            Err(_) if self.has_room(message) => Ok(()),
+            made => made,
+        }
     }
 
     /// Whether there is room for a message, and for what is in doubt.
@@ -404,14 +408,19 @@ impl<D: Disk> Desk<D> {
         reply
     }
 
-    /// Takes the memory for a group of bids, and for what is in doubt.
+    /// Takes the memory for a group of bids, and for what is in doubt. It is wanting only where there is no room
+    /// afterwards.
     pub fn make_room_group(&mut self, messages: &[(u64, Message)]) -> Result<(), OutOfMemory>
         ensures fits { OnOk result (Fits self.new.host.room (behind_all self.new.doubt messages.now)) }
+        ensures lacks { OnErr result (¬ Fits self.new.host.room (behind_all self.new.doubt messages.now)) }
         ensures history { self.new.host.history ≡ self.old.host.history }
         ensures room { KeepsRoom self.old.host.room self.new.host.room }
         ensures same { IsSame self.old self.new }
     {
-        self.host.make_room_group(&self.doubt, messages)
+        match self.host.make_room_group(&self.doubt, messages) {
+            Err(_) if self.has_room_group(messages) => Ok(()),
+            made => made,
+        }
     }
 
     /// Whether there is room for a group of bids, and for what is in doubt.

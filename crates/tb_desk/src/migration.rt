@@ -11,8 +11,8 @@ ghost use Rattle.tb_journal.specs.Journal.{Told, SyncsOrNot};
 ghost use Rattle.tb_journal.specs.Writing.{IsWriting, AddsAll, AddsAllInPart, Rewrites, RewritesInPart};
 ghost use Rattle.tb_desk.specs.declared.fault.OpenFault.TheVariants as open_fault;
 ghost use Rattle.tb_desk.specs.declared.fault.MigrateFault.TheVariants as fault;
-ghost use Rattle.tb_desk.specs.Replay.{IsExactIn};
-ghost use Rattle.tb_desk.specs.Migration.{Migrated, LeavesMigrated, IsExactRefusal};
+ghost use Rattle.tb_desk.specs.Replay.{IsExactIn, IsSealed};
+ghost use Rattle.tb_desk.specs.Migration.{HasNoSeal, Migrated, LeavesMigrated, IsExactRefusal};
 
 use crate::fault::{MigrateFault, OpenFault, lifted};
 use crate::replay::replay;
@@ -28,6 +28,7 @@ fn open_first<D: Disk>(alloc: Global, from: &mut D) -> Result<Host, OpenFault>
         (λ past. IsExactIn First (contents_of past) (Ok host.history))) }
     ensures exact_refusal { IfErr result (λ why. IfSome (D.disk from.old).past
         (λ past. IsExactIn First (contents_of past) (Err why))) }
+    ensures sealed { IfErr result IsSealed }
     ensures fault { IfErr result (λ why. why ≡ open_fault.DiskFault
         → Rose (D.disk from.old).faults (D.disk from.new).faults) }
     ensures no_fault { OnOk result ((D.disk from.new).faults ≡ (D.disk from.old).faults) }
@@ -98,6 +99,8 @@ pub fn migrate<D: Disk>(alloc: Global, from: &mut D, to: &mut D) -> Result<u64, 
     ensures crash { Told (D.disk to.old) (D.disk to.new) (LeavesMigrated (D.disk from.old).past) }
     // Each refusal of the first disk is given exactly where it is true of it, and the spare isn't touched then.
     ensures exact_refusal { IfErr result (IsExactRefusal (D.disk from.old).past) }
+    // A journal of the first version has no seal.
+    ensures sealed { IfErr result HasNoSeal }
     ensures untouched { IfErr result (λ why. why ≢ fault.SpareFault → D.disk to.new ≡ D.disk to.old) }
     ensures fault { IfErr result (λ why. why ≡ fault.From open_fault.DiskFault
         → Rose (D.disk from.old).faults (D.disk from.new).faults) }

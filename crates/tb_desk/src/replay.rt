@@ -10,7 +10,7 @@ ghost use Rattle.tb_journal.specs.Places.{StandsAtIn};
 ghost use Rattle.tb_desk.specs.declared.replay.Unfit.TheVariants as unfit;
 ghost use Rattle.tb_desk.specs.declared.fault.OpenFault.TheVariants as fault;
 ghost use Rattle.tb_desk.specs.Stands.{form_of, IsGroup};
-ghost use Rattle.tb_desk.specs.Replay.{IsNoGroupIn};
+ghost use Rattle.tb_desk.specs.Replay.{IsNoGroupIn, IsSealed};
 ghost use Rattle.tb_desk.specs.Replaying.{IsReplayedIn, IsReplayFaultIn};
 
 use crate::fault::OpenFault;
@@ -108,6 +108,7 @@ fn enter_all<J: Frames>(journal: &mut J, host: &mut Host) -> Result<(), OpenFaul
     requires empty { host.old.history ≡ [] }
     ensures found { OnOk result (IsReplayedIn J.version (J.disk journal.old) (J.gate journal.old) host.new.history) }
     ensures refused { IfErr result (IsReplayFaultIn J.version (J.disk journal.old) (J.gate journal.old)) }
+    ensures sealed { IfErr result IsSealed }
     ensures kept { (J.disk journal.new).past ≡ (J.disk journal.old).past }
     ensures same { (J.gate journal.new ≡ J.gate journal.old) × (J.doubt journal.new ≡ J.doubt journal.old)
         × (J.name journal.new ≡ J.name journal.old) }
@@ -142,6 +143,7 @@ pub fn replay<J: Frames>(alloc: Global, journal: &mut J) -> Result<Host, OpenFau
     ensures found { IfOk result
         (λ host. IsReplayedIn J.version (J.disk journal.old) (J.gate journal.old) host.history) }
     ensures refused { IfErr result (IsReplayFaultIn J.version (J.disk journal.old) (J.gate journal.old)) }
+    ensures sealed { IfErr result IsSealed }
     ensures kept { (J.disk journal.new).past ≡ (J.disk journal.old).past }
     ensures same { (J.gate journal.new ≡ J.gate journal.old) × (J.doubt journal.new ≡ J.doubt journal.old)
         × (J.name journal.new ≡ J.name journal.old) }

@@ -1,3 +1,4 @@
+//! A journal of the first version is written anew in the second. Its bytes were written by hand.
 use std::alloc::Global;
 use std::process::Abort;
 use tb_desk::*;

@@ -1,3 +1,4 @@
+//! Tests of the desk through its public calls: replies, repeats, and what an opening finds.
 ghost use Rattle.tb_message.specs.Spelling.{IsNumbered};
 
 use std::alloc::Global;

@@ -47,7 +47,7 @@ module _ {K : Type 0} where
   MayReturn new None = Unit {0}
   MayReturn new (Some link) = MayTakeBack new
 
-  -- the gate gives its next link, or none; an accept that was tried again may have counted faults
+  -- the gate gives its next link, or none, and no fault is counted
   pub record NextLink (old new : GateState K) (link : Option K) : Type 0 where
     pub left : old.left ≡ before_links (option_to_list link) new.left
     pub back : new.back ≡ old.back
@@ -55,7 +55,7 @@ module _ {K : Type 0} where
     pub most : new.given ≤ most_links
     pub at_end : IsGiven old link
     pub returns : MayReturn new link
-    pub count : NeverFalls old.faults new.faults
+    pub no_fault : new.faults ≡ old.faults
 
   -- a call that failed gave nothing and changed no list, and the count has risen
   pub record FailsToOpen (old new : GateState K) : Type 0 where
@@ -70,4 +70,4 @@ module _ {K : Type 0} where
     pub left : new.left ≡ old.left
     pub back : new.back ≡ after_links old.back (link ∷ [])
     pub given : new.given ≡ old.given
-    pub count : NeverFalls old.faults new.faults
+    pub no_fault : new.faults ≡ old.faults

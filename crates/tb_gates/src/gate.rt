@@ -14,7 +14,7 @@ pub trait Gate {
     /// faults.
     ghost gate: { Self → GateState Self.Conn };
 
-    /// The next link, `None` exactly where no link is left. An accept that is tried again may count faults and succeed.
+    /// The next link, `None` exactly where no link is left. A fault is counted exactly where one is answered.
     fn next(&mut self) -> Result<Option<Self::Conn>, Failed>
         ensures gives { IfOk result (NextLink (gate self.old) (gate self.new)) }
         ensures fails { OnErr result (FailsToOpen (gate self.old) (gate self.new)) };

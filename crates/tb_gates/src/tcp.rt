@@ -1,6 +1,5 @@
 //! Links over sockets, which tell no bytes.
-ghost use Rattle.std.specs.Prelude.{◌≡◌, ◌+◌, ◌≤◌, ◌↔◌, length, IfOk, IfNone, IsNone, OnErr, option_to_list};
-ghost use Rattle.tb_link.specs.Counts.{Rose, NeverFalls};
+ghost use Rattle.std.specs.Prelude.{◌≡◌, ◌+◌, ◌≤◌, ◌↔◌, length, IfOk, IsNone, OnErr, option_to_list};
 ghost use Rattle.tb_gates.specs.Gates.{most_links, NextLink, FailsToOpen};
 
 use crate::gate::Gate;
@@ -93,7 +92,8 @@ impl Link for TcpConn {
     ghost source_is = { λ link. refl };
 }
 
-/// The links that come in at a listener, at most so many.
+/// The links that come in at a listener, at most so many. Its count of faults rises where an accept failed each time that
+/// it was tried.
 #[derive(Drop)]
 pub struct TcpGate<'a> {
     listener: &'a TcpListener,
@@ -121,32 +121,14 @@ impl<'a> TcpGate<'a> {
 // How often in a row an accept is tried.
 const TRIES: u64 = 16;
 
-// One try. An error raises the count.
-fn try_accept(listener: &TcpListener, faults: &mut Faults) -> Option<TcpStream>
-    ensures count { NeverFalls faults.old.count faults.new.count }
-    ensures rose { IfNone result (Rose faults.old.count faults.new.count) }
-{
-    match listener.accept() {
-        Ok((stream, _)) => Some(stream),
-        Err(_) => {
-            faults.rise();
-            None
-        }
-    }
-}
-
 // The next stream, tried a fixed number of times in a row.
-#[tactic(auto, using(crate::proofs::CountRules::counts))]
-fn accept(listener: &TcpListener, faults: &mut Faults) -> Option<TcpStream>
-    ensures count { NeverFalls faults.old.count faults.new.count }
-    ensures rose { IfNone result (Rose faults.old.count faults.new.count) }
-{
-    for _ in 1..TRIES {
-        if let Some(stream) = try_accept(listener, faults) {
+fn accept(listener: &TcpListener) -> Option<TcpStream> {
+    for _ in 0..TRIES {
+        if let Ok((stream, _)) = listener.accept() {
             return Some(stream);
         }
     }
-    try_accept(listener, faults)
+    None
 }
 
 impl Gate for TcpGate<'_> {
@@ -167,13 +149,13 @@ impl Gate for TcpGate<'_> {
         if self.left == 0 {
             return Ok(None);
         }
-        match accept(self.listener, &mut self.faults) {
+        match accept(self.listener) {
             Some(stream) => {
                 self.left -= 1;
                 self.given += 1;
                 Ok(Some(TcpConn::new(stream)))
             }
-            None => Err(Failed),
+            None => Err(self.faults.rise()),
         }
     }
 

@@ -80,6 +80,7 @@ module _ (fixed other : List ℕ) (operators : operator_in fixed ≡ operator_in
       order = is.order;
       fault = is.fault;
       finished = is.finished;
+      no_fault = is.no_fault;
     }
 
     -- and all gates

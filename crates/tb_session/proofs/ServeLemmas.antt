@@ -64,6 +64,7 @@ module _ {D C G K : Type 0} (gate : G → GateState K) (source : K → SourceSta
       };
       fault = worked.works.failed;
       finished = worked.works.finished;
+      no_fault = worked.works.no_fault;
     }
 
     one_answered : All (λ m. IsAnswered v.fixed m.history m.called m.before m.after m.readings) made

@@ -8,8 +8,8 @@ use Rattle.tb_wire.specs.declared.cutting.Cutting.TheVariants.{More}
 use Rattle.tb_wire.specs.Front.{IsFront}
 use Rattle.tb_session.specs.declared.end.End.{End}
 use Rattle.tb_session.specs.declared.end.End.TheVariants as end
-use Rattle.tb_session.specs.Inbox.{FailsOnce, FindsEnd, FindsFault, NeedsReads, ReadsNoneAhead, ReadsOnce}
-use Rattle.tb_session.specs.Session.{EndsInTurn, Exchange, NeverReadsAhead, RepliesInTurn, TakeTurns, Wrote}
+use Rattle.tb_session.specs.Inbox.{NeedsReads, ReadsNoneAhead, ReadsOnce}
+use Rattle.tb_session.specs.Session.{EndsInTurn, Exchange, NeverReadsAhead, TakeTurns}
 
 -- where the link is as it was nothing was read
 pub ahead-nothing : (a : LinkState) (waiting : List ℕ) → ReadsNoneAhead a a waiting []

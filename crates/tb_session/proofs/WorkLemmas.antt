@@ -22,8 +22,8 @@ use Rattle.tb_session.specs.Work.{Served, calls_of_link, calls_of_links, Passed,
 use Rattle.tb_session.proofs.GainLemmas.{gains-nothing, gains-then}
 
 -- a count that stays hasn't fallen
-falls-self : (n : ℕ) → NeverFalls n n
-falls-self n = record { never_falls = omega arith; bounded = λ low. low }
+falls-same : (old new : ℕ) → new ≡ old → NeverFalls old new
+falls-same old new same = record { never_falls = omega (arith, same); bounded = λ low. omega (arith, same, low) }
 
 module _ {K : Type 0} where
   -- no link before those left, and two lists of links, one before the other
@@ -54,7 +54,7 @@ module _ {K : Type 0} where
     left = sym (before-none a.left);
     back = sym (after-none a.back);
     given = omega arith;
-    count = falls-self a.faults;
+    count = falls-same a.faults a.faults refl;
   }
 
   -- two lists of links were, one after the other
@@ -80,7 +80,7 @@ module _ {K : Type 0} where
     left = next.left ∙ ap (λ l. before_links (s.given ∷ []) l) (sym takes.left);
     back = takes.back ∙ ap (λ l. after_links l (s.back ∷ [])) next.back;
     given = omega (arith, next.given, takes.given);
-    count = NeverFalls-trans a.faults b.faults c.faults next.count takes.count;
+    count = falls-same a.faults c.faults (takes.no_fault ∙ next.no_fault);
   }
 
   -- the gate gave no link
@@ -89,7 +89,7 @@ module _ {K : Type 0} where
     left = next.left;
     back = next.back ∙ sym (after-none a.back);
     given = omega (arith, next.given);
-    count = next.count;
+    count = falls-same a.faults b.faults next.no_fault;
   }
 
   -- the gate failed
@@ -157,11 +157,13 @@ module _ {D C G K : Type 0} (gate : G → GateState K) (source : K → SourceSta
 
     -- the gate has no link left
     pub works-finished : (opened : G) → NextLink (gate w.gate) (gate opened) None
+        → (gate w.gate).faults ≡ (gate w0.gate).faults
         → Works gate source sink w0 (record w { gate = opened; failed = false })
-    works-finished opened next = record {
+    works-finished opened next same = record {
       on = works_gate opened false (passed-none (gate w.gate) (gate opened) next);
       failed = λ is. absurd (let bad : ⊥ = cc in bad);
       finished = λ is. none-left (gate w.gate) (gate opened) next;
+      no_fault = λ is. next.no_fault ∙ same;
     }
 
     -- the gate failed
@@ -172,4 +174,5 @@ module _ {D C G K : Type 0} (gate : G → GateState K) (source : K → SourceSta
       failed = λ is. Rose-later (gate w0.gate).faults (gate w.gate).faults (gate opened).faults
           on.passed.count fails.rose;
       finished = λ is. absurd (let bad : ⊥ = cc in bad);
+      no_fault = λ is. absurd (let bad : ⊥ = cc in bad);
     }

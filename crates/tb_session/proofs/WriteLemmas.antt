@@ -1,5 +1,5 @@
 -- Replies that are written on a link.
-use Rattle.std.proofs.Common.{◌≡◌, ℕ, List, [], refl, sym, ap, ◌∙◌, subst, inl, inr}
+use Rattle.std.proofs.Common.{◌≡◌, ℕ, List, refl, sym, ap, ◌∙◌, subst, inl, inr}
 use Rattle.std.specs.Prelude.{Bool, Option, Result, Ok, Err, OnOk, OnErr}
 use Rattle.tb_link.specs.declared.source.Failed.{Failed}
 use Rattle.tb_link.specs.Sinks.{SinkState, Takes, FailsToTake}

@@ -12,6 +12,19 @@ use Rattle.tb_session.specs.declared.end.End.TheVariants as end
 use Rattle.tb_session.specs.declared.inbox.Unread.{Unread}
 use Rattle.tb_session.specs.declared.inbox.Unread.TheVariants as unread
 
+-- while a request isn't whole so many bytes of it wait at most: a head has 8,192 and a body 4,096
+abbrev pub most_waiting : ℕ
+most_waiting = 12288
+
+-- so many bytes of a link are kept at most: those, and what is read at once behind them
+abbrev pub most_kept : ℕ
+most_kept = 16384
+
+-- of the bytes that are kept so many are used, and they are few
+pub record IsKept (used kept : ℕ) : Type 0 where
+  pub within : used ≤ kept
+  pub few : kept ≤ most_kept
+
 -- the input has ended, where the link tells its bytes
 abbrev pub AtEnd : LinkState → Type 0
 AtEnd link = IfSome link.source.left (λ left. left ≡ [])

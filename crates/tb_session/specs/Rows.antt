@@ -1,5 +1,5 @@
 -- Bids of one key that wait in a row, and their replies.
-use Rattle.std.specs.Prelude.{◌≡◌, ℕ, ◌<◌, ◌≤◌, List, [], ◌∷◌, ◌++◌, length, take, drop, Result, Ok, Err, false}
+use Rattle.std.specs.Prelude.{◌≡◌, ℕ, ◌<◌, ◌≤◌, List, [], ◌∷◌, length, take, drop, Result, Ok, Err, false}
 use Rattle.tb_gates.specs.Links.{LinkState}
 use Rattle.tb_message.specs.declared.key.Key.{Key}
 use Rattle.tb_message.specs.declared.message.Message.{Message}

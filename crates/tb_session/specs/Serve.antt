@@ -54,13 +54,15 @@ some_failed runs = list_any (λ run. run.failed) runs
 module _ {G K : Type 0} (gate : G → GateState K) (source : K → SourceState) (sink : K → SinkState) (fixed : List ℕ)
   where
     -- A gate gave these links, each was served, and their calls are turns along which the histories grow and the counts
-    -- rise, of faults and of the clock's readings. It gave all that it had, or failed, and its count of faults rose.
+    -- rise, of faults and of the clock's readings. It gave all that it had, and its count of faults stayed; or it failed,
+    -- and the count rose.
     pub record IsRun (old new : G) (run : Run K) : Type 0 where
       pub passed : Passed (gate old) (gate new) run.links
       pub sessions : All (IsServed source sink fixed) run.links
       pub order : AreTurns (calls_of_links run.links)
       pub fault : run.failed ≡ true → Rose (gate old).faults (gate new).faults
       pub finished : run.failed ≡ false → IfSome (gate new).left (λ left. left ≡ [])
+      pub no_fault : run.failed ≡ false → (gate new).faults ≡ (gate old).faults
 
     -- the same of each gate, in their order
     abbrev pub AreRuns : List G → List G → List (Run K) → Type 0

@@ -12,11 +12,12 @@ use Rattle.tb_message.specs.declared.verdict.Verdict.{Verdict}
 use Rattle.tb_message.specs.declared.verdict.Verdict.TheVariants as verdict
 use Rattle.tb_message.specs.Spelling.{IsNumbered}
 use Rattle.tb_history.specs.Legal.{IsLegal}
+use Rattle.tb_core.specs.Rooms.{Fits, behind}
 use Rattle.tb_report.specs.Readings.{IsPrintable}
 use Rattle.tb_gates.specs.Clocks.{ClockState, ReadsClock}
 use Rattle.tb_desk.specs.Turn.{Held, IsOneOf}
 use Rattle.tb_desk.specs.Stands.{CrashesLeave}
-use Rattle.tb_desk.specs.Desks.{IsSame, held}
+use Rattle.tb_desk.specs.Desks.{DeskView, IsSame, held}
 use Rattle.tb_session.specs.declared.answer.Answer.{Answer}
 use Rattle.tb_session.specs.declared.answer.Answer.TheVariants as answer
 use Rattle.tb_session.specs.declared.called.Ask.{Ask}
@@ -99,6 +100,11 @@ CanBeTold other = Unit {0}
 abbrev pub IsNumberedAsk : Ask → Type 0
 IsNumberedAsk (ask.Message number message) = IsNumbered number message
 IsNumberedAsk other = Unit {0}
+
+-- a desk has no room for the message that is asked, behind what is in doubt
+abbrev pub LacksRoom : {D : Type 0} → Ask → DeskView D → Type 0
+LacksRoom (ask.Message number message) desk = ¬ Fits desk.host.room (behind desk.doubt message)
+LacksRoom other desk = Unit {0}
 
 -- why what was asked couldn't be read
 abbrev pub IsFaultOf : Ask → Refusal → Type 0

@@ -59,3 +59,5 @@ module _ {D C G K : Type 0} (gate : G → GateState K) (source : K → SourceSta
     pub on : WorksOn old new
     pub failed : new.failed ≡ true → Rose (gate old.gate).faults (gate new.gate).faults
     pub finished : new.failed ≡ false → IfSome (gate new.gate).left (λ left. left ≡ [])
+    -- no fault of the gate is passed over
+    pub no_fault : new.failed ≡ false → (gate new.gate).faults ≡ (gate old.gate).faults

@@ -5,6 +5,7 @@ ghost use Rattle.tb_link.specs.Counts.{NeverFalls, Rose, last_count};
 ghost use Rattle.tb_message.specs.declared.message.Entry.{Entry};
 ghost use Rattle.tb_message.specs.Spelling.{IsNumbered};
 ghost use Rattle.tb_history.specs.Legal.{IsLegal, running};
+ghost use Rattle.tb_core.specs.Rooms.{Fits, behind};
 ghost use Rattle.tb_desk.specs.Desks.{held};
 ghost use Rattle.tb_desk.specs.Stands.{CrashesLeave};
 ghost use Rattle.tb_desk.specs.Turn.{IsOneOf};
@@ -12,7 +13,7 @@ ghost use Rattle.tb_session.specs.declared.answer.Answer.TheVariants as answer;
 ghost use Rattle.tb_session.specs.declared.called.Called.{Called};
 ghost use Rattle.tb_session.specs.declared.called.Ask.TheVariants as ask;
 ghost use Rattle.tb_session.specs.Calls.{TellsUnknown, caller_on, fault_for};
-ghost use Rattle.tb_session.specs.Turned.{Calls, CanBeTold, Does, IsFaultOf, IsNumberedAsk, LeavesDesk, before_of, message_call, outcome_by, query_call};
+ghost use Rattle.tb_session.specs.Turned.{Calls, CanBeTold, Does, IsFaultOf, IsNumberedAsk, LacksRoom, LeavesDesk, before_of, message_call, outcome_by, query_call};
 
 use crate::answer::Answer;
 use crate::called::{Ask, Called, Outcome};
@@ -37,12 +38,15 @@ impl<D: Disk, C: Clock> Room<D, C> {
     }
 
     /// Answers a message of the key's caller, at a reading of the clock. An unknown key is refused before memory is
-    /// taken. Where memory runs out the desk is as it was, its disk with it.
+    /// taken. Where memory runs out the desk is as it was, its disk with it, and that is answered only where the desk has
+    /// no room for the message then.
     pub fn submit(&mut self, key: &Key, number: u64, message: &Message) -> Answer
         requires numbered { IsNumbered number message.now }
         ensures calls { (c : Called) × (c.key ≡ key.now) × (c.ask ≡ ask.Message number message.now)
             × Calls D.disk C.clock self.old self.new c result }
         ensures lacked { result ≡ answer.OutOfMemory → LeavesDesk self.old self.new }
+        ensures lacks { result ≡ answer.OutOfMemory
+            → ¬ Fits self.new.desk.host.room (behind self.new.desk.doubt message.now) }
         ensures unknown { TellsUnknown (caller_on self.old.operator self.old.desk.host.history key.now) result }
         ensures unasked { caller_on self.old.operator self.old.desk.host.history key.now ≡ None
             → self.new.desk ≡ self.old.desk }
@@ -149,6 +153,8 @@ impl<D: Disk, C: Clock> Room<D, C> {
             (D.disk self.new.desk.disk) }
         ensures printable { CanBeTold result.1 }
         ensures lacked { result.1 ≡ answer.OutOfMemory → LeavesDesk self.old self.new }
+        ensures lacks { result.1 ≡ answer.OutOfMemory
+            → ¬ Fits self.new.desk.host.room (behind self.new.desk.doubt message.now) }
         ensures unknown { TellsUnknown (caller_on self.old.operator self.old.desk.host.history key.now) result.1 }
         ensures unasked { caller_on self.old.operator self.old.desk.host.history key.now ≡ None
             → self.new.desk ≡ self.old.desk }
@@ -186,6 +192,8 @@ impl<D: Disk, C: Clock> Room<D, C> {
         ensures before { result.before ≡ before_of result.called.outcome self.new.desk.host.history }
         ensures asked { (result.called.key ≡ key.now) × (result.called.ask ≡ ask.Message number message.now) }
         ensures lacked { result.answer ≡ answer.OutOfMemory → LeavesDesk self.old self.new }
+        ensures lacks { result.answer ≡ answer.OutOfMemory
+            → ¬ Fits self.new.desk.host.room (behind self.new.desk.doubt message.now) }
         ensures unknown { TellsUnknown (caller_on self.old.operator self.old.desk.host.history key.now) result.answer }
         ensures unasked { caller_on self.old.operator self.old.desk.host.history key.now ≡ None
             → self.new.desk ≡ self.old.desk }
@@ -284,6 +292,7 @@ impl<D: Disk, C: Clock> Room<D, C> {
         ensures calls { Calls D.disk C.clock self.old self.new result.called result.answer }
         ensures before { result.before ≡ before_of result.called.outcome self.new.desk.host.history }
         ensures asked { (result.called.key ≡ key.now) × (result.called.ask ≡ asked.now) }
+        ensures lacks { result.answer ≡ answer.OutOfMemory → LacksRoom asked.now self.new.desk }
     {
         match asked {
             Ask::Message { number, message } => self.message(key, *number, message),

@@ -4,6 +4,7 @@ ghost use Rattle.tb_terms.specs.declared.refusal.Refusal.TheVariants as refusal;
 ghost use Rattle.tb_message.specs.declared.verdict.Verdict.TheVariants as verdict;
 ghost use Rattle.tb_units.specs.declared.moment.Moment.{Moment};
 ghost use Rattle.tb_link.specs.Counts.{NeverFalls, Rose};
+ghost use Rattle.tb_core.specs.Rooms.{Fits, behind_all};
 ghost use Rattle.tb_desk.specs.Desks.{held};
 ghost use Rattle.tb_desk.specs.Stands.{CrashesLeave};
 ghost use Rattle.tb_desk.specs.Turn.{AreBids, AreNumbered, IsOneOf};
@@ -75,6 +76,8 @@ impl<D: Disk, C: Clock> Room<D, C> {
             × TellsGroup result verdicts.new (said_in replied)
             × TellUnknown (caller_on self.old.operator self.old.desk.host.history key.now) replied }
         ensures lacked { result ≡ group.OutOfMemory → LeavesDesk self.old self.new }
+        ensures lacks { result ≡ group.OutOfMemory
+            → ¬ Fits self.new.desk.host.room (behind_all self.new.desk.doubt messages.now) }
         ensures unasked { caller_on self.old.operator self.old.desk.host.history key.now ≡ None
             → self.new.desk ≡ self.old.desk }
         ensures fault { result ≡ group.DiskFault → Rose (D.disk self.old.desk.disk).faults
@@ -106,6 +109,8 @@ impl<D: Disk, C: Clock> Room<D, C> {
         ensures crash { CrashesLeave (IsOneOf (held self.old.desk) (held self.new.desk)) (D.disk self.old.desk.disk)
             (D.disk self.new.desk.disk) }
         ensures lacked { result ≡ grouped.Lacked → LeavesDesk self.old self.new }
+        ensures lacks { result ≡ grouped.Lacked
+            → ¬ Fits self.new.desk.host.room (behind_all self.new.desk.doubt messages.now) }
         ensures tells { TellsGroup (spec.answer_of result) verdicts.new
             (said_in (replied_by key.now moment result messages.now verdicts.new)) }
         ensures unknown { TellUnknown (caller_on self.old.operator self.old.desk.host.history key.now)
@@ -147,6 +152,8 @@ impl<D: Disk, C: Clock> Room<D, C> {
         ensures calls { CallsTogether D.disk C.clock self.old self.new key.now messages.now result.0
             (replied_by key.now result.0 result.1 messages.now verdicts.new) }
         ensures lacked { result.1 ≡ grouped.Lacked → LeavesDesk self.old self.new }
+        ensures lacks { result.1 ≡ grouped.Lacked
+            → ¬ Fits self.new.desk.host.room (behind_all self.new.desk.doubt messages.now) }
         ensures tells { TellsGroup (spec.answer_of result.1) verdicts.new
             (said_in (replied_by key.now result.0 result.1 messages.now verdicts.new)) }
         ensures unknown { TellUnknown (caller_on self.old.operator self.old.desk.host.history key.now)
@@ -177,6 +184,8 @@ impl<D: Disk, C: Clock> Room<D, C> {
         ensures calls { CallsTogether D.disk C.clock self.old self.new key.now bids.now.items result.moment
             (replied_by key.now result.moment result.came bids.now.items verdicts.new) }
         ensures lacked { result.came ≡ grouped.Lacked → LeavesDesk self.old self.new }
+        ensures lacks { result.came ≡ grouped.Lacked
+            → ¬ Fits self.new.desk.host.room (behind_all self.new.desk.doubt bids.now.items) }
         ensures tells { TellsGroup (spec.answer_of result.came) verdicts.new
             (said_in (replied_by key.now result.moment result.came bids.now.items verdicts.new)) }
         ensures told { told_together result ≡ told_group result.came (length self.new.desk.host.history)

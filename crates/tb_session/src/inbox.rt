@@ -1,7 +1,7 @@
 //! The bytes of a link that have come and aren't used yet.
 ghost use Rattle.std.specs.Prelude.{◌≡◌, ◌≤◌, ◌↔◌, [], IsTrue, drop, length, vec_len};
 ghost use Rattle.tb_gates.specs.Links.{link_of};
-ghost use Rattle.tb_session.specs.Inbox.{Fills};
+ghost use Rattle.tb_session.specs.Inbox.{Fills, most_kept, most_waiting};
 
 use std::alloc::Global;
 use std::marker::Model;
@@ -10,7 +10,7 @@ use tb_gates::Link;
 // Bytes of a link that are read at once, at most.
 const PIECE: usize = 4096;
 
-/// Contracts see the bytes that wait.
+/// Contracts see the bytes that wait. At most 16,384 bytes are kept, used ones among them.
 #[derive(Drop)]
 pub(crate) struct Inbox {
     bytes: Vec<u8>,
@@ -18,13 +18,14 @@ pub(crate) struct Inbox {
 }
 
 impl Model for Inbox {
-    ghost use Rattle.std.specs.Prelude.{ℕ, ◌≤◌, List, drop, vec_len};
+    ghost use Rattle.std.specs.Prelude.{ℕ, List, drop, vec_len};
+    ghost use Rattle.tb_session.specs.Inbox.{IsKept};
 
     ghost Value = { List ℕ };
 
     ghost view = { λ inbox. drop inbox.at inbox.bytes.items };
 
-    ghost invariant = { λ inbox. inbox.at ≤ vec_len inbox.bytes };
+    ghost invariant = { λ inbox. IsKept inbox.at (vec_len inbox.bytes) };
 }
 
 /// Why nothing was read.
@@ -47,7 +48,8 @@ impl Inbox {
 
     /// The bytes that wait.
     pub fn waiting(&self) -> &[u8]
-        ensures { result.now ≡ self.now }
+        ensures waiting { result.now ≡ self.now }
+        ensures few { length self.now ≤ most_kept }
     {
         &self.bytes[self.at..]
     }
@@ -67,21 +69,16 @@ impl Inbox {
         self.at += count;
     }
 
-    // Moves the bytes that wait to the front, where the used ones were.
-    fn settle(&mut self)
-        ensures { self.new ≡ self.old }
-    {
-        drop_front(&mut self.bytes, self.at);
-        self.at = 0;
-    }
-
     /// Reads the next bytes of the link, and says how many. Memory is taken first, so that no byte that was read is
     /// lost.
     pub fn fill<K: Link>(&mut self, link: &mut K) -> Result<usize, Unread>
+        requires few { length self.old ≤ most_waiting }
         ensures fills { Fills (link_of K.source K.sink link.old) (link_of K.source K.sink link.new)
             self.old self.new result }
     {
-        self.settle();
+        // The bytes that wait move to the front, where the used ones were: else a link would keep all that it ever read.
+        drop_front(&mut self.bytes, self.at);
+        self.at = 0;
         if self.bytes.reserve(PIECE).is_err() {
             return Err(Unread::OutOfMemory);
         }

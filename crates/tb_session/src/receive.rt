@@ -7,7 +7,7 @@ use crate::end::End;
 use crate::inbox::{Inbox, Unread};
 use std::alloc::Global;
 use tb_gates::Link;
-use tb_wire::{Cutting, HttpRequest, Routes, next_request};
+use tb_wire::{Cutting, HttpRequest, Routes, next_request, waits};
 
 /// Reads until a whole request waits, or the link ends.
 pub(crate) fn receive_request<K: Link>(
@@ -26,6 +26,8 @@ pub(crate) fn receive_request<K: Link>(
             Ok(Cutting::More) => {}
             Err(_) => return Err(End::OutOfMemory),
         }
+        // What isn't whole yet is little.
+        waits();
         match inbox.fill(link) {
             Ok(0) if inbox.is_empty() => return Err(End::EndOfInput),
             Ok(0) => return Err(End::CutShort),

@@ -260,3 +260,56 @@ fn bids_whose_reply_is_not_written_stand(rt: HostRuntime) {
     assert!(rt; ends(&rt, alloc, &mut room, &given, End::WriteFault, FIRST_REPLY));
     assert!(rt; room.expect(&rt, "a room").desk.entries() == 7);
 }
+
+/// Bids of the first dealer with these numbers, as they are posted.
+fn bids_between(rt: &impl Abort, alloc: Global, first: u64, last: u64) -> String {
+    let mut text = String::new(alloc);
+    for number in first..=last {
+        let bid = format!(in alloc;
+            "{{\"number\":{number},\"kind\":\"bid\",\"auction\":\"bill13\",\"bidder\":\"fund1\",\"rate\":\"4.300\",\
+            \"amount\":100}}"
+        )
+        .expect(rt, "memory");
+        text.push_str(&post(rt, alloc, "k1", &bid))
+            .expect(rt, "memory");
+    }
+    text
+}
+
+/// The replies to them where they are accepted.
+fn acceptances(rt: &impl Abort, alloc: Global, first: u64, last: u64) -> String {
+    let mut text = String::new(alloc);
+    for number in first..=last {
+        let reply = format!(in alloc;
+            "HTTP/1.1 200 OK\r\nContent-Type: text/plain\r\nContent-Length: 23\r\n\r\naccepted {number} 1730700000\n"
+        ).expect(rt, "memory");
+        text.push_str(&reply).expect(rt, "memory");
+    }
+    text
+}
+
+/// As many replies of a fault.
+fn faults(rt: &impl Abort, alloc: Global, count: u64) -> String {
+    let mut text = String::new(alloc);
+    for _ in 0..count {
+        text.push_str(FAULT_REPLY).expect(rt, "memory");
+    }
+    text
+}
+
+// 24 bids are read at once, and the last of the four calls of the disk at their turn fails. The turn behind it takes
+// room for 24 more.
+#[test]
+fn a_turn_behind_a_fault_finds_room(rt: HostRuntime) {
+    let alloc = rt.alloc();
+    let doubted = bids_between(&rt, alloc, 10, 33);
+    let next = bids_between(&rt, alloc, 34, 57);
+    let text = joined(&rt, alloc, &[doubted.as_str(), next.as_str()]);
+    let told_first = faults(&rt, alloc, 24);
+    let told_then = acceptances(&rt, alloc, 34, 57);
+    let replies = joined(&rt, alloc, &[told_first.as_str(), told_then.as_str()]);
+    let fails = [opening_calls(&rt, alloc).saturating_add(3)];
+    let calls = calls_for(&rt, alloc, &fails, &text, doubted.len(), &replies);
+    // Four calls for each turn, and two to find that the bids in doubt stand.
+    assert!(rt; calls == Some(10));
+}

@@ -7,6 +7,8 @@ mod group_tests;
 #[cfg(test)]
 mod held_tests;
 #[cfg(test)]
+mod long_tests;
+#[cfg(test)]
 mod sale_tests;
 #[cfg(test)]
 mod tests;

@@ -496,7 +496,7 @@ pub fn ends<R: Wait + Abort>(
 }
 
 /// The same of a link that gives this text.
-fn text_ends<R: Wait + Abort>(
+pub fn text_ends<R: Wait + Abort>(
     rt: &R,
     alloc: Global,
     room: &mut Option<Memory>,

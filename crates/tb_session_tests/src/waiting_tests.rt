@@ -114,7 +114,7 @@ fn link_of(
 
 /// Three requests with this text come in pieces of so many bytes. Whether each has this reply, and one read more finds
 /// the end of the input.
-fn three_are_answered<R: Wait + Abort>(
+pub fn three_are_answered<R: Wait + Abort>(
     rt: &R,
     alloc: Global,
     room: &mut Option<Memory>,

@@ -1,5 +1,5 @@
 -- All links of a gate.
-use Rattle.std.proofs.Common.{refl, subst, arith}
+use Rattle.std.proofs.Common.{◌∙◌, refl, subst, arith}
 use Rattle.tb_gates.specs.Gates.{NextLink}
 use Rattle.tb_session.proofs.WorkLemmas.{works-nothing, works-link, works-finished, works-failed}
 use Rattle.tb_session.proofs.links.work.Goals as goal
@@ -8,6 +8,7 @@ pub loop-init : goal.loop-init
 loop-init g c = record {
   ready = c.requires.ready;
   on = works-nothing g.G.Gate.gate g.G.Conn.Source.source g.G.Conn.Sink.sink c.args.worker.now;
+  no_fault = refl;
 }
 
 pub loop-preserved : goal.loop-preserved
@@ -20,6 +21,7 @@ loop-preserved g c =
           c.loop.invariant.on c.next-in-loop.new.self c.done.new.self c.serve_link-ended.new.pass c.in-Ok-Some.link
           c.serve_link-ended.new.link c.serve_link-ended.result _ next c.serve_link-ended.ensures.served
           c.done.ensures.takes refl;
+      no_fault = c.done.ensures.takes.no_fault ∙ (next.no_fault ∙ c.loop.invariant.no_fault);
     }
 
 pub overflow_add-worker : goal.overflow_add-worker
@@ -34,7 +36,7 @@ returns-in-Ok-None-clause-works g c =
     let next = subst (λ o. NextLink (g.G.Gate.gate c.loop.worker.gate) (g.G.Gate.gate c.next-in-loop.new.self) o)
     c.in-Ok-None.field-0-is c.in-Ok-None.ensures.gives in
     works-finished g.G.Gate.gate g.G.Conn.Source.source g.G.Conn.Sink.sink c.args.worker.now c.loop.worker
-    c.loop.invariant.on c.next-in-loop.new.self next
+    c.loop.invariant.on c.next-in-loop.new.self next c.loop.invariant.no_fault
 
 pub returns-in-Err-clause-works : goal.returns-in-Err-clause-works
 returns-in-Err-clause-works g c =

@@ -23,14 +23,14 @@ used-requires g c = c.uses.ensures.used c.args.inbox.now c.args.request.now c.re
 
 pub returns-in-Ok-clause-ended : goal.returns-in-Ok-clause-ended
 returns-in-Ok-clause-ended g c =
-    let answers = answers-at _ _ _ _ _ _ c.waiting.ensures c.answer_request-answer.ensures.answers in
+    let answers = answers-at _ _ _ _ _ _ c.waiting.ensures.waiting c.answer_request-answer.ensures.answers in
     one-asked c.args.turns c.args.inbox.now _ _ _ _ c.args.request.now c.answer_request-answer.result answers
     c.requires.front c.requires.few c.if-request.true c.closes-close.result c.closes-close.ensures
     c.in-Ok.ensures.sends.0 c.in-Ok.ensures.sends.1
 
 pub returns-in-Ok-2-clause-ended : goal.returns-in-Ok-2-clause-ended
 returns-in-Ok-2-clause-ended g c =
-    let answers = answers-at _ _ _ _ _ _ c.waiting.ensures c.answer_request-answer.ensures.answers in
+    let answers = answers-at _ _ _ _ _ _ c.waiting.ensures.waiting c.answer_request-answer.ensures.answers in
     one-turns c.args.turns c.args.inbox.now _ _ _ _ c.args.request.now c.answer_request-answer.result answers
     c.requires.front c.requires.few c.if-request.false c.closes-close.result c.closes-close.ensures c.if-close.true
     c.in-Ok-2.ensures.sends.0 c.in-Ok-2.ensures.sends.1
@@ -40,7 +40,7 @@ returns-in-Ok-3-clause-on g c =
     let a = link_of g.K.Source.source g.K.Sink.sink c.args.link.now in
     let b = link_of g.K.Source.source g.K.Sink.sink c.send.new.link in
     let said = c.answer_request-answer.result in
-    let answers = answers-at _ _ _ _ _ _ c.waiting.ensures c.answer_request-answer.ensures.answers in
+    let answers = answers-at _ _ _ _ _ _ c.waiting.ensures.waiting c.answer_request-answer.ensures.answers in
     let wrote = subst (λ k. Wrote a b (reply_text said c.args.request.now.target k)) c.if-close.false
     c.in-Ok-3.ensures.sends.0 in
     subst
@@ -53,7 +53,7 @@ returns-in-Ok-3-clause-on g c =
 pub returns-in-Err-WriteFault-clause-ended : goal.returns-in-Err-WriteFault-clause-ended
 returns-in-Err-WriteFault-clause-ended g c =
     let arm = c.in-Err-WriteFault in
-    let answers = answers-at _ _ _ _ _ _ c.waiting.ensures c.answer_request-answer.ensures.answers in
+    let answers = answers-at _ _ _ _ _ _ c.waiting.ensures.waiting c.answer_request-answer.ensures.answers in
     let unsent = unsent-fails _ _ c.answer_request-answer.result _ arm.field-0 arm.ensures.sends arm.field-0-is in
     one-unwritten c.args.turns c.args.inbox.now _ _ _ _ c.args.request.now c.answer_request-answer.result answers
     c.requires.front c.requires.few c.closes-close.result c.closes-close.ensures unsent.0 unsent.1
@@ -61,7 +61,7 @@ returns-in-Err-WriteFault-clause-ended g c =
 pub returns-clause-ended : goal.returns-clause-ended
 returns-clause-ended g c =
     let arm = c.in-Err-OutOfMemory in
-    let answers = answers-at _ _ _ _ _ _ c.waiting.ensures c.answer_request-answer.ensures.answers in
+    let answers = answers-at _ _ _ _ _ _ c.waiting.ensures.waiting c.answer_request-answer.ensures.answers in
     one-lacking c.args.turns c.args.inbox.now _ _ _ _ c.args.request.now c.answer_request-answer.result answers
     c.requires.front c.requires.few
     (unsent-may _ _ c.answer_request-answer.result _ arm.field-0 arm.ensures.sends arm.field-0-is)

@@ -1,5 +1,5 @@
 -- A link, request by request.
-use Rattle.std.proofs.Common.{[], refl, sym, subst, arith}
+use Rattle.std.proofs.Common.{[], sym, subst, arith}
 use Rattle.tb_gates.specs.Links.{link_of}
 use Rattle.tb_lock.specs.Passes.{view}
 use Rattle.tb_session.specs.Serving.{ServesOn}

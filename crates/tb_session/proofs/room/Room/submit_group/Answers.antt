@@ -27,6 +27,7 @@ returns g c =
         c.group-came.ensures.unknown,
       );
       lacked = λ is. c.group-came.ensures.lacked (lacks c.group-came.result.1 (sym c.group_answer.ensures ∙ is));
+      lacks = λ is. c.group-came.ensures.lacks (lacks c.group-came.result.1 (sym c.group_answer.ensures ∙ is));
       unasked = c.group-came.ensures.unasked;
       fault = λ is. c.group-came.ensures.fault (sym c.group_answer.ensures ∙ is);
       no_fault = λ other. c.group-came.ensures.no_fault (λ is. other (c.group_answer.ensures ∙ is));
