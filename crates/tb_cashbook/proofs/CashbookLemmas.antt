@@ -18,6 +18,7 @@ use Rattle.tb_message.specs.declared.message.Message.{Message}
 use Rattle.tb_message.specs.declared.message.Message.TheVariants as message
 use Rattle.tb_funds.specs.declared.amount.Amount.{Amount}
 use Rattle.tb_funds.specs.declared.offer.KeptOffer.{KeptOffer}
+use Rattle.tb_funds.specs.declared.offer.Offer.{Offer as Offered}
 use Rattle.tb_funds.specs.declared.offer.State.{State}
 use Rattle.tb_funds.specs.declared.offer.State.TheVariants as state
 use Rattle.tb_funds.specs.Amounts.{amount_in, total_in, part}
@@ -38,6 +39,7 @@ use Rattle.tb_history.specs.Offers.{open_offers}
 use Rattle.tb_history.specs.Funds.{deposits, withdrawals, cents_in, money_to, money_from, balance_of}
 use Rattle.tb_history.specs.Tables.{rows_of, buy_rows, retract_rows, sell_rows}
 use Rattle.tb_history.specs.Legal.{IsLegal, Longer, Follows}
+use Rattle.tb_history.specs.Moves.{numbering_of}
 use Rattle.tb_history.specs.Trades.{is_cash, is_purchase}
 use Rattle.tb_units.proofs.PlaceLemmas.{find_passes}
 use Rattle.tb_history.proofs.SameLemmas.{is_same-equal}
@@ -55,8 +57,8 @@ use Rattle.tb_history.proofs.TradeLemmas.{balance-stays, one_part}
 use Rattle.tb_history.proofs.OpenLemmas.{is_offer, either_way, new-offer, none-closed, offer_of-push, newly_closed}
 use Rattle.tb_history.proofs.OpenLemmas.{is_bought-push, is_retracted-push, is_closed-push, open_offers-still}
 use Rattle.tb_history.proofs.OpenLemmas.{open_offers-sell, open_offers-closed}
-use Rattle.tb_cashbook.specs.Cashbook.{holder_in, offer_by, state_of, kept_in, HasNothing, TellsFunds}
-use Rattle.tb_cashbook.specs.Cashbook.{IsNext, IsOther}
+use Rattle.tb_cashbook.specs.Cashbook.{holder_in, offer_as, state_of, kept_in, HasNothing, TellsFunds}
+use Rattle.tb_cashbook.specs.Cashbook.{IsNext}
 
 -- ---- numbers
 
@@ -115,6 +117,11 @@ at-number h e name f z beyond =
     ]
 
 -- ---- offers as they are kept
+
+-- the offer that a sell of a history makes
+abbrev pub offer_by : List Entry → Entry → Cusip → List ℕ → Dollars → Cents → Offered
+offer_by h e cusip to amount price =
+    offer_as (numbering_of (registrations h) (announcements h)) e.submitter e.number cusip to amount price
 
 -- what became of an offer, by two tests
 abbrev state_by : Bool → Bool → State
@@ -294,7 +301,14 @@ offers-still h e old new seller number next nothing unbought unretracted same =
 
 -- ---- the five kinds, and all others
 
--- what changes nothing of the funds leaves them
+-- the entry changes nothing of the funds
+pub record IsOther (history : List Entry) (entry : Entry) : Type 0 where
+  pub cash : is_cash entry.message ≡ false
+  pub purchase : is_purchase entry.message ≡ false
+  pub offered : offered_by entry.submitter entry.number entry.message ≡ []
+  pub retracted : retracted_by entry.submitter entry.message ≡ []
+
+-- so it leaves them
 pub tells-other : (h : List Entry) (e : Entry) (money : Money)
     → IsNext h e money
     → IsOther h e

@@ -1,1 +1,2 @@
 pub mod CashbookLemmas
+pub mod MeaningLemmas

@@ -1,5 +1,5 @@
 -- What the funds tell of a history: balances and offers, by the numbers of participants and bills.
-use Rattle.std.specs.Prelude.{◌≡◌, ℕ, ◌+◌, ◌≤◌, ◌++◌, List, [], ◌∷◌, length, if◌then◌else◌, None, false}
+use Rattle.std.specs.Prelude.{◌≡◌, ℕ, ◌+◌, ◌≤◌, ◌++◌, List, [], ◌∷◌, length, if◌then◌else◌, Option, Some, None}
 use Rattle.std.specs.List.{position_or_len}
 use Rattle.std.specs.Option.{option_map}
 use Rattle.tb_units.specs.declared.amount.Dollars.{Dollars}
@@ -7,7 +7,10 @@ use Rattle.tb_units.specs.declared.cents.Cents.{Cents}
 use Rattle.tb_terms.specs.declared.announcement.Announcement.{Announcement}
 use Rattle.tb_terms.specs.declared.cusip.Cusip.{Cusip}
 use Rattle.tb_message.specs.declared.message.Entry.{Entry}
+use Rattle.tb_message.specs.declared.message.Message.{Message}
 use Rattle.tb_message.specs.declared.message.Message.TheVariants as message
+use Rattle.tb_cashbook.specs.declared.cash.CashMovement.{CashMovement}
+use Rattle.tb_cashbook.specs.declared.cash.CashMovement.TheVariants as cash
 use Rattle.tb_funds.specs.declared.offer.KeptOffer.{KeptOffer}
 use Rattle.tb_funds.specs.declared.offer.Offer.{Offer as Offered}
 use Rattle.tb_funds.specs.declared.offer.State.{State}
@@ -15,12 +18,12 @@ use Rattle.tb_funds.specs.declared.offer.State.TheVariants as state
 use Rattle.tb_funds.specs.Funds.{Money, balance_of as balance_in, total_of, offer_of as offer_in, open_of}
 use Rattle.tb_history.specs.declared.roster.Registration.{Registration}
 use Rattle.tb_history.specs.declared.accounts.Offer.{Offer}
-use Rattle.tb_history.specs.Entries.{is_same, offered_by, retracted_by}
+use Rattle.tb_history.specs.Entries.{is_same}
 use Rattle.tb_history.specs.Roster.{registrations, announcements}
 use Rattle.tb_history.specs.Offers.{offers, purchases, retractions, offer_of, is_bought, is_retracted, open_offers}
 use Rattle.tb_history.specs.Funds.{deposits, withdrawals, cents_in, balance_of}
 use Rattle.tb_history.specs.Legal.{IsLegal, Follows}
-use Rattle.tb_history.specs.Trades.{is_cash, is_purchase}
+use Rattle.tb_history.specs.Moves.{Numbering, numbering_of}
 
 -- a participant's number is its place in the order of registration
 abbrev pub holder_in : List Entry → List ℕ → ℕ
@@ -31,17 +34,6 @@ holder_in history name =
 abbrev pub security_in : List Entry → List ℕ → ℕ
 security_in history bytes =
     position_or_len (λ (a : Announcement). is_same a.cusip.bytes bytes) (announcements history)
-
--- an offer that a sell makes, by numbers
-abbrev pub offer_by : List Entry → Entry → Cusip → List ℕ → Dollars → Cents → Offered
-offer_by history entry cusip to amount price = record {
-  seller = holder_in history entry.submitter;
-  number = entry.number;
-  buyer = holder_in history to;
-  security = security_in history cusip.bytes;
-  par = amount;
-  price = price;
-}
 
 -- what became of an offer
 abbrev pub state_of : List Entry → Offer → State
@@ -97,37 +89,34 @@ TellsNext Is old new =
     → Is history entry
     → TellsFunds (history ++ entry ∷ []) new
 
--- the entry deposits so much to the participant of this number
-abbrev pub IsDeposit : ℕ → Cents → List Entry → Entry → Type 0
-IsDeposit holder cents history entry =
-    (participant : List ℕ) × (entry.message ≡ message.Deposit participant cents)
-    × (holder ≡ holder_in history participant)
+-- the offer that a sell of a sender under a number makes
+abbrev pub offer_as : Numbering → List ℕ → ℕ → Cusip → List ℕ → Dollars → Cents → Offered
+offer_as numbers sender number cusip to amount price = record {
+  seller = numbers.holder sender;
+  number = number;
+  buyer = numbers.holder to;
+  security = numbers.security cusip.bytes;
+  par = amount;
+  price = price;
+}
 
--- or withdraws so much from it
-abbrev pub IsWithdrawal : ℕ → Cents → List Entry → Entry → Type 0
-IsWithdrawal holder cents history entry =
-    (participant : List ℕ) × (entry.message ≡ message.Withdraw participant cents)
-    × (holder ≡ holder_in history participant)
+-- what a message of a sender under a number does to the funds: nothing of it depends on what stands before
+abbrev pub cash_by : Numbering → List ℕ → ℕ → Message → Option CashMovement
+cash_by numbers sender number (message.Deposit participant cents) =
+    Some (cash.Deposited (numbers.holder participant) cents)
+cash_by numbers sender number (message.Withdraw participant cents) =
+    Some (cash.Withdrawn (numbers.holder participant) cents)
+cash_by numbers sender number (message.Sell cusip to amount price) =
+    Some (cash.Offered (offer_as numbers sender number cusip to amount price))
+cash_by numbers sender number (message.Buy seller offer) = Some (cash.Bought (numbers.holder seller) offer)
+cash_by numbers sender number (message.Retract offer) = Some (cash.Retracted (numbers.holder sender) offer)
+cash_by numbers sender number other = None
 
--- the entry makes the offer
-abbrev pub IsSell : Offered → List Entry → Entry → Type 0
-IsSell offer history entry =
-    (cusip : Cusip) × (to : List ℕ) × (amount : Dollars) × (price : Cents)
-    × (entry.message ≡ message.Sell cusip to amount price) × (offer ≡ offer_by history entry cusip to amount price)
+-- and so an entry, by the numbers of the history before it
+abbrev pub cash_of : List Entry → Entry → Option CashMovement
+cash_of history entry =
+    cash_by (numbering_of (registrations history) (announcements history)) entry.submitter entry.number entry.message
 
--- it buys the offer of this number of the seller of this number
-abbrev pub IsPurchase : ℕ → ℕ → List Entry → Entry → Type 0
-IsPurchase seller number history entry =
-    (name : List ℕ) × (entry.message ≡ message.Buy name number) × (seller ≡ holder_in history name)
-
--- or takes it back
-abbrev pub IsRetraction : ℕ → ℕ → List Entry → Entry → Type 0
-IsRetraction seller number history entry =
-    (entry.message ≡ message.Retract number) × (seller ≡ holder_in history entry.submitter)
-
--- the entry changes nothing of the funds
-pub record IsOther (history : List Entry) (entry : Entry) : Type 0 where
-  pub cash : is_cash entry.message ≡ false
-  pub purchase : is_purchase entry.message ≡ false
-  pub offered : offered_by entry.submitter entry.number entry.message ≡ []
-  pub retracted : retracted_by entry.submitter entry.message ≡ []
+-- the entry does this to the funds, or nothing
+abbrev pub Means : Option CashMovement → List Entry → Entry → Type 0
+Means movement history entry = cash_of history entry ≡ movement

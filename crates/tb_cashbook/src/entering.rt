@@ -1,12 +1,11 @@
-//! What an accepted message does to the funds. None of these calls is refused.
-ghost use Rattle.std.specs.Prelude.{◌<◌, []};
+//! What an accepted message does to the funds is done to them, which is never refused.
+ghost use Rattle.std.specs.Prelude.{◌<◌, Some, []};
 ghost use Rattle.tb_funds.specs.Funds.{TakesRoom};
-ghost use Rattle.tb_cashbook.specs.Cashbook.{CanEnter, TellsFunds, TellsNext};
-ghost use Rattle.tb_cashbook.specs.Cashbook.{IsDeposit, IsPurchase, IsRetraction, IsSell, IsWithdrawal};
+ghost use Rattle.tb_cashbook.specs.Cashbook.{CanEnter, Means, TellsFunds, TellsNext};
 
+use crate::cash::CashMovement;
 use std::alloc::Global;
-use tb_funds::{Funds, Offer};
-use tb_units::Cents;
+use tb_funds::Funds;
 
 /// The funds of the empty history.
 pub fn no_funds(alloc: Global) -> Funds
@@ -15,50 +14,25 @@ pub fn no_funds(alloc: Global) -> Funds
     Funds::new(alloc)
 }
 
-/// Gives a participant so much, as an accepted deposit says.
-pub fn enter_deposit(funds: &mut Funds, holder: u32, cents: Cents)
-    requires room { 0 < funds.old.spare_balances }
-    requires next { CanEnter (IsDeposit holder cents) funds.old }
-    ensures told { TellsNext (IsDeposit holder cents) funds.old funds.new }
-    ensures room { TakesRoom 1 0 funds.old funds.new }
+/// Does what an accepted message means. The par of an offer that is bought moves in the accounts.
+pub fn enter_cash(funds: &mut Funds, cash: &CashMovement)
+    requires balances { 0 < funds.old.spare_balances }
+    requires offers { 0 < funds.old.spare_offers }
+    requires next { CanEnter (Means (Some cash.now)) funds.old }
+    ensures told { TellsNext (Means (Some cash.now)) funds.old funds.new }
+    ensures room { TakesRoom 1 1 funds.old funds.new }
 {
-    funds.deposit(holder, cents);
-}
-
-/// Takes so much from it, as an accepted withdrawal says.
-pub fn enter_withdrawal(funds: &mut Funds, holder: u32, cents: Cents)
-    requires next { CanEnter (IsWithdrawal holder cents) funds.old }
-    ensures told { TellsNext (IsWithdrawal holder cents) funds.old funds.new }
-    ensures room { TakesRoom 0 0 funds.old funds.new }
-{
-    let _ = funds.withdraw(holder, cents);
-}
-
-/// Makes the offer of an accepted sell.
-pub fn enter_offer(funds: &mut Funds, offer: Offer)
-    requires room { 0 < funds.old.spare_offers }
-    requires next { CanEnter (IsSell offer) funds.old }
-    ensures told { TellsNext (IsSell offer) funds.old funds.new }
-    ensures room { TakesRoom 0 1 funds.old funds.new }
-{
-    let _ = funds.offer(offer);
-}
-
-/// Moves the price of the offer that is bought. Its par moves in the accounts.
-pub fn enter_purchase(funds: &mut Funds, seller: u32, number: u64)
-    requires room { 0 < funds.old.spare_balances }
-    requires next { CanEnter (IsPurchase seller number) funds.old }
-    ensures told { TellsNext (IsPurchase seller number) funds.old funds.new }
-    ensures room { TakesRoom 1 0 funds.old funds.new }
-{
-    let _ = funds.buy(seller, number);
-}
-
-/// Takes the offer back.
-pub fn enter_retraction(funds: &mut Funds, seller: u32, number: u64)
-    requires next { CanEnter (IsRetraction seller number) funds.old }
-    ensures told { TellsNext (IsRetraction seller number) funds.old funds.new }
-    ensures room { TakesRoom 0 0 funds.old funds.new }
-{
-    funds.retract(seller, number);
+    match cash {
+        CashMovement::Deposited { holder, cents } => funds.deposit(*holder, *cents),
+        CashMovement::Withdrawn { holder, cents } => {
+            let _ = funds.withdraw(*holder, *cents);
+        }
+        CashMovement::Offered { offer } => {
+            let _ = funds.offer(*offer);
+        }
+        CashMovement::Bought { seller, number } => {
+            let _ = funds.buy(*seller, *number);
+        }
+        CashMovement::Retracted { seller, number } => funds.retract(*seller, *number),
+    }
 }

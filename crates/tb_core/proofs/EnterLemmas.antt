@@ -27,17 +27,6 @@ moves-plain tables s n (message.Settle auction) other unbought = absurd cc
 moves-plain tables s n (message.Buy seller offer) other unbought = absurd cc
 moves-plain tables s n plain other unbought = refl
 
--- a message that isn't one of the settlements settles nothing
-pub settles-none : (m : Message) → ((auction : List ℕ) → m ≡ message.Settle auction → ⊥) → settles m ≡ false
-settles-none (message.Settle auction) apart = absurd (apart auction refl)
-settles-none plain apart = refl
-
--- a message that isn't one of the purchases buys nothing
-pub buys-none : (m : Message) → ((seller : List ℕ) (offer : ℕ) → m ≡ message.Buy seller offer → ⊥)
-    → is_purchase m ≡ false
-buys-none (message.Buy seller offer) apart = absurd (apart seller offer refl)
-buys-none plain apart = refl
-
 -- rows are kept by what keeps them twice
 pub KeepsRows-both : (old middle new : Tables) → KeepsRows old middle → KeepsRows middle new → KeepsRows old new
 KeepsRows-both old middle new first second = record {
@@ -60,21 +49,7 @@ KeepsRows-both old middle new first second = record {
 -- tables that keep their rows have the room for rows
 pub HasRows-kept : (room : ℕ) (old new : Tables) → KeepsRows old new → HasRows room old → HasRows room new
 HasRows-kept room old new keeps has =
-    subst (λ (tables : Tables). HasRows room tables) (sym keeps.same) (record {
-      submitters = has.submitters;
-      bidders = has.bidders;
-      holidays = has.holidays;
-      auctions = has.auctions;
-      bids = has.bids;
-      cancels = has.cancels;
-      reports = has.reports;
-      published = has.published;
-      settled = has.settled;
-      redeemed = has.redeemed;
-      add_ons = has.add_ons;
-      places = has.places;
-      calendar = has.calendar;
-    })
+    subst (λ (tables : Tables). HasRows room tables) (sym keeps.same) (assumption has)
 
 -- a scratch list with as much room lasts as long
 IsTaken-kept : (old kept new : Scratch) → KeepsScratch old kept → IsTaken kept new → IsTaken old new
@@ -96,22 +71,9 @@ pub HasEntered-kept : (s : List ℕ) (n : ℕ) (m : Message) (old kept new : Tab
 HasEntered-kept s n m old kept new keeps entered =
     let same : HasEntered s n m (with_accounts old kept.accounts kept.funds kept.scratch) new =
     subst (λ (tables : Tables). HasEntered s n m tables new) keeps.same entered in
-    record {
-      submitters = same.submitters;
-      bidders = same.bidders;
-      holidays = same.holidays;
-      auctions = same.auctions;
-      bids = same.bids;
-      cancels = same.cancels;
-      reports = same.reports;
-      published = same.published;
-      settled = same.settled;
-      redeemed = same.redeemed;
-      add_ons = same.add_ons;
-      shelf = same.shelf;
-      calendar = same.calendar;
-      scratch = IsTaken-kept old.scratch kept.scratch new.scratch keeps.scratch entered.scratch;
-    }
+    let taken : IsTaken old.scratch new.scratch =
+    IsTaken-kept old.scratch kept.scratch new.scratch keeps.scratch entered.scratch in
+    assumption (taken, same)
 
 -- where a message takes so many accounts, and enrols a bidder at most, there is room for one message fewer
 accounts_left : (room before after old new : ℕ)

@@ -10,8 +10,9 @@ use Rattle.tb_core.specs.declared.tables.Tables.{Tables}
 use Rattle.tb_index.specs.Listed.{Listed}
 use Rattle.tb_ledger.specs.Settling.{HasScratch}
 use Rattle.tb_ledger.specs.Accounting.{TellsNext}
-use Rattle.tb_core.specs.Crediting.{movement_in}
-use Rattle.tb_core.specs.House.{AreTied, AreSame, EntersMoney, HasEntered, HasRoom, IsHouse, room_of}
+use Rattle.tb_cashbook.specs.Cashbook.{Means, TellsNext as TellsMoney}
+use Rattle.tb_core.specs.Crediting.{cash_in, movement_in}
+use Rattle.tb_core.specs.House.{AreTied, AreSame, HasEntered, HasRoom, IsHouse, room_of}
 use Rattle.tb_core.proofs.TiedLemmas.{AreTied-same, AreTied-push}
 use Rattle.std.specs.List.{filter}
 use Rattle.std.proofs.lemmas.Bool.{and_parts}
@@ -106,7 +107,7 @@ scratch_push before after s n m entered has =
 pub house_push : (old new : Listed Entry) (before after : Tables) (e : Entry)
     → Follows old.list e
     → TellsNext (movement_in before e.submitter e.number e.message) before.accounts after.accounts
-    → EntersMoney e.submitter e.number e.message before after.funds
+    → TellsMoney (Means (cash_in before e.submitter e.number e.message)) before.funds after.funds
     → new.list ≡ old.list ++ e ∷ []
     → old.spare ≤ new.spare + 1
     → HasEntered e.submitter e.number e.message before after

@@ -29,7 +29,7 @@ use Rattle.tb_funds.specs.declared.amount.Amount.{Amount}
 use Rattle.tb_funds.specs.Amounts.{amount_in, total_in}
 use Rattle.tb_funds.specs.Offers.{offer_in, open_in}
 use Rattle.tb_funds.specs.Funds.{Money, SameMoney, offer_of as offer_kept}
-use Rattle.tb_cashbook.specs.Cashbook.{TellsFunds, holder_in, kept_in}
+use Rattle.tb_cashbook.specs.Cashbook.{Means, TellsFunds, TellsNext as TellsMoney, cash_by, holder_in, kept_in}
 use Rattle.tb_history.specs.Holdings.{awarded_add_on, bidding_in, if_awarded}
 use Rattle.tb_ledger.specs.Credits.{add_on_for}
 use Rattle.tb_shelving.specs.Shelving.{HasShelved}
@@ -40,10 +40,10 @@ use Rattle.tb_history.specs.Entries.{entered_by}
 use Rattle.tb_history.specs.Moves.{Numbering, bought_as, credit_of, add_on_credits, settled_as, movement_by}
 use Rattle.tb_history.proofs.NumberingLemmas.{movements-grow}
 use Rattle.tb_terms.specs.declared.announcement.Announcement.{Announcement}
-use Rattle.tb_core.specs.Crediting.{settled_in, sold_in, movement_in}
+use Rattle.tb_core.specs.Crediting.{cash_in, settled_in, sold_in, movement_in}
 use Rattle.tb_tables.specs.Calendar.{IsCalendar}
 use Rattle.tb_ledger.specs.Accounting.{numbers_in, numbers_of, moved_in, TellsNext}
-use Rattle.tb_core.specs.House.{AreTied, AreSame, EntersMoney, HasEntered}
+use Rattle.tb_core.specs.House.{AreTied, AreSame, HasEntered}
 use Rattle.tb_tables.proofs.CalendarLemmas.{IsCalendar-push}
 use Rattle.tb_shelving.proofs.BookLemmas.{AreBooks-nil, AreBooks-push}
 use Rattle.tb_shelving.proofs.KeptLemmas.{AreBooks-kept}
@@ -121,6 +121,13 @@ movement-tied h tables tied s n (message.Buy seller offer) =
 movement-tied h tables tied s n plain =
     ap (λ (numbers : Numbering). movement_by numbers [] s n plain) (numbers-tied h tables tied)
 
+-- and what it does to the funds
+pub cash-tied : (h : List Entry) (tables : Tables) (e : Entry)
+    → AreTied h tables
+    → Means (cash_in tables e.submitter e.number e.message) h e
+cash-tied h tables e tied =
+    ap (λ (numbers : Numbering). cash_by numbers e.submitter e.number e.message) (sym (numbers-tied h tables tied))
+
 -- so the accounts tell what has moved with it
 accounts_tell-push : (h : List Entry) (old new : Tables) (e : Entry)
     → AreTied h old
@@ -139,7 +146,7 @@ pub AreTied-push : (h : List Entry) (old new : Tables) (e : Entry)
     → AreTied h old
     → Follows h e
     → TellsNext (movement_in old e.submitter e.number e.message) old.accounts new.accounts
-    → EntersMoney e.submitter e.number e.message old new.funds
+    → TellsMoney (Means (cash_in old e.submitter e.number e.message)) old.funds new.funds
     → HasEntered e.submitter e.number e.message old new
     → new.last ≡ e.moment
     → AreTied (h ++ e ∷ []) new
@@ -163,8 +170,8 @@ AreTied-push h old new e tied follows told paid entered last = record {
       (IsCalendar-push old.calendar.list (holidays h)
       (entered_by e.message) new.calendar.list tied.calendar_is entered.calendar);
   accounts_tell = accounts_tell-push h old new e tied follows told;
-  funds_tell = paid h e (sym tied.submitters_are) (sym tied.auctions_are) refl refl refl
-      (record { legal = tied.legal; follows = follows; told = tied.funds_tell });
+  funds_tell = paid h e (record { legal = tied.legal; follows = follows; told = tied.funds_tell })
+      (cash-tied h old e tied);
 }
 
 -- funds with the same balances and offers tell alike

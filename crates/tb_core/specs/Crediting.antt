@@ -1,4 +1,4 @@
--- What a message moves, by the tables, and the room of a settlement in them.
+-- What a message moves of par and money, by the tables, and the room of a settlement in them.
 use Rattle.std.specs.Prelude.{ℕ, ◌≤◌, List, [], Option, Some, None, length, vec_capacity}
 use Rattle.tb_terms.specs.declared.announcement.Announcement.{Announcement}
 use Rattle.tb_message.specs.declared.message.Message.{Message}
@@ -13,6 +13,8 @@ use Rattle.tb_core.specs.declared.tables.Tables.{Tables}
 use Rattle.tb_tables.specs.Auctions.{announced_in}
 use Rattle.tb_ledger.specs.Accounting.{numbers_in}
 use Rattle.tb_ledger.specs.Credits.{settled_for}
+use Rattle.tb_cashbook.specs.declared.cash.CashMovement.{CashMovement}
+use Rattle.tb_cashbook.specs.Cashbook.{cash_by}
 
 -- the bidding of an auction
 abbrev pub bidding_on : Tables → Announcement → Bidding
@@ -40,6 +42,11 @@ movement_in tables sender number (message.Buy seller offer) =
     sold_in (offer_of ((numbers_in tables.submitters.list tables.auctions.list).holder seller) offer tables.funds)
 movement_in tables sender number other =
     movement_by (numbers_in tables.submitters.list tables.auctions.list) [] sender number other
+
+-- and what it does to the funds
+abbrev pub cash_in : Tables → List ℕ → ℕ → Message → Option CashMovement
+cash_in tables sender number message =
+    cash_by (numbers_in tables.submitters.list tables.auctions.list) sender number message
 
 -- there is room to cut an auction, and for all awards
 pub record HasSettleRoom (tables : Tables) : Type 0 where

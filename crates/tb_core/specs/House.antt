@@ -20,7 +20,7 @@ use Rattle.tb_core.specs.declared.tables.Tables.{Tables}
 use Rattle.tb_tables.specs.Auctions.{announced_in}
 use Rattle.tb_tables.specs.Calendar.{IsCalendar, AddsDays}
 use Rattle.tb_funds.specs.Funds.{Money, SameMoney}
-use Rattle.tb_cashbook.specs.Cashbook.{IsNext, TellsFunds}
+use Rattle.tb_cashbook.specs.Cashbook.{TellsFunds}
 use Rattle.tb_ledger.specs.Accounting.{moved_in, TellsSame}
 use Rattle.tb_shelving.specs.Rooms.{Room}
 use Rattle.tb_ledger.specs.Settling.{HasScratch, IsTaken, KeepsScratch}
@@ -89,29 +89,6 @@ pub record HasRoom (room : ℕ) (tables : Tables) : Type 0 where
 -- the tables with other accounts and other funds, and another scratch list
 abbrev pub with_accounts : Tables → Book → Money → Scratch → Tables
 with_accounts tables accounts money scratch = record tables { accounts = accounts; funds = money; scratch = scratch }
-
--- whatever history the tables' funds tell, they tell the message of a sender under its number too
-abbrev pub EntersMoney : List ℕ → ℕ → Message → Tables → Money → Type 0
-EntersMoney sender number message tables new =
-    (history : List Entry) (entry : Entry)
-    → registrations history ≡ tables.submitters.list
-    → announcements history ≡ announced_in tables.auctions.list
-    → entry.submitter ≡ sender
-    → entry.number ≡ number
-    → entry.message ≡ message
-    → IsNext history entry tables.funds
-    → TellsFunds (history ++ entry ∷ []) new
-
--- there are such a history and such an entry
-pub record CanEnterMoney (sender : List ℕ) (number : ℕ) (message : Message) (tables : Tables) : Type 0 where
-  pub history : List Entry
-  pub entry : Entry
-  pub rosters : registrations history ≡ tables.submitters.list
-  pub bills : announcements history ≡ announced_in tables.auctions.list
-  pub submitter : entry.submitter ≡ sender
-  pub under : entry.number ≡ number
-  pub says : entry.message ≡ message
-  pub next : IsNext history entry tables.funds
 
 -- nothing but the accounts and the funds is changed, and the room of settlements stays
 pub record KeepsRows (old new : Tables) : Type 0 where

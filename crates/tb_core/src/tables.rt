@@ -16,15 +16,13 @@ ghost use Rattle.tb_ledger.specs.Accounting.{IsReady, TellsNext};
 ghost use Rattle.tb_funds.specs.Funds as funds;
 ghost use Rattle.tb_funds.specs.Funds.{offer_of};
 ghost use Rattle.tb_ledger.specs.Accounting.{numbers_in};
-ghost use Rattle.tb_cashbook.specs.Cashbook.{TellsFunds};
-ghost use Rattle.tb_core.specs.Crediting.{HasSettleRoom, movement_in, settled_in, sold_in};
-ghost use Rattle.tb_core.specs.House.{AreFew, AreSame, AreTied, HasEntered, HasRoom, HasRows, IsTakenBack, KeepsRows};
-ghost use Rattle.tb_core.specs.House.{CanEnterMoney, EntersMoney, HasMoneyRoom};
+ghost use Rattle.tb_cashbook.specs.Cashbook as cashbook;
+ghost use Rattle.tb_cashbook.specs.Cashbook.{Means, TellsFunds};
+ghost use Rattle.tb_core.specs.Crediting.{HasSettleRoom, cash_in, movement_in, settled_in, sold_in};
+ghost use Rattle.tb_core.specs.House.{AreFew, AreSame, AreTied, HasEntered, HasMoneyRoom, HasRoom, HasRows, IsTakenBack, KeepsRows};
 
 use std::alloc::Global;
-use tb_cashbook::{
-    enter_deposit, enter_offer, enter_purchase, enter_retraction, enter_withdrawal, no_funds,
-};
+use tb_cashbook::{CashMovement, enter_cash, no_funds};
 use tb_entries::{Bids, Entries};
 use tb_funds::{Funds, Offer};
 use tb_holdings::Accounts;
@@ -313,66 +311,89 @@ impl Tables {
             message,
         );
         self.scratch.take();
-        enter_submitter(&mut self.submitters, message);
-        enter_bidder(&mut self.bidders, message);
-        enter_holiday(&mut self.holidays, message);
-        enter_calendar(&mut self.calendar, message);
-        enter_auction(&mut self.auctions, days, message);
-        enter_bid(&mut self.bids, sender, number, message);
-        enter_cancel(&mut self.cancels, sender, message);
-        enter_report(&mut self.reports, sender, message);
-        enter_published(&mut self.published, message);
-        enter_settled(&mut self.settled, message);
-        enter_redeemed(&mut self.redeemed, message);
-        enter_add_on(&mut self.add_ons, message);
         self.last = moment;
+        match message {
+            Message::Register { .. } => enter_submitter(&mut self.submitters, message),
+            Message::Enrol { .. } => enter_bidder(&mut self.bidders, message),
+            Message::Holiday { .. } => {
+                enter_holiday(&mut self.holidays, message);
+                enter_calendar(&mut self.calendar, message);
+            }
+            Message::Announce { .. } => enter_auction(&mut self.auctions, days, message),
+            Message::Bid { .. } => enter_bid(&mut self.bids, sender, number, message),
+            Message::Cancel { .. } => enter_cancel(&mut self.cancels, sender, message),
+            Message::Position { .. } => enter_report(&mut self.reports, sender, message),
+            Message::Publish { .. } => enter_published(&mut self.published, message),
+            Message::Settle { .. } => enter_settled(&mut self.settled, message),
+            Message::Redeem { .. } => enter_redeemed(&mut self.redeemed, message),
+            Message::AddOn { .. } => enter_add_on(&mut self.add_ons, message),
+            // What else moves par or money has no row.
+            Message::Transfer { .. }
+            | Message::Pledge { .. }
+            | Message::Release { .. }
+            | Message::Deposit { .. }
+            | Message::Withdraw { .. }
+            | Message::Sell { .. }
+            | Message::Buy { .. }
+            | Message::Retract { .. } => {}
+        }
     }
 
-    // Does to the funds what a message of a sender under its number says.
-    fn enter_money(&mut self, sender: &Ident, number: u64, message: &Message)
-        requires room { HasMoneyRoom 1 self.old.funds }
-        requires numbered { AreFew self.old }
-        requires next { CanEnterMoney sender.now number message.now self.old }
-        ensures told { EntersMoney sender.now number message.now self.old self.new.funds }
-        ensures keeps { KeepsRows self.old self.new }
-        ensures accounts { self.new.accounts ≡ self.old.accounts }
-        ensures room { funds.TakesRoom 1 1 self.old.funds self.new.funds }
+    // What a message of a sender under its number does to the funds, if it does anything.
+    fn cash_in(&self, sender: &Ident, number: u64, message: &Message) -> Option<CashMovement>
+        requires { AreFew self.now }
+        ensures { result ≡ cash_in self.now sender.now number message.now }
     {
         match message {
-            Message::Deposit { participant, cents } => {
-                let holder = holder_number(&self.submitters, participant);
-                enter_deposit(&mut self.funds, holder, *cents);
-            }
-            Message::Withdraw { participant, cents } => {
-                let holder = holder_number(&self.submitters, participant);
-                enter_withdrawal(&mut self.funds, holder, *cents);
-            }
+            Message::Deposit { participant, cents } => Some(CashMovement::Deposited {
+                holder: holder_number(&self.submitters, participant),
+                cents: *cents,
+            }),
+            Message::Withdraw { participant, cents } => Some(CashMovement::Withdrawn {
+                holder: holder_number(&self.submitters, participant),
+                cents: *cents,
+            }),
             Message::Sell {
                 cusip,
                 to,
                 amount,
                 price,
-            } => {
-                let offer = Offer {
+            } => Some(CashMovement::Offered {
+                offer: Offer {
                     seller: holder_number(&self.submitters, sender),
                     number,
                     buyer: holder_number(&self.submitters, to),
                     security: bill_number(&self.auctions, cusip),
                     par: *amount,
                     price: *price,
-                };
-                enter_offer(&mut self.funds, offer);
-            }
-            Message::Buy { seller, offer } => {
-                let seller = holder_number(&self.submitters, seller);
-                enter_purchase(&mut self.funds, seller, *offer);
-            }
-            Message::Retract { offer } => {
-                let seller = holder_number(&self.submitters, sender);
-                enter_retraction(&mut self.funds, seller, *offer);
-            }
+                },
+            }),
+            Message::Buy { seller, offer } => Some(CashMovement::Bought {
+                seller: holder_number(&self.submitters, seller),
+                number: *offer,
+            }),
+            Message::Retract { offer } => Some(CashMovement::Retracted {
+                seller: holder_number(&self.submitters, sender),
+                number: *offer,
+            }),
             // No other message changes the funds.
-            _ => {}
+            _ => None,
+        }
+    }
+
+    // Does it to the funds.
+    fn enter_money(&mut self, sender: &Ident, number: u64, message: &Message)
+        requires room { HasMoneyRoom 1 self.old.funds }
+        requires numbered { AreFew self.old }
+        requires next { cashbook.CanEnter (Means (cash_in self.old sender.now number message.now)) self.old.funds }
+        ensures told { cashbook.TellsNext (Means (cash_in self.old sender.now number message.now))
+            self.old.funds self.new.funds }
+        ensures keeps { KeepsRows self.old self.new }
+        ensures accounts { self.new.accounts ≡ self.old.accounts }
+        ensures room { funds.TakesRoom 1 1 self.old.funds self.new.funds }
+    {
+        if let Some(cash) = self.cash_in(sender, number, message) {
+            enter_cash(&mut self.funds, &cash);
         }
     }
 
@@ -384,11 +405,12 @@ impl Tables {
         requires settling { settles message.now ≡ true → HasSettleRoom self.old }
         requires numbered { AreFew self.old }
         requires ready { IsReady (movement_in self.old sender.now number message.now) self.old.accounts }
-        requires next { CanEnterMoney sender.now number message.now self.old }
+        requires next { cashbook.CanEnter (Means (cash_in self.old sender.now number message.now)) self.old.funds }
         ensures keeps { KeepsRows self.old self.new }
         ensures told { TellsNext (movement_in self.old sender.now number message.now)
             self.old.accounts self.new.accounts }
-        ensures funds { EntersMoney sender.now number message.now self.old self.new.funds }
+        ensures funds { cashbook.TellsNext (Means (cash_in self.old sender.now number message.now))
+            self.old.funds self.new.funds }
         ensures room { TakesRoom (length self.old.bidders.list + 1) 1 1 self.old.accounts self.new.accounts }
         ensures spends { funds.TakesRoom 1 1 self.old.funds self.new.funds }
     {
@@ -428,11 +450,12 @@ impl Tables {
         requires settling { settles message.now ≡ true → HasSettleRoom self.old }
         requires numbered { AreFew self.old }
         requires ready { IsReady (movement_in self.old sender.now number message.now) self.old.accounts }
-        requires next { CanEnterMoney sender.now number message.now self.old }
+        requires next { cashbook.CanEnter (Means (cash_in self.old sender.now number message.now)) self.old.funds }
         ensures entered { HasEntered sender.now number message.now self.old self.new }
         ensures told { TellsNext (movement_in self.old sender.now number message.now)
             self.old.accounts self.new.accounts }
-        ensures funds { EntersMoney sender.now number message.now self.old self.new.funds }
+        ensures funds { cashbook.TellsNext (Means (cash_in self.old sender.now number message.now))
+            self.old.funds self.new.funds }
         ensures room { (room : ℕ) → HasRoom (room + 1) self.old → HasRoom room self.new }
         ensures last { self.new.last ≡ moment }
     {

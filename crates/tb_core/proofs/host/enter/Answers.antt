@@ -1,10 +1,9 @@
 -- The history is legal with the entry, and each table is longer by what it says.
 use Rattle.std.proofs.Common.{◌-◌, ◌≤◌, ◌≡◌, ◌+◌, arith}
-use Rattle.tb_core.proofs.TiedLemmas.{Follows-in_order}
+use Rattle.tb_core.proofs.TiedLemmas.{Follows-in_order, cash-tied}
 use Rattle.tb_core.proofs.SettleLemmas.{settle-room_of}
 use Rattle.tb_core.proofs.ReadyLemmas.{AreFew-tied, IsReady-tied}
 use Rattle.tb_core.proofs.HouseLemmas.{few-bidders, house_one_more, house_push, takes-entry, takes-room}
-use Rattle.tb_core.proofs.MoneyLemmas.{CanEnterMoney-tied}
 use Rattle.tb_core.proofs.host.enter.Goals as goal
 
 pub enter-requires-clause-tied : goal.enter-requires-clause-tied
@@ -34,12 +33,16 @@ enter-requires-clause-ready c =
     IsReady-tied c.args.entries.now.list c.args.tables.now c.args.entry c.requires.house.tied c.requires.follows
 
 pub enter-requires-clause-next : goal.enter-requires-clause-next
-enter-requires-clause-next c =
-    CanEnterMoney-tied c.args.entries.now.list c.args.tables.now c.args.entry c.requires.house.tied (record {
-      legal = c.requires.house.tied.legal;
-      follows = c.requires.follows;
-      told = c.requires.house.tied.funds_tell;
-    })
+enter-requires-clause-next c = (
+  c.args.entries.now.list,
+  c.args.entry,
+  record {
+    legal = c.requires.house.tied.legal;
+    follows = c.requires.follows;
+    told = c.requires.house.tied.funds_tell;
+  },
+  cash-tied c.args.entries.now.list c.args.tables.now c.args.entry c.requires.house.tied,
+)
 
 pub returns-clause-house : goal.returns-clause-house
 returns-clause-house c =

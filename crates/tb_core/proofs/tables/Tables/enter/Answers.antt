@@ -5,8 +5,8 @@ use Rattle.tb_funds.specs.Funds.{Money}
 use Rattle.tb_history.specs.LiveBids.{bids}
 use Rattle.tb_core.specs.declared.tables.Tables.{Tables}
 use Rattle.tb_ledger.specs.Accounting.{TellsNext}
-use Rattle.tb_core.specs.Crediting.{movement_in}
-use Rattle.tb_core.specs.House.{EntersMoney}
+use Rattle.tb_cashbook.specs.Cashbook.{Means, TellsNext as TellsMoney}
+use Rattle.tb_core.specs.Crediting.{cash_in, movement_in}
 use Rattle.tb_shelving.specs.Shelving.{TakesMessage}
 use Rattle.tb_core.proofs.EnterLemmas.{HasEntered-kept, HasRoom-left, HasRows-kept}
 use Rattle.tb_core.proofs.tables.Tables.enter.Goals as goal
@@ -45,7 +45,9 @@ returns-clause-told c =
 
 pub returns-clause-funds : goal.returns-clause-funds
 returns-clause-funds c =
-    subst (λ (money : Money). EntersMoney c.args.sender.now c.args.number c.args.message.now c.args.self.now money)
+    subst (λ (money : Money).
+    TellsMoney (Means (cash_in c.args.self.now c.args.sender.now c.args.number c.args.message.now))
+    c.args.self.now.funds money)
     (sym c.enter_rows.ensures.funds) c.move_all.ensures.funds
 
 pub returns-clause-room : goal.returns-clause-room

@@ -7,7 +7,7 @@ use Rattle.tb_ledger.specs.Accounting.{TellsNext}
 use Rattle.tb_core.specs.Crediting.{movement_in}
 use Rattle.tb_core.specs.House.{AreFew}
 use Rattle.tb_core.proofs.EnterLemmas.{KeepsRows-both}
-use Rattle.tb_core.proofs.MoneyLemmas.{CanEnterMoney-kept, EntersMoney-kept, HasMoneyRoom-kept}
+use Rattle.tb_core.proofs.MoneyLemmas.{CanEnter-kept, HasMoneyRoom-kept, TellsNext-kept}
 use Rattle.tb_core.proofs.tables.Tables.move_all.Goals as goal
 
 pub enter_money-requires-clause-room : goal.enter_money-requires-clause-room
@@ -23,7 +23,7 @@ enter_money-requires-clause-numbered c =
 
 pub enter_money-requires-clause-next : goal.enter_money-requires-clause-next
 enter_money-requires-clause-next c =
-    CanEnterMoney-kept c.args.sender.now c.args.number c.args.message.now c.args.self.now c.move_par.new.self
+    CanEnter-kept c.args.sender.now c.args.number c.args.message.now c.args.self.now c.move_par.new.self
     c.move_par.ensures.keeps c.move_par.ensures.funds c.requires.next
 
 pub returns-clause-keeps : goal.returns-clause-keeps
@@ -38,7 +38,7 @@ returns-clause-told c =
 
 pub returns-clause-funds : goal.returns-clause-funds
 returns-clause-funds c =
-    EntersMoney-kept c.args.sender.now c.args.number c.args.message.now c.args.self.now c.move_par.new.self
+    TellsNext-kept c.args.sender.now c.args.number c.args.message.now c.args.self.now c.move_par.new.self
     c.enter_money.new.self.funds c.move_par.ensures.keeps c.move_par.ensures.funds c.enter_money.ensures.told
 
 pub returns-clause-room : goal.returns-clause-room
