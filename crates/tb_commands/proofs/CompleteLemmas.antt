@@ -8,6 +8,8 @@ use Rattle.tb_text_book.specs.BookLines.{Spells}
 use Rattle.tb_lines.specs.Told.{WhereTold}
 use Rattle.tb_text_book.specs.Books.{Adds, AreEntries, Book, IsBadFirst, IsBadNext, IsEntry, HasBadLine, HasBook, IsFront, empty_book}
 use Rattle.tb_lines.specs.LineEnds.{most_lines}
+use Rattle.tb_lines.specs.Reads.{LeavesOpen}
+use Rattle.tb_text_book.specs.BookReading.{IsOpenBook}
 use Rattle.tb_commands.specs.AwardRun.{AwardEnds, Printed, PrintedPrefix}
 use Rattle.tb_disk.specs.Disks.{DiskState}
 use Rattle.tb_words.specs.declared.command.Command.TheVariants as command
@@ -181,3 +183,26 @@ award-completes full ending.OutOfMemory input input' out out' disk ends = λ tex
   answered = λ book. inl (inr refl);
   refused = λ bad. inl (inr refl);
 }
+
+-- of a book no line was read
+no-line_read : (reads : ℕ) (text : List ℕ) → LeavesOpen IsOpenBook reads reads text
+no-line_read reads text = record {
+  front = [];
+  rest = lines text;
+  lines_are = refl;
+  is_open = tt;
+  reads = record {
+    taken = [];
+    rest = text;
+    text_is = refl;
+    reads = inl (omega arith);
+    front = [];
+    lines_are = refl;
+    few = omega arith;
+  };
+}
+
+-- where there was no memory nothing was read or printed
+pub award-untouched : (full : Bool) (input : SourceState) (out : SinkState)
+    → AwardEnds full ending.OutOfMemory input input out out
+award-untouched full input out = (refl, record { no_fault = refl; told = λ text told. no-line_read input.reads text })

@@ -1,5 +1,5 @@
 -- What `run` does to its disk.
-use Rattle.std.proofs.Common.{◌≡◌, ℕ, ◌+◌, ◌≤◌, List, [], ◌++◌, length, Option, Some, None, ◌⊎◌, inl, inr, sym, subst, ap, ◌∙◌, refl, arith}
+use Rattle.std.proofs.Common.{◌≡◌, ◌≢◌, ℕ, ◌+◌, ◌≤◌, List, [], ◌++◌, length, Option, Some, None, ◌⊎◌, inl, inr, sym, subst, ap, ◌∙◌, refl, arith}
 use Rattle.std.specs.Prelude.{All, Ok, Err, IfSome}
 use Rattle.tb_link.specs.Counts.{NeverFalls, Rose, last_count}
 use Rattle.tb_disk.specs.Disks.{DiskState}
@@ -87,6 +87,7 @@ pub CrashesKeep-here : (old mid new : DiskState) (first last : Standing) (recove
     → CrashesKeep old new first last
 CrashesKeep-here old mid new first last recovered faults desk = record {
   each = subst (λ (n : ℕ). All (WasAccepted last.history n) groups) desk.recovers desk.since.each;
+  now = desk.since.now;
   few = fewer desk.since.few desk.counted;
   leaves = Told-both Both (λ before now. Leaves Begins before now)
       (λ before now. Leaves (λ file. MayLeave before file ⊎ Begins file) before now) old mid new
@@ -210,14 +211,16 @@ pub Unopened-here : (why : OpenFault) (old new : DiskState)
     → Told old new IsHarmless
     → Told old new (LeavesRefused why)
     → (why ≡ fault.DiskFault → Rose old.faults new.faults)
+    → (why ≢ fault.DiskFault → new.faults ≡ old.faults)
     → NeverFalls old.faults new.faults
     → Unopened why old new
-Unopened-here why old new exact harmless refused rose count = record {
+Unopened-here why old new exact harmless refused rose no_fault count = record {
   is_true = exact;
   still = Told-weaker IsHarmless StandsStill old new StandsStill-harmless harmless;
   harmless = harmless;
   refused = refused;
   rose = rose;
+  no_fault = no_fault;
   count = count;
 }
 
@@ -229,7 +232,7 @@ Unopened-untouched disk =
     (record {
       silent = λ none. none;
       told = λ before is. (before, is, record { kept = λ _. inl refl; made = λ _. inl refl });
-    }) (λ is. absurd (cc))
+    }) (λ is. absurd (cc)) (λ other. refl)
     (record { never_falls = omega arith; bounded = λ few. few })
   where
     harmless : (past : Past) → IsHarmless past past

@@ -1,8 +1,8 @@
--- Each group that was in doubt is what a line, or a run of rows, would have added.
-use Rattle.std.proofs.Common.{◌≡◌, ℕ, ◌≤◌, List, [], ◌∷◌, length, take, Option, Some, None, inl, inr, sym, subst, ap, ◌∙◌, refl, arith, append-nil}
+-- Each group that was in doubt is what a line, a run of rows, or a parcel would have added.
+use Rattle.std.proofs.Common.{◌≡◌, ℕ, ◌≤◌, List, [], ◌∷◌, ◌++◌, length, take, Option, Some, None, inl, inr, sym, subst, ap, ◌∙◌, refl, arith, append-nil}
 use Rattle.std.specs.Prelude.{Contains, Result, Ok, Err}
 use Rattle.std.specs.List.{All}
-use Rattle.std.proofs.lemmas.List.{take_at}
+use Rattle.std.proofs.lemmas.List.{take_all, take_at}
 use Rattle.std.proofs.lemmas.List.Elements.{All-append, All-cons, All-nil, Contains-append_left, Contains-append_right, Contains-push}
 use Rattle.tb_units.specs.declared.moment.Moment.{Moment}
 use Rattle.tb_gates.specs.Clocks.{ClockState}
@@ -13,24 +13,27 @@ use Rattle.tb_message.specs.declared.query.Request.{Request}
 use Rattle.tb_message.specs.declared.query.Request.TheVariants as request
 use Rattle.tb_message.specs.declared.verdict.Verdict.{Verdict}
 use Rattle.tb_history.specs.Answer.{caller_of}
+use Rattle.tb_history.specs.Legal.{Follows}
 use Rattle.tb_history.specs.Roster.{registrations}
+use Rattle.tb_parcel.specs.declared.parcel.Parcel.{Parcel}
+use Rattle.tb_replica.specs.Crashes.{IsInDoubt, WaitsFor}
+use Rattle.tb_replica.specs.Following.{Following}
+use Rattle.tb_replica.specs.declared.taken.TakeFault.TheVariants as fault
+use Rattle.tb_replica.proofs.KeptLemmas.{kept_came}
 use Rattle.tb_desk.specs.Desks.{PlacedGroup, replies_of}
 use Rattle.tb_desk.specs.Turn.{Asked, Held, Replies, IsDoubted, group}
 use Rattle.tb_commands.specs.DiskRun.{HasGrown}
-use Rattle.tb_commands.specs.Doubted.{IsAddedBy, IsKnownAs, IsOfLines, IsOfRuns}
+use Rattle.tb_commands.specs.Doubted.{IsAddedBy, IsKnownAs, IsOfLines, IsOfParcel, IsOfParcels, IsOfRuns}
+use Rattle.tb_commands.specs.FollowTakeRun.{BreaksBehind}
 use Rattle.tb_commands.specs.ImportRun.{AreSent, IsImport, SentRow}
 use Rattle.tb_commands.specs.Replies.{Asks, IsAnswered, IsReply, asked_by}
 use Rattle.tb_commands.specs.ScriptLines.{SpellsAsk}
 use Rattle.tb_commands.specs.ScriptRun.{IsRun}
-use Rattle.tb_commands.specs.Standings.{Standing, held_at}
+use Rattle.tb_commands.specs.Standings.{Standing, held_at, in_doubt}
 use Rattle.tb_commands.specs.Turns.{GoesOneWay, MakesTurn}
 use Rattle.tb_commands.specs.declared.sender.Sender.{Sender}
 use Rattle.tb_commands.proofs.GrownLemmas.{HasGrown-both, line-goes, run-goes}
 use Rattle.tb_commands.proofs.ImportLemmas.{import-grown, sent-grown}
-
--- the group in doubt, at its place
-abbrev in_doubt : Standing → PlacedGroup
-in_doubt stands = record { before = length stands.history; group = stands.doubt }
 
 -- the groups that were in doubt are so, and the one that is
 record AllAre (Holds : PlacedGroup → Type 0) (stands : Standing) : Type 0 where
@@ -266,3 +269,57 @@ pub doubted-runs : (sender : Sender) (clock clock' : ClockState) (runs : List (L
 doubted-runs sender clock clock' runs first last text sent sure none =
     (runs-doubted sender runs last clock clock' runs first text (λ rows within. within) sent
     (AllAre-first (IsOfRuns sender runs last.history) first sure none)).were
+
+-- ---- parcels
+
+-- the group in doubt is the parcel's that waited for its place
+of-parcel : (last : Standing) (parcel : Parcel) (entry : Entry)
+    → last.doubt ≡ entry ∷ []
+    → Follows last.history entry
+    → length last.history ≡ parcel.place
+    → entry ≡ parcel.entry
+    → IsOfParcel last.history (in_doubt last) parcel
+of-parcel last parcel entry alone follows place is = record {
+  place = place;
+  alone = alone ∙ ap (λ (e : Entry). e ∷ []) is;
+  follows = subst (λ (entries : List Entry). Follows entries parcel.entry)
+      (sym (take_all (length last.history) last.history (omega arith)))
+      (subst (Follows last.history) is follows);
+}
+
+-- each group is that of one of the parcels: of the last, or of one that was kept
+pub doubted-parcels : (parcels : List Parcel) (parcel : Parcel) (first last : Standing)
+    → BreaksBehind fault.DiskFault parcels parcel first last
+    → first.doubted ≡ []
+    → All (IsOfParcels (parcels ++ parcel ∷ []) last.history) last.doubted
+doubted-parcels parcels parcel first last breaks none =
+    subst (All (IsOfParcels all last.history)) (sym only)
+    (All-cons (IsOfParcels all last.history) (in_doubt last) [] (whose doubt.waited)
+    (All-nil (IsOfParcels all last.history)))
+  where
+    all : List Parcel
+    all = parcels ++ parcel ∷ []
+
+    now : Following
+    now = breaks.0
+
+    doubt : IsInDoubt (WaitsFor parcel now) (held_at last)
+    doubt = breaks.5.0
+
+    only : last.doubted ≡ in_doubt last ∷ []
+    only = breaks.5.1 ∙ ap (λ (groups : List PlacedGroup). groups ++ in_doubt last ∷ []) none
+
+    whose : WaitsFor parcel now (length last.history) doubt.entry → IsOfParcels all last.history (in_doubt last)
+    whose (inl own) = (
+      parcel,
+      Contains-push parcels parcel,
+      of-parcel last parcel doubt.entry doubt.alone doubt.follows own.0 own.1,
+    )
+    whose (inr kept) = (
+      record { place = length last.history; entry = doubt.entry },
+      Contains-append_left parcels (parcel ∷ []) (record { place = length last.history; entry = doubt.entry })
+          (kept_came parcels breaks.2.opened now (length last.history) doubt.entry breaks.2.fresh breaks.2.taken kept.0
+          kept.1),
+      of-parcel last (record { place = length last.history; entry = doubt.entry }) doubt.entry doubt.alone
+          doubt.follows refl refl,
+    )

@@ -22,6 +22,24 @@ usage-at_2 ending.KeeperFault is = absurd (omega (arith, is))
 usage-at_2 (ending.Forked place) is = absurd (omega (arith, is))
 usage-at_2 (ending.DamagedBehind place) is = absurd (omega (arith, is))
 
+-- and 9 that of want of memory alone
+pub memory-at_9 : (ended : Ending) → status_of ended ≡ 9 → ended ≡ ending.OutOfMemory
+memory-at_9 ending.Done is = absurd (omega (arith, is))
+memory-at_9 ending.Usage is = absurd (omega (arith, is))
+memory-at_9 (ending.BadInput number) is = absurd (omega (arith, is))
+memory-at_9 ending.ReadFault is = absurd (omega (arith, is))
+memory-at_9 ending.WriteFault is = absurd (omega (arith, is))
+memory-at_9 ending.DiskFault is = absurd (omega (arith, is))
+memory-at_9 (ending.NotAJournal found) is = absurd (omega (arith, is))
+memory-at_9 (ending.Damaged place) is = absurd (omega (arith, is))
+memory-at_9 ending.OutOfMemory is = refl
+memory-at_9 ending.GateFault is = absurd (omega (arith, is))
+memory-at_9 (ending.Unsealed byte) is = absurd (omega (arith, is))
+memory-at_9 (ending.RegisterDiffers auction) is = absurd (omega (arith, is))
+memory-at_9 ending.KeeperFault is = absurd (omega (arith, is))
+memory-at_9 (ending.Forked place) is = absurd (omega (arith, is))
+memory-at_9 (ending.DamagedBehind place) is = absurd (omega (arith, is))
+
 -- that the disk wasn't opened is told by the status
 abbrev is_unopened_at : ℕ → Bool
 is_unopened_at status = (nat_le 6 status && nat_le status 8) || (status == 11)

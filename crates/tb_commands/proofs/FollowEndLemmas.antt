@@ -1,5 +1,5 @@
 -- How `follow send` and `follow take` end.
-use Rattle.std.proofs.Common.{◌≡◌, ◌≢◌, ◌⊎◌, inl, inr, ℕ, ◌≤◌, List, [], ◌++◌, refl, ap, sym, ◌∙◌, subst, append-nil, append_assoc}
+use Rattle.std.proofs.Common.{◌≡◌, ◌≢◌, ◌⊎◌, inl, inr, ℕ, ◌+◌, ◌≤◌, List, [], ◌++◌, length, refl, ap, sym, ◌∙◌, subst, append-nil, append_assoc}
 use Rattle.std.specs.Prelude.{Option, Some, None, Result, Ok, Err, IfSome}
 use Rattle.tb_link.specs.Counts.{Rose}
 use Rattle.tb_link.specs.Sources.{SourceState}
@@ -13,6 +13,7 @@ use Rattle.tb_desk.specs.Replay.{IsTrueIn, SpeaksOfFile}
 use Rattle.tb_desk.specs.declared.fault.OpenFault.{OpenFault}
 use Rattle.tb_message.specs.declared.version.Version.TheVariants.{Second}
 use Rattle.tb_parcel.specs.declared.parcel.Parcel.{Parcel}
+use Rattle.tb_parcel.specs.Parcels.{parcel_bytes}
 use Rattle.tb_replica.specs.Following as followed
 use Rattle.tb_replica.specs.Following.{Following, Outcome}
 use Rattle.tb_replica.specs.declared.taken.TakeFault.TheVariants as fault
@@ -23,7 +24,7 @@ use Rattle.tb_commands.specs.DiskRun.{HasGrown, Opened}
 use Rattle.tb_commands.specs.Endings.{ending_of, of_disk, of_send, of_take}
 use Rattle.tb_commands.specs.FollowSendRun.{FollowSendEnds, RoseWith, Sends, SendsDesk}
 use Rattle.tb_commands.specs.FollowSteps.{InputTaken, IsTakenAs}
-use Rattle.tb_commands.specs.FollowTakeRun.{BreaksOff, FollowTakeEnds, IsParcels, TakeEnds}
+use Rattle.tb_commands.specs.FollowTakeRun.{BreaksOff, FollowTakeEnds, IsParcels, IsSureSince, LeavesInDoubt, TakeEnds}
 use Rattle.tb_commands.specs.FollowTakeRun.{TakesAll, TakesBefore, TakesInPart, bytes_of, most_parcels}
 use Rattle.tb_commands.specs.ParcelInput.{FindsWhereTold}
 use Rattle.tb_commands.specs.RunEnds.{Devices}
@@ -99,7 +100,7 @@ module _ (old : DiskState) (input input' : SourceState) (first last : Standing) 
   }
 
   -- the first bad one is told
-  bad-answered : (number : ℕ) → TakesBefore number input first last → AnswersParcels old text (ending.BadInput number)
+  bad-answered : (number : ℕ) → TakesBefore number input input' first last → AnswersParcels old text (ending.BadInput number)
   bad-answered number taken = record {
     answered = λ parcels whole. absurd (whole_not_bad parcels taken.0 number text whole (taken.3 text told));
     refused = λ other parcels bad.
@@ -109,7 +110,7 @@ module _ (old : DiskState) (input input' : SourceState) (first last : Standing) 
   -- and so is a fork
   fork-answered : (place : ℕ)
       → Opened old first
-      → BreaksOff (fault.Forked place) input first last
+      → BreaksOff (fault.Forked place) input input' first last
       → AnswersParcels old text (ending.Forked place)
   fork-answered place opened broken =
       let come = broken.3.1 text told in
@@ -121,7 +122,7 @@ module _ (old : DiskState) (input input' : SourceState) (first last : Standing) 
         parcels = broken.0;
         parcel = broken.1;
         last = last.history;
-        forks = broken.2;
+        forks = (broken.2.0, broken.2.1, broken.2.2, broken.2.3, broken.2.4, tt);
         rest = come.0;
         is = come.1;
       } in
@@ -237,6 +238,19 @@ module _ (input input' : SourceState) (first last : Standing) where
   part-since own before between now same part =
       subst (λ (n : ℕ). TakesInPart own input input' n now first last) same part
 
+  -- and one until it is handed back
+  part-here : (own : TakeEnding) (old new : Devices) (mid left : DiskState)
+      → mid.faults ≡ old.disk.faults
+      → new.disk ≡ left
+      → TakesInPart own input input' mid.faults left.faults first last
+      → new.out ≡ old.out
+      → TakesInPart own input input' old.disk.faults new.disk.faults first last × (new.out ≡ old.out)
+  part-here own old new mid left same is part silent = (
+    subst (λ (d : DiskState). TakesInPart own input input' old.disk.faults d.faults first last) (sym is)
+        (part-since own old.disk.faults mid.faults left.faults same part),
+    silent,
+  )
+
   -- with a copy that was opened on the disk
   pub TakeEnds-since : (own : TakeEnding) (old new : Devices) (mid left : DiskState)
       → mid.faults ≡ old.disk.faults
@@ -246,56 +260,65 @@ module _ (input input' : SourceState) (first last : Standing) where
       → TakeEnds own input input' old new first last
   TakeEnds-since take_ending.Done old new mid left same is ends = ends
   TakeEnds-since take_ending.WriteFault old new mid left same is ends = ends
-  TakeEnds-since (take_ending.BadInput number) old new mid left same is ends = ends
-  TakeEnds-since take_ending.ReadFault old new mid left same is ends = ends
-  TakeEnds-since take_ending.DiskFault old new mid left same is ends = (
-    subst (λ (d : DiskState). TakesInPart take_ending.DiskFault input input' old.disk.faults d.faults first last)
-        (sym is)
-        (part-since take_ending.DiskFault old.disk.faults mid.faults left.faults same ends.0),
-    ends.1,
-  )
-  TakeEnds-since (take_ending.Forked place) old new mid left same is ends = ends
-  TakeEnds-since take_ending.OutOfMemory old new mid left same is ends = ends
+  TakeEnds-since (take_ending.BadInput number) old new mid left same is ends =
+      part-here (take_ending.BadInput number) old new mid left same is ends.0 ends.1
+  TakeEnds-since take_ending.ReadFault old new mid left same is ends =
+      part-here take_ending.ReadFault old new mid left same is ends.0 ends.1
+  TakeEnds-since take_ending.DiskFault old new mid left same is ends =
+      part-here take_ending.DiskFault old new mid left same is ends.0 ends.1
+  TakeEnds-since (take_ending.Forked place) old new mid left same is ends =
+      part-here (take_ending.Forked place) old new mid left same is ends.0 ends.1
+  TakeEnds-since take_ending.OutOfMemory old new mid left same is ends =
+      part-here take_ending.OutOfMemory old new mid left same is ends.0 ends.1
 
 module _ (history : List Entry) (number : ℕ) (input : SourceState) (now : Following) (coming : Option (List ℕ))
-    (so_far : SoFar history number input now coming) where
+    (count : ℕ) (so_far : SoFar history number input now coming count) where
   -- the next parcel was answered with a fault
   pub InputTaken-broken : (own : TakeEnding) (new : Following) (parcel : Parcel) (behind : Option (List ℕ))
       (read : List ℕ) (input' : SourceState) (faults faults' : ℕ) (first last : Standing)
       → first.history ≡ history
       → last.history ≡ new.history
-      → (own ≢ take_ending.DiskFault → last.doubt ≡ [])
+      → (own ≢ take_ending.DiskFault → IsSureSince first last)
+      → (own ≡ take_ending.DiskFault → LeavesInDoubt fault.DiskFault parcel first last now)
       → (own ≡ take_ending.DiskFault → Rose faults faults')
+      → (own ≢ take_ending.DiskFault → faults' ≡ faults)
       → number ≤ most_parcels
       → IsInRange parcel.entry
       → IsTakenAs parcel now new (Err own)
       → FindsWhereTold coming (Ok (Some parcel)) behind read
+      → input'.faults ≡ input.faults
+      → input'.reads ≤ count + length (parcel_bytes parcel)
       → InputTaken (Err own) input input' faults faults' first last
-  InputTaken-broken take_ending.Done new parcel behind read input' faults faults' first last begins is sure rose few
-      in_range taken finds = absurd taken
-  InputTaken-broken take_ending.WriteFault new parcel behind read input' faults faults' first last begins is sure rose
-      few in_range taken finds = absurd taken
-  InputTaken-broken take_ending.ReadFault new parcel behind read input' faults faults' first last begins is sure rose
-      few in_range taken finds = absurd taken
-  InputTaken-broken (take_ending.BadInput other) new parcel behind read input' faults faults' first last begins is sure
-      rose few in_range taken finds = absurd taken
-  InputTaken-broken take_ending.DiskFault new parcel behind read input' faults faults' first last begins is sure rose
-      few in_range taken finds = (
-        BreaksOff-here history number input now coming so_far fault.DiskFault new parcel behind read first last begins
-            is few in_range taken finds,
+  InputTaken-broken take_ending.Done new parcel behind read input' faults faults' first last begins is sure left
+      rose stays few in_range taken finds same reads = absurd taken
+  InputTaken-broken take_ending.WriteFault new parcel behind read input' faults faults' first last begins is sure left
+      rose stays few in_range taken finds same reads = absurd taken
+  InputTaken-broken take_ending.ReadFault new parcel behind read input' faults faults' first last begins is sure left
+      rose stays few in_range taken finds same reads = absurd taken
+  InputTaken-broken (take_ending.BadInput other) new parcel behind read input' faults faults' first last begins is sure left
+      rose stays few in_range taken finds same reads = absurd taken
+  InputTaken-broken take_ending.DiskFault new parcel behind read input' faults faults' first last begins is sure left
+      rose stays few in_range taken finds same reads = (
+        BreaksOff-here history number input now coming count so_far fault.DiskFault new parcel behind read input' first
+            last begins is few in_range taken (left refl) finds reads,
         rose refl,
+        same,
       )
-  InputTaken-broken (take_ending.Forked place) new parcel behind read input' faults faults' first last begins is sure
-      rose few in_range taken finds = (
-        BreaksOff-here history number input now coming so_far (fault.Forked place) new parcel behind read first last
-            begins is few in_range taken finds,
-        sure (λ same. (cc)),
+  InputTaken-broken (take_ending.Forked place) new parcel behind read input' faults faults' first last begins is sure left
+      rose stays few in_range taken finds same reads = (
+        BreaksOff-here history number input now coming count so_far (fault.Forked place) new parcel behind read input'
+            first last begins is few in_range taken (sure (λ other. (cc))) finds reads,
+        (sure (λ other. (cc))).0,
+        same,
+        stays (λ other. (cc)),
       )
-  InputTaken-broken take_ending.OutOfMemory new parcel behind read input' faults faults' first last begins is sure rose
-      few in_range taken finds = (
-        inl (BreaksOff-here history number input now coming so_far fault.OutOfMemory new parcel behind read first last
-            begins is few in_range taken finds),
-        sure (λ same. (cc)),
+  InputTaken-broken take_ending.OutOfMemory new parcel behind read input' faults faults' first last begins is sure left
+      rose stays few in_range taken finds same reads = (
+        inl (BreaksOff-here history number input now coming count so_far fault.OutOfMemory new parcel behind read input'
+            first last begins is few in_range taken (sure (λ other. (cc))) finds reads),
+        (sure (λ other. (cc))).0,
+        same,
+        stays (λ other. (cc)),
       )
 
   -- the copy has gone on from the history that it was opened with

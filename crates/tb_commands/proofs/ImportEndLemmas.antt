@@ -52,12 +52,16 @@ module _ (sender : Sender) (clock clock' : ClockState) (input input' : SourceSta
   TableEnds-rows ending.ReadFault rows has ends = absurd ends
   TableEnds-rows ending.WriteFault rows has ends =
       (ends.0, record { rows = rows; table = has.table; sent = ends.1 })
-  TableEnds-rows ending.OutOfMemory rows has ends = inr (record {
-    rest = ends.0;
-    text = ends.1.0;
-    sent = record { rows = rows; table = has.table; sent = ends.1.1 };
-    taken = ends.1.2.taken;
-  })
+  TableEnds-rows ending.OutOfMemory rows has ends = (
+    inr (record {
+      rest = ends.0;
+      text = ends.1.0;
+      sent = record { rows = rows; table = has.table; sent = ends.1.1 };
+      taken = ends.1.2.taken;
+    }),
+    has.table.no_fault,
+    ends.1.2.no_fault,
+  )
 
 -- without rows nothing was sent
 pub TableEnds-none : (sender : Sender) (clock : ClockState) (input input' : SourceState) (out : SinkState)
@@ -68,7 +72,7 @@ TableEnds-none sender clock input input' out stands ending.Done none = absurd no
 TableEnds-none sender clock input input' out stands (ending.BadInput number) none = ((refl, refl, refl), none)
 TableEnds-none sender clock input input' out stands ending.ReadFault none = ((refl, refl, refl), none)
 TableEnds-none sender clock input input' out stands ending.WriteFault none = absurd none
-TableEnds-none sender clock input input' out stands ending.OutOfMemory none = inl (refl, refl, refl)
+TableEnds-none sender clock input input' out stands ending.OutOfMemory none = (inl (refl, refl, refl), none, refl)
 
 -- bytes that are a table aren't told of as bad
 table-good : (bytes : List ℕ) (rows : List SentRow) (number : ℕ) → IsTable bytes rows → ¬ (IsFirstBad bytes number)

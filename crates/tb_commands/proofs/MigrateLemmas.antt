@@ -66,7 +66,8 @@ migrate-silent (ending.Unmigrated why) old new ends unopened = ends.tells.0
 -- where there was no memory nothing was done
 pub migrate-untouched : (moved : Moved) → MigrateEnds (ending.Unmigrated (From fault.OutOfMemory)) moved moved
 migrate-untouched moved = record {
-  tells = (refl, exact moved.disk.past, (λ is. (absurd (cc))));
+  tells = (refl, exact moved.disk.past, (λ is. (absurd (cc))), (λ other. refl, refl));
+  sealed = tt;
   kept = record { silent = λ none. none; told = λ before is. (before, is, inl refl) };
   spare = record { silent = λ none. none; told = λ before is. (before, is, inl refl) };
 }

@@ -5,7 +5,9 @@ use Rattle.tb_terms.specs.declared.cusip.Cusip.{Cusip}
 use Rattle.tb_words.specs.declared.command.Command.TheVariants as command
 use Rattle.tb_commands.specs.Completeness.{Completes, HasDiffered, IsAnswered}
 use Rattle.tb_commands.specs.Endings.{ending_of, of_disk, of_register}
-use Rattle.tb_commands.specs.RegisterRun.{RegisterEnds, Registry}
+use Rattle.tb_filing.specs.declared.filing.FilingFault.{FilingFault}
+use Rattle.tb_filing.specs.declared.filing.FilingFault.TheVariants as fault
+use Rattle.tb_commands.specs.RegisterRun.{RegisterEnds, Registry, of_filing}
 use Rattle.tb_commands.specs.declared.command_endings.DiskEnding.{DiskEnding}
 use Rattle.tb_commands.specs.declared.command_endings.DiskEnding.TheVariants as disk_ending
 use Rattle.tb_commands.specs.declared.command_endings.RegisterEnding.{RegisterEnding}
@@ -36,3 +38,9 @@ register-completes bill (disk_ending.Opened own) input input' old new filed =
     (registers-answered own)
 register-completes bill (disk_ending.Unopened why) input input' old new filed =
     Opens-none why old.disk new.disk (IsFiled (ending_of why)) filed.ends.unopened
+
+-- memory lacked where filing lacked it
+pub filing-lacked : (why : FilingFault) → of_register (of_filing why) ≡ program.OutOfMemory → why ≡ fault.OutOfMemory
+filing-lacked (fault.Differs auction) is = absurd (cc (is))
+filing-lacked fault.Failed is = absurd (cc (is))
+filing-lacked fault.OutOfMemory is = refl

@@ -10,7 +10,8 @@ use Rattle.tb_link.specs.Sinks.{SinkState, after_taken}
 use Rattle.tb_commands.specs.DiskRun.{HasGrown}
 use Rattle.tb_text_book.specs.Grammars.{LeavesGrammar}
 use Rattle.tb_lines.specs.LineEnds.{is_line_feed, most_lines}
-use Rattle.tb_lines.specs.Lines.{StaysAtEnd, ahead, still_left, unread}
+use Rattle.tb_lines.specs.Lines.{StaysAtEnd, ahead, unread}
+use Rattle.tb_lines.specs.Pieces.{still_left}
 use Rattle.tb_lines.specs.Reads.{ReadsLines, ReadsNoMore}
 use Rattle.tb_commands.specs.RunEnds.{ActedOn, BrokenOff, CutOff, Finished, LeftOff, ReadsNext, ScriptEnds, Stopped}
 use Rattle.tb_commands.specs.ScriptLines.{IsAsk, IsEnd}
@@ -76,7 +77,7 @@ pub record SoFar (operator : List ℕ) (count : ℕ) (source : SourceState) (out
   pub out_faults : now.out.faults ≡ out.faults
   pub faults : now.source.faults ≡ source.faults
   pub reached : WhereTold source.left
-      (IsReached source.reads now.source.reads now.reader.ended acted (ahead now.reader now.source))
+      (IsReached source.reads now.source.reads now.reader.pieces.ended acted (ahead now.reader now.source))
 
 -- nothing behind what was taken is nothing more
 pub after_taken-nothing : (taken : Option (List ℕ)) → taken ≡ after_taken taken []
@@ -92,7 +93,7 @@ after_taken-more (Some bytes) one other = ap Some (append_assoc bytes one other)
 -- before the first line
 pub SoFar-start : (operator : List ℕ) (now : RunState)
     → unread now.reader ≡ []
-    → now.reader.ended ≡ false
+    → now.reader.pieces.ended ≡ false
     → SoFar operator 0 now.source now.out now.stands now
 SoFar-start operator now none going = record {
   acted = [];
@@ -107,11 +108,11 @@ SoFar-start operator now none going = record {
   where
     started : (text : List ℕ)
         → now.source.left ≡ Some text
-        → IsReached now.source.reads now.source.reads now.reader.ended [] (ahead now.reader now.source) text
+        → IsReached now.source.reads now.source.reads now.reader.pieces.ended [] (ahead now.reader now.source) text
     started text told =
         let is = ahead-start now.reader now.source text none going told in
-        let start : ReadsNoMore now.source.reads now.source.reads now.reader.ended (ahead now.reader now.source) text =
-        ReadsNoMore-start now.source.reads now.reader.ended (ahead now.reader now.source) text is in
+        let start : ReadsNoMore now.source.reads now.source.reads now.reader.pieces.ended (ahead now.reader now.source) text =
+        ReadsNoMore-start now.source.reads now.reader.pieces.ended (ahead now.reader now.source) text is in
         record {
           reads = start;
           lines_are = ap lines (same_rest (ahead now.reader now.source) text start.rest is start.behind_is);
@@ -119,15 +120,15 @@ SoFar-start operator now none going = record {
 
 -- a line was taken from the text that follows
 module _ (acted : List (List ℕ)) (line text : List ℕ) (before : ℕ) (now new : RunState)
-    (so_far : IsReached before now.source.reads now.reader.ended acted (ahead now.reader now.source) text)
+    (so_far : IsReached before now.source.reads now.reader.pieces.ended acted (ahead now.reader now.source) text)
     (next : WhereTold (ahead now.reader now.source)
-    (IsNext now.source.reads new.source.reads new.reader.ended line (ahead new.reader new.source)))
+    (IsNext now.source.reads new.source.reads new.reader.pieces.ended line (ahead new.reader new.source)))
     (once : StaysAtEnd now.reader new.reader now.source new.source) where
   -- nothing behind it was read
-  pub line-reads : ReadsNoMore before new.source.reads new.reader.ended (ahead new.reader new.source) text
+  pub line-reads : ReadsNoMore before new.source.reads new.reader.pieces.ended (ahead new.reader new.source) text
   line-reads =
-      ReadsNoMore-then before now.source.reads new.source.reads now.reader.ended (ahead now.reader now.source) text
-      so_far.reads (λ ended. (once ended).1) new.reader.ended (ahead new.reader new.source)
+      ReadsNoMore-then before now.source.reads new.source.reads now.reader.pieces.ended (ahead now.reader now.source) text
+      so_far.reads (λ ended. (once ended).1) new.reader.pieces.ended (ahead new.reader new.source)
       (λ t told. (next t told).reads) (λ ended. (once ended).0)
 
   -- it stands behind the lines that were acted on
@@ -142,7 +143,7 @@ module _ (acted : List (List ℕ)) (line text : List ℕ) (before : ℕ) (now ne
       ∙ ap (λ (r : List ℕ). acted ++ line ∷ lines r) same)
 
   -- one line more was acted on
-  pub IsReached-more : IsReached before new.source.reads new.reader.ended (acted ++ line ∷ [])
+  pub IsReached-more : IsReached before new.source.reads new.reader.pieces.ended (acted ++ line ∷ [])
       (ahead new.reader new.source) text
   IsReached-more = record {
     reads = line-reads;
@@ -172,7 +173,7 @@ module _ (operator : List ℕ) (count : ℕ) (source : SourceState) (out : SinkS
 
   -- the script is left by what comes next
   stopped : (number : ℕ) (source' : SourceState) (last : Standing) (out' : SinkState) (text : List ℕ)
-      (reached : IsReached source.reads now.source.reads now.reader.ended so_far.acted (ahead now.reader now.source)
+      (reached : IsReached source.reads now.source.reads now.reader.pieces.ended so_far.acted (ahead now.reader now.source)
       text)
       → ReadsNext so_far.acted source source' text
       → Stay now.stands last now.out out'
@@ -204,7 +205,7 @@ module _ (operator : List ℕ) (count : ℕ) (source : SourceState) (out : SinkS
       no_fault = so_far.faults;
       told = λ text told. let reached = so_far.reached text told in
           stopped number now.source now.stands now.out text reached
-          (ReadsLines-whole source.reads now.source.reads now.reader.ended (ahead now.reader now.source) text
+          (ReadsLines-whole source.reads now.source.reads now.reader.pieces.ended (ahead now.reader now.source) text
           so_far.acted
           (length so_far.acted + 1) reached.reads reached.lines_are (omega arith)) (refl, refl) number_is (omega arith)
           (too_many (length so_far.acted) (lines reached.reads.rest) (omega (arith, so_far.size)));
@@ -224,7 +225,7 @@ module _ (operator : List ℕ) (count : ℕ) (source : SourceState) (out : SinkS
     reads-next : WhereTold source.left (ReadsNext so_far.acted source new.source)
     reads-next text told =
         let reached = so_far.reached text told in
-        ReadsLines-more source.reads now.source.reads new.source.reads now.reader.ended (ahead now.reader now.source)
+        ReadsLines-more source.reads now.source.reads new.source.reads now.reader.pieces.ended (ahead now.reader now.source)
         text reached.reads (λ ended. (once ended).1) so_far.acted 1 reached.lines_are alone
 
     -- the history has grown where it stays
@@ -295,7 +296,7 @@ module _ (operator : List ℕ) (count : ℕ) (source : SourceState) (out : SinkS
 
     -- a read has failed
     pub CutOff-here : ahead new.reader new.source ≡ ahead now.reader now.source
-        → new.reader.ended ≡ false
+        → new.reader.pieces.ended ≡ false
         → position is_line_feed (unread new.reader) ≡ None
         → Stay now.stands new.stands now.out new.out
         → WhereTold source.left (CutOff operator source new.source out new.out first new.stands)
@@ -384,7 +385,10 @@ module _ (operator : List ℕ) (count : ℕ) (source : SourceState) (out : SinkS
       subst (λ (n : ℕ). Rose n new.out.faults) so_far.out_faults ends.holds.fails.rose,
       record { no_fault = ends.no_fault ∙ so_far.faults; told = BrokenOff-here ends },
     )
-    ScriptEnds-here ending.OutOfMemory few ends = LeftOff-here ends
+    ScriptEnds-here ending.OutOfMemory few ends = (
+      record { no_fault = ends.0 ∙ so_far.faults; told = LeftOff-here ends.1 },
+      out-same new.out ends.1.1,
+    )
 
     -- the history begins with the first one, whatever the next line did
     pub HasGrown-end : (result : Option TextEnding)
@@ -395,7 +399,7 @@ module _ (operator : List ℕ) (count : ℕ) (source : SourceState) (out : SinkS
     HasGrown-end (Some (ending.BadInput number)) ends = grown_as ends.3.0
     HasGrown-end (Some ending.ReadFault) ends = grown_as ends.4.0
     HasGrown-end (Some ending.WriteFault) ends = grown_by ends.line ends.holds.reply ends.holds.acted
-    HasGrown-end (Some ending.OutOfMemory) ends = grown_as ends.0
+    HasGrown-end (Some ending.OutOfMemory) ends = grown_as ends.1.0
 
     -- the script goes on
     pub SoFar-next : (result : Option TextEnding)

@@ -111,14 +111,14 @@ ActsInVain-here operator line ask old new reply out out' spells answered fails =
 pub NextEnds-line : (operator : List ℕ) (number : ℕ) (result : Option TextEnding) (line : List ℕ) (old new : RunState)
     → FindsWhereTold (ahead old.reader old.source) next.Line line (ahead new.reader new.source)
     → WhereTold (ahead old.reader old.source)
-    (ReadsNoMore old.source.reads new.source.reads new.reader.ended (ahead new.reader new.source))
+    (ReadsNoMore old.source.reads new.source.reads new.reader.pieces.ended (ahead new.reader new.source))
     → new.source.faults ≡ old.source.faults
     → LineEnds operator number line result old.stands new.stands old.out new.out
     → NextEnds operator number result old new
 NextEnds-line operator number None line old new found reads no_fault ends = record {
   line = line;
   next =
-      λ text told. IsNext-found old.source.reads new.source.reads new.reader.ended line (ahead new.reader new.source)
+      λ text told. IsNext-found old.source.reads new.source.reads new.reader.pieces.ended line (ahead new.reader new.source)
       text (found text told) (reads text told);
   no_fault = no_fault;
   holds = ends;
@@ -127,7 +127,7 @@ NextEnds-line operator number (Some ending.Done) line old new found reads no_fau
   record {
     line = line;
     next =
-        λ text told. IsNext-found old.source.reads new.source.reads new.reader.ended line (ahead new.reader new.source)
+        λ text told. IsNext-found old.source.reads new.source.reads new.reader.pieces.ended line (ahead new.reader new.source)
         text (found text told) (reads text told);
     no_fault = no_fault;
     holds = ends.0;
@@ -144,9 +144,9 @@ NextEnds-line operator number (Some ending.ReadFault) line old new found reads n
 NextEnds-line operator number (Some ending.WriteFault) line old new found reads no_fault ends = record {
   line = line;
   next =
-      λ text told. IsNext-found old.source.reads new.source.reads new.reader.ended line (ahead new.reader new.source)
+      λ text told. IsNext-found old.source.reads new.source.reads new.reader.pieces.ended line (ahead new.reader new.source)
       text (found text told) (reads text told);
   no_fault = no_fault;
   holds = ends;
 }
-NextEnds-line operator number (Some ending.OutOfMemory) line old new found reads no_fault ends = ends
+NextEnds-line operator number (Some ending.OutOfMemory) line old new found reads no_fault ends = (no_fault, ends)

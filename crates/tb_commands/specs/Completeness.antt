@@ -90,7 +90,7 @@ pub record IsForked (disk : DiskState) (text : List ℕ) (ended : Ending) : Type
   pub parcels : List Parcel
   pub parcel : Parcel
   pub last : List Entry
-  pub forks : BreaksAt (fault.Forked place) parcels parcel history last
+  pub forks : BreaksAt (fault.Forked place) parcels parcel history last (λ now. Unit {0})
   pub rest : List ℕ
   pub is : text ≡ bytes_of (parcels ++ parcel ∷ []) ++ rest
 

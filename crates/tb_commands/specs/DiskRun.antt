@@ -1,5 +1,5 @@
 -- What `run` and `serve` do to their disk.
-use Rattle.std.specs.Prelude.{◌≡◌, ◌⊎◌, ◌+◌, ◌≤◌, List, [], ◌++◌, length, All, Ok, Err, IfSome}
+use Rattle.std.specs.Prelude.{◌≡◌, ◌≢◌, ◌⊎◌, ◌+◌, ◌≤◌, List, [], ◌++◌, length, All, Contains, Ok, Err, IfSome}
 use Rattle.tb_link.specs.Counts.{Rose, NeverFalls, last_count}
 use Rattle.tb_disk.specs.Disks.{DiskState}
 use Rattle.tb_disk.specs.Past.{Past, contents_of, MayLeave, Leaves}
@@ -12,7 +12,7 @@ use Rattle.tb_desk.specs.Replay.{IsExact, LeavesRefused}
 use Rattle.tb_desk.specs.Stands.{LeavesEither, StandsForEither, StandsForHistory}
 use Rattle.tb_desk.specs.declared.fault.OpenFault.{OpenFault}
 use Rattle.tb_desk.specs.declared.fault.OpenFault.TheVariants as fault
-use Rattle.tb_commands.specs.Standings.{Standing}
+use Rattle.tb_commands.specs.Standings.{Standing, in_doubt}
 
 -- the desk was opened on the disk: this history is what the file stood for, and nothing else is true of the file;
 -- nothing is in doubt or was, and no fault was counted
@@ -33,9 +33,11 @@ pub record Stays (last : Standing) (disk : DiskState) : Type 0 where
 
 -- Every crash during the command left what a crash before it could leave; or a beginning of the last history that has
 -- all that the file stood for; or one followed by one of the groups that were in doubt after a turn, which was accepted
--- there. There are no more of these than the disk's count of faults rose, unless it has reached its last value.
+-- there. The group that is in doubt in the end is one of these, behind the whole history. There are no more of them than
+-- the disk's count of faults rose, unless it has reached its last value.
 pub record CrashesKeep (old new : DiskState) (first last : Standing) : Type 0 where
   pub each : All (WasAccepted last.history (length first.history)) last.doubted
+  pub now : 1 ≤ length last.doubt → Contains last.doubted (in_doubt last)
   pub few : (first.faults + length last.doubted ≤ last.faults) ⊎ (last_count ≤ last.faults)
   pub leaves : Told old new
       (λ before now. Leaves
@@ -71,4 +73,5 @@ pub record Unopened (why : OpenFault) (old new : DiskState) : Type 0 where
   pub harmless : Told old new IsHarmless
   pub refused : Told old new (LeavesRefused why)
   pub rose : why ≡ fault.DiskFault → Rose old.faults new.faults
+  pub no_fault : why ≢ fault.DiskFault → new.faults ≡ old.faults
   pub count : NeverFalls old.faults new.faults

@@ -1,12 +1,14 @@
 -- Whose groups were in doubt.
-use Rattle.std.specs.Prelude.{◌≡◌, ℕ, List, take, Contains, Ok, Some}
+use Rattle.std.specs.Prelude.{◌≡◌, ℕ, List, [], ◌∷◌, take, Contains, Ok, Some}
 use Rattle.tb_units.specs.declared.moment.Moment.{Moment}
 use Rattle.tb_message.specs.declared.key.Key.{Key}
 use Rattle.tb_message.specs.declared.message.Entry.{Entry}
 use Rattle.tb_message.specs.declared.message.Message.{Message}
 use Rattle.tb_message.specs.declared.query.Request.TheVariants as request
 use Rattle.tb_history.specs.Answer.{caller_of}
+use Rattle.tb_history.specs.Legal.{Follows}
 use Rattle.tb_history.specs.Roster.{registrations}
+use Rattle.tb_parcel.specs.declared.parcel.Parcel.{Parcel}
 use Rattle.tb_desk.specs.Desks.{PlacedGroup}
 use Rattle.tb_desk.specs.Turn.{Asked, group}
 use Rattle.tb_commands.specs.ImportRun.{SentRow}
@@ -52,3 +54,13 @@ IsOfLines operator lines history placed =
 abbrev pub IsOfRuns : Sender → List (List SentRow) → List Entry → PlacedGroup → Type 0
 IsOfRuns sender runs history placed =
     (rows : List SentRow) × Contains runs rows × IsOfRows sender history placed rows
+
+-- it is the entry of the parcel, whose place it is: one that could follow there
+pub record IsOfParcel (history : List Entry) (placed : PlacedGroup) (parcel : Parcel) : Type 0 where
+  pub place : placed.before ≡ parcel.place
+  pub alone : placed.group ≡ parcel.entry ∷ []
+  pub follows : Follows (take placed.before history) parcel.entry
+
+-- it is that of one of the parcels
+abbrev pub IsOfParcels : List Parcel → List Entry → PlacedGroup → Type 0
+IsOfParcels parcels history placed = (parcel : Parcel) × Contains parcels parcel × IsOfParcel history placed parcel

@@ -154,7 +154,9 @@ TableEnds sender clock clock' ending.ReadFault input input' out out' first last 
 TableEnds sender clock clock' ending.WriteFault input input' out out' first last =
     Rose out.faults out'.faults × ImportBrokenOff sender clock clock' input input' out out' first last
 TableEnds sender clock clock' ending.OutOfMemory input input' out out' first last =
-    NoneSent clock clock' out out' first last ⊎ ImportedInPart sender clock clock' input input' out out' first last
+    (NoneSent clock clock' out out' first last ⊎ ImportedInPart sender clock clock' input input' out out' first last)
+    × (input'.faults ≡ input.faults)
+    × (out'.faults ≡ out.faults)
 
 -- how the command ends; however it does, each read gave at least one byte, but for one that found the end of the input
 pub record ImportEnds (sender : Sender) (clock clock' : ClockState) (ended : DiskEnding TextEnding)

@@ -104,7 +104,7 @@ ScriptEnds operator ending.ReadFault input input' out out' first last =
 ScriptEnds operator ending.WriteFault input input' out out' first last =
     Rose out.faults out'.faults × ReadsWithoutFault input input' (BrokenOff operator input input' out out' first last)
 ScriptEnds operator ending.OutOfMemory input input' out out' first last =
-    WhereTold input.left (LeftOff operator input input' out out' first last)
+    ReadsWithoutFault input input' (LeftOff operator input input' out out' first last) × (out'.faults ≡ out.faults)
 
 -- what a command writes on: its output and its disk
 pub record Devices : Type 0 where

@@ -64,7 +64,7 @@ pub record RunState : Type 0 where
 pub record TakesLine (old new : RunState) (Holds : List ℕ → Type 0) : Type 0 where
   pub line : List ℕ
   pub next : WhereTold (ahead old.reader old.source)
-      (IsNext old.source.reads new.source.reads new.reader.ended line (ahead new.reader new.source))
+      (IsNext old.source.reads new.source.reads new.reader.pieces.ended line (ahead new.reader new.source))
   pub no_fault : new.source.faults ≡ old.source.faults
   pub holds : Holds line
 
@@ -82,9 +82,10 @@ NextEnds operator number (Some (ending.BadInput at)) old new =
 NextEnds operator number (Some ending.ReadFault) old new =
     Rose old.source.faults new.source.faults
     × (ahead new.reader new.source ≡ ahead old.reader old.source)
-    × (new.reader.ended ≡ false)
+    × (new.reader.pieces.ended ≡ false)
     × (position is_line_feed (unread new.reader) ≡ None)
     × Stay old.stands new.stands old.out new.out
 NextEnds operator number (Some ending.WriteFault) old new =
     TakesLine old new (λ line. ActsInVain operator line old.stands new.stands old.out new.out)
-NextEnds operator number (Some ending.OutOfMemory) old new = Stay old.stands new.stands old.out new.out
+NextEnds operator number (Some ending.OutOfMemory) old new =
+    (new.source.faults ≡ old.source.faults) × Stay old.stands new.stands old.out new.out

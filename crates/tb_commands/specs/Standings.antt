@@ -1,5 +1,5 @@
 -- Where a script stands on a disk, between its lines.
-use Rattle.std.specs.Prelude.{ℕ, List}
+use Rattle.std.specs.Prelude.{ℕ, List, length}
 use Rattle.tb_disk.specs.Disks.{DiskState}
 use Rattle.tb_message.specs.declared.message.Entry.{Entry}
 use Rattle.tb_desk.specs.Desks.{DeskView, PlacedGroup}
@@ -21,3 +21,7 @@ standing disk desk =
 -- what is held there
 abbrev pub held_at : Standing → Held
 held_at stands = record { history = stands.history; doubt = stands.doubt }
+
+-- the group in doubt, at its place behind the history
+abbrev pub in_doubt : Standing → PlacedGroup
+in_doubt stands = record { before = length stands.history; group = stands.doubt }

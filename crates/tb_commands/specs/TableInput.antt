@@ -1,5 +1,5 @@
 -- A table of bids that is read from the input.
-use Rattle.std.specs.Prelude.{◌≡◌, ◌⊎◌, ℕ, ◌<◌, List, [], ◌++◌, length, Some, Result, Ok, Err, ⊤}
+use Rattle.std.specs.Prelude.{◌≡◌, ◌⊎◌, ℕ, ◌<◌, List, [], ◌++◌, length, Some, Result, Ok, Err}
 use Rattle.tb_link.specs.Counts.{Rose}
 use Rattle.tb_link.specs.Sources.{SourceState}
 use Rattle.tb_message.specs.declared.message.Message.{Message}
@@ -29,5 +29,5 @@ AnswersInput input input' (Ok rows) = HasRows input input' rows
 AnswersInput input input' (Err (ending.BadInput number)) =
     ReadsWithoutFault input input' (λ bytes. IsFirstBad bytes number)
 AnswersInput input input' (Err ending.ReadFault) = Rose input.faults input'.faults
-AnswersInput input input' (Err ending.OutOfMemory) = ⊤
+AnswersInput input input' (Err ending.OutOfMemory) = input'.faults ≡ input.faults
 AnswersInput input input' (Err ended) = ⊥

@@ -1,9 +1,11 @@
 //! The command `follow take`.
-ghost use Rattle.std.specs.Prelude.{◌≡◌, ◌≢◌, [], Err};
+ghost use Rattle.std.specs.Prelude.{◌≡◌, ◌≢◌, [], ◌++◌, Err, None};
 ghost use Rattle.tb_link.specs.Counts.{Rose};
 ghost use Rattle.tb_message.specs.Spelling.{IsInRange};
 ghost use Rattle.tb_history.specs.Legal.{IsLegal};
+ghost use Rattle.tb_desk.specs.Desks.{doubted_by, held};
 ghost use Rattle.tb_desk.specs.declared.fault.OpenFault.{OpenFault};
+ghost use Rattle.tb_replica.specs.Crashes.{IsInDoubt, WaitsFor};
 ghost use Rattle.tb_replica.specs.Followers.{IsFresh, following};
 ghost use Rattle.tb_commands.specs.DiskRun.{HasGrown};
 ghost use Rattle.tb_commands.specs.FollowSteps.{InputTaken, IsTakenAs};
@@ -99,7 +101,7 @@ fn take_all<D: Disk, I: Source>(
     let mut reader = ParcelReader::new(alloc);
     let mut number: u64 = 1;
     'parcels: loop {
-        match reader.next_parcel(alloc, input) {
+        match reader.next_parcel(input) {
             Ok(Some(parcel)) => {
                 if number > MOST_PARCELS {
                     return Err(TakeEnding::BadInput(number));
@@ -120,6 +122,12 @@ fn take<D: Disk>(follower: &mut Follower<D>, parcel: &Parcel) -> Result<(), Take
     requires sure { follower.old.desk.doubt ≡ [] }
     requires in_range { IsInRange parcel.now.entry }
     ensures taken { IsTakenAs parcel.now (following follower.old) (following follower.new) result }
+    ensures in_doubt { result ≡ Err TakeEnding.DiskFault
+        → IsInDoubt (WaitsFor parcel.now (following follower.old)) (held follower.new.desk) }
+    ensures doubted { result ≡ Err TakeEnding.DiskFault
+        → follower.new.desk.doubted ≡ follower.old.desk.doubted ++ doubted_by None (held follower.new.desk) }
+    ensures undoubted { result ≢ Err TakeEnding.DiskFault
+        → follower.new.desk.doubted ≡ follower.old.desk.doubted }
     ensures sure { result ≢ Err TakeEnding.DiskFault → follower.new.desk.doubt ≡ [] }
     ensures fault { result ≡ Err TakeEnding.DiskFault
         → Rose (D.disk follower.old.desk.disk).faults (D.disk follower.new.desk.disk).faults }

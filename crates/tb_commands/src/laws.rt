@@ -1,12 +1,13 @@
 //! Laws of the definitions: a text has one book or script or one line outside the grammar, parcels or one bad parcel,
 //! and at most one text of its auction; a script has one run; and whose a group in doubt is.
-ghost use Rattle.std.specs.Prelude.{◌≡◌, ℕ, List, [], All, Bool};
+ghost use Rattle.std.specs.Prelude.{◌≡◌, ℕ, List, [], ◌∷◌, ◌++◌, All, Bool};
 ghost use Rattle.tb_gates.specs.Clocks.{ClockState};
 ghost use Rattle.tb_text_book.specs.Books.{BeginsWithBook, Book, HasBadLine, HasBook, IsBadLine};
 ghost use Rattle.tb_text_book.specs.BookRun.{IsBookRun};
-ghost use Rattle.tb_commands.specs.Doubted.{IsOfLines, IsOfRuns};
+ghost use Rattle.tb_commands.specs.Doubted.{IsOfLines, IsOfParcels, IsOfRuns};
 ghost use Rattle.tb_parcel.specs.declared.parcel.Parcel.{Parcel};
-ghost use Rattle.tb_commands.specs.FollowTakeRun.{IsFirstBadParcel, IsParcels};
+ghost use Rattle.tb_replica.specs.declared.taken.TakeFault.TheVariants as fault;
+ghost use Rattle.tb_commands.specs.FollowTakeRun.{BreaksBehind, IsFirstBadParcel, IsParcels};
 ghost use Rattle.tb_commands.specs.ImportRun.{IsImport, SentRow};
 ghost use Rattle.tb_commands.specs.ScriptRun.{IsFaultless, IsRun};
 ghost use Rattle.tb_commands.specs.Scripts.{BeginsWithScript, HasScript, LeavesScript};
@@ -86,8 +87,9 @@ pub fn one_run()
         → last ≡ last' }
 {}
 
-/// Each group that was in doubt is somebody's: that of a line's message, or of a run of rows, as the history stood
-/// then. So is each that a crash during `run` or `import` may have left behind a beginning of the history.
+/// Each group that was in doubt is somebody's: that of a line's message, of a run of rows, or of a parcel, as the
+/// history stood then. So is each that a crash during `run`, `import` or `follow take` may have left behind a beginning
+/// of the history.
 pub fn groups_are_sent()
     ensures by_lines { (operator : List ℕ) (first last : Standing) (lines : List (List ℕ)) (replies : List ℕ)
         → IsRun operator first lines replies last
@@ -100,4 +102,8 @@ pub fn groups_are_sent()
         → first.doubt ≡ []
         → first.doubted ≡ []
         → All (IsOfRuns sender runs last.history) last.doubted }
+    ensures by_parcels { (parcels : List Parcel) (parcel : Parcel) (first last : Standing)
+        → BreaksBehind fault.DiskFault parcels parcel first last
+        → first.doubted ≡ []
+        → All (IsOfParcels (parcels ++ parcel ∷ []) last.history) last.doubted }
 {}

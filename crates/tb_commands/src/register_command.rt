@@ -1,8 +1,10 @@
 //! The command `register`.
-ghost use Rattle.std.specs.Prelude.{◌≡◌};
+ghost use Rattle.std.specs.Prelude.{◌≡◌, IsTrue};
 ghost use Rattle.tb_desk.specs.declared.fault.OpenFault.{OpenFault};
 ghost use Rattle.tb_link.specs.Sources.{SourceState};
+ghost use Rattle.tb_commands.specs.Endings.{of_disk, of_register};
 ghost use Rattle.tb_commands.specs.RegisterRun.{RegisterEnds, Registers, of_filing};
+ghost use Rattle.tb_commands.specs.declared.ending.Ending.TheVariants as ending;
 
 use crate::command_endings::{DiskEnding, RegisterEnding};
 use std::alloc::Global;
@@ -29,6 +31,9 @@ pub fn register<D: Disk, O: Sink, K: Keeper>(
     // The desk was opened before anything was filed or written.
     ensures unbegun { (why : OpenFault) → result.0 ≡ DiskEnding.Unopened why
         → (out.new ≡ out.old) × (keeper.new ≡ keeper.old) }
+    // A keeper that failed isn't told as want of memory, where its count rises only as it fails.
+    ensures lacked { IsTrue K.counts_failures → of_disk of_register result.0 ≡ ending.OutOfMemory
+        → (K.keeper keeper.new).faults ≡ (K.keeper keeper.old).faults }
 {
     match Desk::open(alloc, disk) {
         Ok(desk) => {
@@ -46,8 +51,10 @@ fn register_on<D: Disk, O: Sink, K: Keeper>(
     out: &mut O,
     keeper: &mut K,
 ) -> RegisterEnding
-    ensures { Registers bill.now result desk.now.host.history (O.sink out.old) (O.sink out.new)
+    ensures ends { Registers bill.now result desk.now.host.history (O.sink out.old) (O.sink out.new)
         (K.keeper keeper.old) (K.keeper keeper.new) }
+    ensures lacked { IsTrue K.counts_failures → of_register result ≡ ending.OutOfMemory
+        → (K.keeper keeper.new).faults ≡ (K.keeper keeper.old).faults }
 {
     match file_and_tell(alloc, desk, bill, keeper) {
         Ok(text) => match out.write(&text) {

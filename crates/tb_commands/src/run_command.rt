@@ -1,8 +1,9 @@
 //! The command `run`.
-ghost use Rattle.std.specs.Prelude.{◌≡◌};
+ghost use Rattle.std.specs.Prelude.{◌≡◌, ℕ, Some, position};
 ghost use Rattle.tb_desk.specs.declared.fault.OpenFault.{OpenFault};
 ghost use Rattle.tb_commands.specs.DiskRun.{HasGrown};
-ghost use Rattle.tb_lines.specs.Lines.{ahead, StaysAtEnd};
+ghost use Rattle.tb_lines.specs.LineEnds.{is_line_feed};
+ghost use Rattle.tb_lines.specs.Lines.{ahead, unread, StaysAtEnd};
 ghost use Rattle.tb_lines.specs.Reads.{ReadsLines};
 ghost use Rattle.tb_commands.specs.RunEnds.{RunEnds, ScriptEnds};
 ghost use Rattle.tb_commands.specs.ScriptSteps.{LineEnds, NextEnds};
@@ -107,9 +108,11 @@ fn act_on_next<D: Disk, I: Source, O: Sink>(
     // However it ends, nothing behind the line was read.
     ensures alone { WhereTold (ahead reader.old (I.source input.old))
         (ReadsLines 1 (I.source input.old).reads (I.source input.new).reads) }
+    // Where a whole line waits nothing is read, so that no reply is held back by a read.
+    ensures waits { (end : ℕ) → position is_line_feed (unread reader.old) ≡ Some end → input.new ≡ input.old }
     ensures once { StaysAtEnd reader.old reader.new (I.source input.old) (I.source input.new) }
 {
-    match reader.next_line(alloc, input) {
+    match reader.next_line(input) {
         Ok(NextLine::Line) => act_on_line(
             alloc,
             requests,

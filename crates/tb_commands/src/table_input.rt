@@ -60,6 +60,8 @@ fn read_text<I: Source>(alloc: Global, input: &mut I) -> Result<Vec<u8>, InputFa
         (ReadsToEnd (I.source input.old).reads (I.source input.new).reads) }
     ensures no_fault { OnOk result ((I.source input.new).faults ≡ (I.source input.old).faults) }
     ensures fault { IsErrOf result InputFault.Read → Rose (I.source input.old).faults (I.source input.new).faults }
+    ensures lacked { IsErrOf result InputFault.OutOfMemory
+        → (I.source input.new).faults ≡ (I.source input.old).faults }
 {
     let mut text = Vec::new(alloc);
     let mut space = [0; PIECE];
@@ -86,6 +88,8 @@ fn read_piece<I: Source>(
         × ((I.source input.new).left ≡ (I.source input.old).left) }
     ensures no_fault { OnOk result ((I.source input.new).faults ≡ (I.source input.old).faults) }
     ensures fault { IsErrOf result InputFault.Read → Rose (I.source input.old).faults (I.source input.new).faults }
+    ensures lacked { IsErrOf result InputFault.OutOfMemory
+        → (I.source input.new).faults ≡ (I.source input.old).faults }
 {
     let count = match input.read(space) {
         Ok(count) => count,

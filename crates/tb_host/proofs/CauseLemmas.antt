@@ -52,6 +52,7 @@ module _ {G K : Type 0} (gate : G → GateState K) (old new : Objects G) where
   -- what a fault of this ending is told of, if it is told of one
   abbrev FaultOf : Ending → Type 0
   FaultOf ending.Done = (new.input.faults ≡ old.input.faults) × (new.out.faults ≡ old.out.faults)
+  FaultOf ending.OutOfMemory = (new.input.faults ≡ old.input.faults) × (new.out.faults ≡ old.out.faults)
   FaultOf ending.ReadFault = Rose old.input.faults new.input.faults
   FaultOf ending.WriteFault = Rose old.out.faults new.out.faults
   FaultOf ending.DiskFault = Rose old.disk.faults new.disk.faults ⊎ Rose old.spare.faults new.spare.faults
@@ -68,14 +69,24 @@ module _ {G K : Type 0} (gate : G → GateState K) (old new : Objects G) where
     gates = λ same. subst FaultOf same is;
     keeper = λ same. subst FaultOf same is;
     none = λ same. subst FaultOf same is;
+    lacked = λ same. subst FaultOf same is;
   }
 
-  -- outside the command set, and for want of memory, there is none to have
+  -- outside the command set there is none to have
   pub usage-cause : HasCause gate ending.Usage old new
   usage-cause = HasCause-of ending.Usage tt
 
-  pub memory-cause : HasCause gate ending.OutOfMemory old new
-  memory-cause = HasCause-of ending.OutOfMemory tt
+  -- for want of memory none was passed over
+  memory-cause : new.input.faults ≡ old.input.faults → new.out.faults ≡ old.out.faults
+      → HasCause gate ending.OutOfMemory old new
+  memory-cause read written = HasCause-of ending.OutOfMemory (read, written)
+
+  -- what wasn't touched has had no fault
+  unread-faults : new.input ≡ old.input → new.input.faults ≡ old.input.faults
+  unread-faults same = ap (λ (i : SourceState). i.faults) same
+
+  silent-faults : new.out ≡ old.out → new.out.faults ≡ old.out.faults
+  silent-faults same = ap (λ (o : SinkState). o.faults) same
 
   -- `award`
   pub award-cause : (full : Bool) (own : TextEnding)
@@ -85,15 +96,20 @@ module _ {G K : Type 0} (gate : G → GateState K) (old new : Objects G) where
   award-cause full (text_ending.BadInput number) ends = HasCause-of (ending.BadInput number) tt
   award-cause full text_ending.ReadFault ends = HasCause-of ending.ReadFault ends.1
   award-cause full text_ending.WriteFault ends = HasCause-of ending.WriteFault ends.0
-  award-cause full text_ending.OutOfMemory ends = HasCause-of ending.OutOfMemory tt
+  award-cause full text_ending.OutOfMemory ends = memory-cause ends.1.no_fault (silent-faults ends.0)
 
   -- a disk that wasn't opened
-  unopened-cause : (why : OpenFault) → Unopened why old.disk new.disk → HasCause gate (ending_of why) old new
-  unopened-cause fault.DiskFault unopened = HasCause-of ending.DiskFault (inl (unopened.rose refl))
-  unopened-cause (fault.NotAJournal found) unopened = HasCause-of (ending.NotAJournal found) tt
-  unopened-cause (fault.Unsealed byte) unopened = HasCause-of (ending.Unsealed byte) tt
-  unopened-cause (fault.Damaged place) unopened = HasCause-of (ending.Damaged place) tt
-  unopened-cause fault.OutOfMemory unopened = HasCause-of ending.OutOfMemory tt
+  unopened-cause : (why : OpenFault)
+      → Unopened why old.disk new.disk
+      → new.input ≡ old.input
+      → new.out ≡ old.out
+      → HasCause gate (ending_of why) old new
+  unopened-cause fault.DiskFault unopened unread silent = HasCause-of ending.DiskFault (inl (unopened.rose refl))
+  unopened-cause (fault.NotAJournal found) unopened unread silent = HasCause-of (ending.NotAJournal found) tt
+  unopened-cause (fault.Unsealed byte) unopened unread silent = HasCause-of (ending.Unsealed byte) tt
+  unopened-cause (fault.Damaged place) unopened unread silent = HasCause-of (ending.Damaged place) tt
+  unopened-cause fault.OutOfMemory unopened unread silent =
+      memory-cause (unread-faults unread) (silent-faults silent)
 
   -- `run`
   pub run-cause : (operator : List ℕ) (own : DiskEnding TextEnding)
@@ -105,8 +121,8 @@ module _ {G K : Type 0} (gate : G → GateState K) (old new : Objects G) where
       HasCause-of (ending.BadInput number) tt
   run-cause operator (disk_ending.Opened text_ending.ReadFault) ends = HasCause-of ending.ReadFault ends.3.0
   run-cause operator (disk_ending.Opened text_ending.WriteFault) ends = HasCause-of ending.WriteFault ends.3.0
-  run-cause operator (disk_ending.Opened text_ending.OutOfMemory) ends = HasCause-of ending.OutOfMemory tt
-  run-cause operator (disk_ending.Unopened why) none = unopened-cause why none.unopened
+  run-cause operator (disk_ending.Opened text_ending.OutOfMemory) ends = memory-cause ends.3.0.no_fault ends.3.1
+  run-cause operator (disk_ending.Unopened why) none = unopened-cause why none.unopened none.unread none.silent
 
   -- `import`
   pub import-cause : (sender : Sender) (clock clock' : ClockState) (own : DiskEnding TextEnding)
@@ -122,8 +138,9 @@ module _ {G K : Type 0} (gate : G → GateState K) (old new : Objects G) where
   import-cause sender clock clock' (disk_ending.Opened text_ending.WriteFault) imported =
       HasCause-of ending.WriteFault imported.ends.3.0
   import-cause sender clock clock' (disk_ending.Opened text_ending.OutOfMemory) imported =
-      HasCause-of ending.OutOfMemory tt
-  import-cause sender clock clock' (disk_ending.Unopened why) imported = unopened-cause why imported.ends.unopened
+      memory-cause imported.ends.3.1 imported.ends.3.2
+  import-cause sender clock clock' (disk_ending.Unopened why) imported =
+      unopened-cause why imported.ends.unopened imported.ends.unread imported.ends.silent
 
   -- the same of an ending that is this one
   cause-as : (ended own : Ending) → ended ≡ own → HasCause gate own old new → HasCause gate ended old new
@@ -136,8 +153,10 @@ module _ {G K : Type 0} (gate : G → GateState K) (old new : Objects G) where
       HasCause-of ending.Done (ap (λ (i : SourceState). i.faults) report.unread, report.ends.3.1.2.no_fault)
   report-cause-here asked (disk_ending.Opened print_ending.WriteFault) report =
       HasCause-of ending.WriteFault report.ends.3.1.3
-  report-cause-here asked (disk_ending.Opened print_ending.OutOfMemory) report = HasCause-of ending.OutOfMemory tt
-  report-cause-here asked (disk_ending.Unopened why) report = unopened-cause why report.ends.unopened
+  report-cause-here asked (disk_ending.Opened print_ending.OutOfMemory) report =
+      memory-cause (unread-faults report.unread) (silent-faults report.ends.3.1)
+  report-cause-here asked (disk_ending.Unopened why) report =
+      unopened-cause why report.ends.unopened report.ends.unread report.ends.silent
 
   -- `report`
   pub report-cause : (asked : Inquiry) (own : DiskEnding PrintEnding) (ended : Ending)
@@ -163,7 +182,7 @@ module _ {G K : Type 0} (gate : G → GateState K) (old new : Objects G) where
   migrate-cause (migrate_ending.Unmigrated (migrate_fault.From (fault.Damaged place))) ends unread =
       HasCause-of (ending.Damaged place) tt
   migrate-cause (migrate_ending.Unmigrated (migrate_fault.From fault.OutOfMemory)) ends unread =
-      HasCause-of ending.OutOfMemory tt
+      memory-cause (unread-faults unread) (silent-faults ends.tells.0)
   migrate-cause (migrate_ending.Unmigrated migrate_fault.SpareFault) ends unread =
       HasCause-of ending.DiskFault (inr ends.tells.2)
 
@@ -178,7 +197,8 @@ module _ {G K : Type 0} (gate : G → GateState K) (old new : Objects G) where
       HasCause-of ending.DiskFault (inl checked.ends.3.cause.0)
   check-cause-here (disk_ending.Opened (check_ending.DamagedBehind place)) checked =
       HasCause-of (ending.DamagedBehind place) tt
-  check-cause-here (disk_ending.Unopened why) checked = unopened-cause why checked.ends.unopened
+  check-cause-here (disk_ending.Unopened why) checked =
+      unopened-cause why checked.ends.unopened checked.ends.unread checked.ends.silent
 
   -- `check`
   pub check-cause : (own : DiskEnding CheckEnding) (ended : Ending)
@@ -197,7 +217,8 @@ module _ {G K : Type 0} (gate : G → GateState K) (old new : Objects G) where
   send-cause-here from (disk_ending.Opened send_ending.DiskFault) sent =
       HasCause-of ending.DiskFault (inl sent.ends.3.cause)
   send-cause-here from (disk_ending.Opened (send_ending.Damaged place)) sent = HasCause-of (ending.Damaged place) tt
-  send-cause-here from (disk_ending.Unopened why) sent = unopened-cause why sent.ends.unopened
+  send-cause-here from (disk_ending.Unopened why) sent =
+      unopened-cause why sent.ends.unopened sent.ends.unread sent.ends.silent
 
   -- `follow send`
   pub send-cause : (from : ℕ) (own : DiskEnding SendEnding) (ended : Ending)
@@ -217,8 +238,8 @@ module _ {G K : Type 0} (gate : G → GateState K) (old new : Objects G) where
   take-cause (disk_ending.Opened take_ending.WriteFault) ends = HasCause-of ending.WriteFault ends.3.1.rose
   take-cause (disk_ending.Opened take_ending.DiskFault) ends = HasCause-of ending.DiskFault (inl ends.3.0.1)
   take-cause (disk_ending.Opened (take_ending.Forked place)) ends = HasCause-of (ending.Forked place) tt
-  take-cause (disk_ending.Opened take_ending.OutOfMemory) ends = HasCause-of ending.OutOfMemory tt
-  take-cause (disk_ending.Unopened why) none = unopened-cause why none.unopened
+  take-cause (disk_ending.Opened take_ending.OutOfMemory) ends = memory-cause ends.3.0.2 (silent-faults ends.3.1)
+  take-cause (disk_ending.Unopened why) none = unopened-cause why none.unopened none.unread none.silent
 
   register-cause-here : (bill : Option Cusip) (own : DiskEnding RegisterEnding)
       → RegisterEnds bill own old.input new.input (registry old) (registry new)
@@ -232,8 +253,9 @@ module _ {G K : Type 0} (gate : G → GateState K) (old new : Objects G) where
   register-cause-here bill (disk_ending.Opened (register_ending.KeeperFault)) filed =
       HasCause-of ending.KeeperFault filed.ends.3.1.2
   register-cause-here bill (disk_ending.Opened (register_ending.OutOfMemory)) filed =
-      HasCause-of ending.OutOfMemory tt
-  register-cause-here bill (disk_ending.Unopened why) filed = unopened-cause why filed.ends.unopened
+      memory-cause (unread-faults filed.unread) (silent-faults filed.ends.3.1.0)
+  register-cause-here bill (disk_ending.Unopened why) filed =
+      unopened-cause why filed.ends.unopened filed.ends.unread filed.ends.silent
 
   -- `register`
   pub register-cause : (bill : Option Cusip) (own : DiskEnding RegisterEnding) (ended : Ending)
@@ -250,7 +272,8 @@ module _ {G K : Type 0} (gate : G → GateState K) (old new : Objects G) where
   trial-cause-here seed count print_ending.Done ends unread =
       HasCause-of ending.Done (ap (λ (i : SourceState). i.faults) unread, ends.no_fault)
   trial-cause-here seed count print_ending.WriteFault ends unread = HasCause-of ending.WriteFault ends.0
-  trial-cause-here seed count print_ending.OutOfMemory ends unread = HasCause-of ending.OutOfMemory tt
+  trial-cause-here seed count print_ending.OutOfMemory ends unread =
+      memory-cause (unread-faults unread) (silent-faults ends)
 
   -- `trial`
   pub trial-cause : (seed count : ℕ) (own : PrintEnding) (ended : Ending)
@@ -274,7 +297,7 @@ module _ {G K : Type 0} (gate : G → GateState K) (old new : Objects G) where
       HasCause-of ending.GateFault (OneRose-runs gate source sink _ old.gates new.gates ends.2 ends.3.are_runs
       ends.4.2.0)
   serve-cause-here source sink operator clock (serve_ending.Unserved why) unserved unread =
-      unopened-cause why unserved.unopened
+      unopened-cause why unserved.unopened unread unserved.silent
 
   -- `serve`
   pub serve-cause : (source : K → SourceState) (sink : K → SinkState) (operator : List ℕ) (clock : ClockState)

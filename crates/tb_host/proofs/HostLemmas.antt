@@ -45,7 +45,7 @@ use Rattle.tb_commands.specs.declared.ending.Ending.{Ending}
 use Rattle.tb_commands.specs.declared.ending.Ending.TheVariants as ending
 use Rattle.tb_commands.specs.declared.report_command.Inquiry.{Inquiry}
 use Rattle.tb_commands.proofs.CheckLemmas.{check-completes}
-use Rattle.tb_commands.proofs.CompleteLemmas.{award-completes}
+use Rattle.tb_commands.proofs.CompleteLemmas.{award-completes, award-untouched}
 use Rattle.tb_commands.proofs.DiskLemmas.{Unopened-untouched}
 use Rattle.tb_commands.proofs.FollowEndLemmas.{send-completes, take-completes}
 use Rattle.tb_commands.proofs.ImportEndLemmas.{import-completes}
@@ -235,7 +235,8 @@ module _ {G K : Type 0} (gate : G → GateState K) (source : K → SourceState) 
   -- where there was no memory to read the words nothing was done
   pub EndsAs-memory : (said : Command) (objects : Objects G)
       → EndsAs gate source sink said clock ending.OutOfMemory objects objects
-  EndsAs-memory (command.Award full) objects = (text_ending.OutOfMemory, refl, refl)
+  EndsAs-memory (command.Award full) objects =
+      (text_ending.OutOfMemory, refl, award-untouched full objects.input objects.out)
   EndsAs-memory (command.Run operator) objects =
       (disk_ending.Unopened fault.OutOfMemory, refl, not_begun-memory objects.input (devices objects))
   EndsAs-memory (command.Serve operator port workers links) objects = (

@@ -4,6 +4,7 @@ mod HeadlineLemmas
 mod ServeLemmas
 mod ServeHostLemmas
 mod CauseLemmas
+mod LackedLemmas
 mod HostLemmas
 mod AnsweredLemmas
 mod ScriptHeadlineLemmas

@@ -1,21 +1,21 @@
 -- The records of one history are those of its entries: what is said of records is so of entries.
-use Rattle.std.proofs.Common.{◌≡◌, ℕ, ◌<◌, ◌≤◌, List, [], ◌∷◌, ◌++◌, length, get_or, refl, sym, subst, ap, ◌∙◌, inl, inr, ⊎_elim, arith}
+use Rattle.std.proofs.Common.{◌≡◌, ℕ, ◌+◌, ◌<◌, ◌≤◌, List, [], ◌∷◌, ◌++◌, length, get_or, refl, sym, subst, ap, ◌∙◌, inl, inr, ⊎_elim, arith}
 use Rattle.std.specs.Prelude.{All, Any}
 use Rattle.std.proofs.lemmas.Bool.{cases_lt}
-use Rattle.std.proofs.lemmas.List.{map-append}
+use Rattle.std.proofs.lemmas.List.{get_or-append-add, get_or_append_left, get_or_default, length-append, map-append}
 use Rattle.std.proofs.lemmas.List.Elements.{All-head, All-tail, All-cons, All-push}
 use Rattle.tb_message.specs.declared.message.Entry.{Entry}
 use Rattle.tb_message.specs.Spelling.{spelling, IsInRange}
 use Rattle.tb_message.proofs.RecordLaws.{spelling-one}
 use Rattle.tb_history.specs.Legal.{IsLegal, IsOther}
 use Rattle.tb_history.proofs.HistoryLemmas.{IsLegal-ordered}
-use Rattle.tb_history.proofs.SameLemmas.{is_same-sym}
+use Rattle.tb_history.proofs.SameLemmas.{is_same-refl, is_same-sym}
 use Rattle.tb_lock.specs.Meanings.{History, IsPrefix}
 use Rattle.tb_desk.proofs.GroupLemmas.{All-append_right, IsLegal-in_range}
 use Rattle.tb_session.specs.declared.called.Outcome.TheVariants as outcome
 use Rattle.tb_session.specs.Codes.{Made, IsAnswered, HasRange, spelled_all}
 use Rattle.tb_session.specs.Serve.{AreApart, IsHistoryOf, MayHaveMade}
-use Rattle.tb_host.specs.Headline.{AddOthers, Begins, IsAnsweredIn, MayHaveAdded, OneHistory}
+use Rattle.tb_host.specs.Headline.{AddOthers, Begins, IsAnsweredIn, MayHaveAdded, MayHaveDoubted, OneHistory}
 use Rattle.tb_commands.specs.Standings.{Standing}
 
 -- a list whose records begin those of another begins it
@@ -158,6 +158,46 @@ others fixed first last m n legal here there apart e f adds_e adds_f =
     λ same. flipped (is_same-sym e.submitter f.submitter same.0, sym same.1))
     (cases_lt (length m.history) (length n.history))
 
+-- an entry in doubt stands behind the history, where no call was told that it was accepted
+not-accepted : (fixed : List ℕ) (first last doubt : List Entry) (m : Made) (e : Entry) (k : ℕ)
+    → IsLegal (last ++ doubt)
+    → IsAnsweredIn fixed first last m
+    → k < length doubt
+    → get_or doubt k e ≡ e
+    → ¬ (m.called.outcome ≡ outcome.Added e)
+not-accepted fixed first last doubt m e k accepted answered within is adds =
+    let there = placed m.history last e e (answered.accepted e adds) in
+    let whole : List Entry = last ++ doubt in
+    let early : get_or whole (length m.history) e ≡ e =
+    get_or_append_left last doubt e (length m.history) there.0 ∙ there.1 in
+    let late : get_or whole (length last + k) e ≡ e = get_or-append-add last doubt k e ∙ is in
+    let apart = (IsLegal-ordered whole accepted).numbers (length m.history) (length last + k) e
+    (omega (arith, there.0)) (omega (arith, within, length-append last doubt)) in
+    let other : IsOther e e = subst (λ (y : Entry × Entry). IsOther y.0 y.1) (λ i. (early i, late i)) apart in
+    other (is_same-refl e.submitter, refl)
+
+-- so what is in doubt is of calls that met a fault
+doubted-by : (fixed : List ℕ) (first last doubt : List Entry) (calls : List Made)
+    → IsLegal (last ++ doubt)
+    → All (IsAnsweredIn fixed first last) calls
+    → All (λ e. Any (MayHaveAdded e) calls) doubt
+    → All (λ e. Any (MayHaveDoubted e) calls) doubt
+doubted-by fixed first last doubt calls accepted answered made k d within =
+    let e : Entry = get_or doubt k d in
+    let some = made k d within in
+    let here : IsAnsweredIn fixed first last some.1 =
+    subst (IsAnsweredIn fixed first last) some.3 (answered some.0 some.1 some.2) in (
+      some.0,
+      some.1,
+      some.2,
+      some.3,
+      elim some.4 [
+        | inl adds ↦ absurd (not-accepted fixed first last doubt some.1 e k accepted here within
+            (get_or_default doubt k e d within) adds)
+        | inr doubts ↦ doubts
+      ],
+    )
+
 -- The one history of records is one of entries.
 pub OneHistory-spelled : (fixed : List ℕ) (first last : Standing) (more : List Entry) (low high : ℕ) (calls : List Made)
     → IsLegal first.history
@@ -184,6 +224,7 @@ OneHistory-spelled fixed first last more low high calls legal legal' accepted gr
       own = each-added more one.later calls records
           (All-append_right first.history more (subst (λ (l : List Entry). All IsInRange l) grown whole)) ranges
           one.entries;
-      doubted = each-added last.doubt (spelled_all last.doubt) calls refl
-          (All-append_right last.history last.doubt with_doubt) ranges one.doubted;
+      doubted = doubted-by fixed first.history last.history last.doubt calls accepted answered
+          (each-added last.doubt (spelled_all last.doubt) calls refl
+          (All-append_right last.history last.doubt with_doubt) ranges one.doubted);
     }

@@ -80,7 +80,7 @@ pub Unopened-left : (old mid : DiskState)
     → Unopened fault.OutOfMemory old mid
 Unopened-left old mid harmless opens no_fault =
     Unopened-here fault.OutOfMemory old mid (Unopened-untouched old).is_true harmless (breaks_opened old mid opens)
-    (λ is. absurd (let bad : ⊥ = cc in bad))
+    (λ is. absurd (let bad : ⊥ = cc in bad)) (λ other. no_fault)
     (record { never_falls = omega (arith, no_fault); bounded = λ few. omega (arith, no_fault, few) })
 
 module _ {D C G K : Type 0} (disk : D → DiskState) (clock : C → ClockState) (gate : G → GateState K)

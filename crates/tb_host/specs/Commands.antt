@@ -43,6 +43,12 @@ ends_at_fault (command.FollowSend from) = true
 ends_at_fault command.FollowTake = true
 ends_at_fault other = false
 
+-- a fault of the disk that a turn meets is answered, and doesn't end it
+abbrev pub answers_faults : Command → Bool
+answers_faults (command.Run operator) = true
+answers_faults (command.Import operator caller) = true
+answers_faults other = false
+
 -- an object that isn't used is as it was
 abbrev pub Stays : {A : Type 0} → Bool → A → A → Type 0
 Stays used old new = used ≡ false → new ≡ old

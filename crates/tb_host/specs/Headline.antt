@@ -49,6 +49,10 @@ pub record IsAnsweredIn (fixed : List ℕ) (first last : List Entry) (m : Made) 
 abbrev pub MayHaveAdded : Entry → Made → Type 0
 MayHaveAdded e m = (m.called.outcome ≡ outcome.Added e) ⊎ (m.called.outcome ≡ outcome.Doubted e)
 
+-- the call met a fault of the disk, and may have left the entry in doubt
+abbrev pub MayHaveDoubted : Entry → Made → Type 0
+MayHaveDoubted e m = m.called.outcome ≡ outcome.Doubted e
+
 -- where both calls were accepted their entries aren't of one submitter under one number
 abbrev pub AddOthers : Made → Made → Type 0
 AddOthers m n = (e f : Entry)
@@ -57,14 +61,14 @@ AddOthers m n = (e f : Entry)
     → IsOther e f
 
 -- All calls are answered in one legal history, which has nothing past the first but these entries, each of such a call;
--- and so is what is in doubt. No two calls, of one gate or of two, are told of one entry that it was accepted, nor of
--- two of one submitter under one number.
+-- and what is in doubt is of calls that met a fault of the disk. No two calls, of one gate or of two, are told of one
+-- entry that it was accepted, nor of two of one submitter under one number.
 pub record OneHistory (fixed : List ℕ) (first last : Standing) (more : List Entry) (calls : List Made) : Type 0 where
   pub legal : IsLegal last.history
   pub answered : All (IsAnsweredIn fixed first.history last.history) calls
   pub once : AllPairs AddOthers calls
   pub own : All (λ e. Any (MayHaveAdded e) calls) more
-  pub doubted : All (λ e. Any (MayHaveAdded e) calls) last.doubt
+  pub doubted : All (λ e. Any (MayHaveDoubted e) calls) last.doubt
 
 -- ---- recovery keeps every acknowledged message, once
 

@@ -1,5 +1,5 @@
 -- How the program ends.
-use Rattle.std.specs.Prelude.{◌≡◌, ◌⊎◌, ℕ, List}
+use Rattle.std.specs.Prelude.{◌≡◌, ◌⊎◌, ℕ, List, Bool, IsTrue, false}
 use Rattle.tb_link.specs.Counts.{Rose}
 use Rattle.tb_link.specs.Sources.{SourceState}
 use Rattle.tb_link.specs.Sinks.{SinkState}
@@ -85,7 +85,7 @@ module _ {G K : Type 0} (gate : G → GateState K) (source : K → SourceState) 
 
 module _ {G K : Type 0} (gate : G → GateState K) where
   -- A fault of input, output, a disk, gates or the keeper ends a command only where the count of that object has risen;
-  -- and where all was done no fault of input or output was passed over.
+  -- and where all was done no fault of input or output was passed over, nor is one told as want of memory.
   pub record HasCause (ended : Ending) (old new : Objects G) : Type 0 where
     pub read : ended ≡ ending.ReadFault → Rose old.input.faults new.input.faults
     pub write : ended ≡ ending.WriteFault → Rose old.out.faults new.out.faults
@@ -95,6 +95,18 @@ module _ {G K : Type 0} (gate : G → GateState K) where
     pub keeper : ended ≡ ending.KeeperFault → Rose old.keeper.faults new.keeper.faults
     pub none : ended ≡ ending.Done
         → (new.input.faults ≡ old.input.faults) × (new.out.faults ≡ old.out.faults)
+    pub lacked : ended ≡ ending.OutOfMemory
+        → (new.input.faults ≡ old.input.faults) × (new.out.faults ≡ old.out.faults)
+
+-- No count of faults rose, but the disk's where a command answers its faults; and that of the keeper didn't where it
+-- rises only as the keeper fails.
+pub record HidesNoFault {G : Type 0} (answers counts : Bool) (old new : Objects G) : Type 0 where
+  pub input : new.input.faults ≡ old.input.faults
+  pub out : new.out.faults ≡ old.out.faults
+  pub disk : answers ≡ false → new.disk.faults ≡ old.disk.faults
+  pub spare : new.spare.faults ≡ old.spare.faults
+  pub gates : new.gates ≡ old.gates
+  pub keeper : IsTrue counts → new.keeper.faults ≡ old.keeper.faults
 
 -- where all was done nothing is told, and else the message of the ending
 abbrev pub Reports : Ending → SinkState → SinkState → Type 0

@@ -1,11 +1,11 @@
 //! The top call: it does all that the program does.
-ghost use Rattle.std.specs.Prelude.{◌≡◌, ◌↔◌, ◌≤◌, true, false, List, map, string_bytes, vec_len};
+ghost use Rattle.std.specs.Prelude.{◌≡◌, ◌↔◌, ◌≤◌, true, false, IsTrue, List, map, string_bytes, vec_len};
 ghost use Rattle.tb_words.specs.Commands.{AreCommand, AreWordsOf, IsInRange};
 ghost use Rattle.tb_words.specs.declared.command.Command as declared;
-ghost use Rattle.tb_host.specs.Commands.{HasGates, Stays, ends_at_fault, uses_of};
+ghost use Rattle.tb_host.specs.Commands.{HasGates, Stays, answers_faults, ends_at_fault, uses_of};
 ghost use Rattle.tb_commands.specs.Completeness.{Completes};
 ghost use Rattle.tb_commands.specs.Endings.{IsUnopened, Tells, status_of};
-ghost use Rattle.tb_host.specs.HostRun.{EndsAs, EndsWith, HasCause, Reports};
+ghost use Rattle.tb_host.specs.HostRun.{EndsAs, EndsWith, HasCause, HidesNoFault, Reports};
 ghost use Rattle.tb_commands.specs.ReportRun as spec;
 
 use crate::serve_command::serve;
@@ -112,6 +112,26 @@ pub fn host_main<
           gates = gates.new.items;
           keeper = K.keeper keeper.new;
         })) }
+    // Where memory ran out no count of faults rose, but the disk's under `run` and `import`, whose turns answer its
+    // faults.
+    ensures lacked { (said : declared.Command) → AreWordsOf said (map string_bytes words.now) → result.status ≡ 9
+        → HidesNoFault (answers_faults said) K.counts_failures
+        (record {
+          input = I.source input.old;
+          out = O.sink out.old;
+          disk = D.disk disk;
+          spare = D.disk spare.old;
+          gates = gates.old.items;
+          keeper = K.keeper keeper.old;
+        })
+        (record {
+          input = I.source input.new;
+          out = O.sink out.new;
+          disk = D.disk result.disk;
+          spare = D.disk spare.new;
+          gates = gates.new.items;
+          keeper = K.keeper keeper.new;
+        }) }
     // It touches what the table says that it uses, and no other object.
     ensures uses { (said : declared.Command) → AreWordsOf said (map string_bytes words.now)
         → Stays (uses_of said).input input.old input.new
@@ -211,6 +231,8 @@ fn any_command<
         → ends_at_fault said ≡ false
         → IsUnopened result.0 → (input.new ≡ input.old) × (O.sink out.new ≡ O.sink out.old) }
     ensures usage { (result.0 ≡ Ending.Usage) ↔ (¬ (AreCommand (map string_bytes words.now))) }
+    ensures kept { IsTrue K.counts_failures → result.0 ≡ Ending.OutOfMemory
+        → (K.keeper keeper.new).faults ≡ (K.keeper keeper.old).faults }
     ensures untouched { result.0 ≡ Ending.Usage
         → (input.new ≡ input.old) × (out.new ≡ out.old) × (result.1 ≡ disk) × (spare.new ≡ spare.old)
         × (gates.new ≡ gates.old) × (keeper.new ≡ keeper.old) }
@@ -287,6 +309,8 @@ fn do_command<
         × Stays (uses_of command.now).spare spare.old spare.new
         × Stays (uses_of command.now).gates gates.old gates.new
         × Stays (uses_of command.now).keeper keeper.old keeper.new }
+    ensures kept { IsTrue K.counts_failures → result.0 ≡ Ending.OutOfMemory
+        → (K.keeper keeper.new).faults ≡ (K.keeper keeper.old).faults }
     ensures unread { ends_at_fault command.now ≡ false → IsUnopened result.0
         → (input.new ≡ input.old) × (O.sink out.new ≡ O.sink out.old) }
 {

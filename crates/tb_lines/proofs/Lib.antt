@@ -1,3 +1,4 @@
+pub mod PieceLemmas
 pub mod LineLemmas
 pub mod ReaderLemmas
 pub mod ReadsLemmas

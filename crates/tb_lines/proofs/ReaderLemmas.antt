@@ -12,14 +12,36 @@ use Rattle.tb_lines.specs.declared.line_end.NextLine.TheVariants as next
 use Rattle.tb_lines.proofs.LineLemmas.{lines-first, lines-last, lines-long}
 
 -- the last line was given
-pub GaveLast-line : (found : NextLine) (old new : LineReader)
-    → lines (unread old) ≡ current new ∷ []
+pub GaveLast-line : (found : NextLine) (old : List ℕ) (new : LineReader)
+    → lines old ≡ current new ∷ []
     → unread new ≡ []
     → FitsLine found (current new)
     → GaveLast found old new
 GaveLast-line next.Line old new line none fits = (line, none, fits)
 GaveLast-line next.End old new line none fits = absurd fits
 GaveLast-line next.TooLong old new line none fits = (line, none, fits)
+
+-- the line that is shown, where so many bytes from a place on are
+pub shown-is : (bytes now : List ℕ) (at count from to : ℕ)
+    → now ≡ bytes
+    → from ≡ at
+    → to ≡ at + count
+    → take (to - from) (drop from now) ≡ take (at + count - at) (drop at bytes)
+shown-is bytes now at count from to same begins ends = rw (same, begins, ends) refl
+
+-- the bytes behind those that were given
+pub rest-is : (bytes now : List ℕ) (at count place : ℕ)
+    → now ≡ bytes
+    → place ≡ at + count
+    → drop place now ≡ drop (at + count) bytes
+rest-is bytes now at count place same is = rw (same, is) refl
+
+-- the same line in front of the same bytes
+pub given-same : (line line' rest rest' more : List ℕ)
+    → line ≡ line'
+    → rest ≡ rest'
+    → line ∷ lines (rest ++ more) ≡ line' ∷ lines (rest' ++ more)
+given-same line line' rest rest' more one other = rw (one, other) refl
 
 -- the rest of a text of n bytes, given to its end
 module _ (items : List ℕ) (at n : ℕ) (size : n ≡ length (drop at items)) where
@@ -81,33 +103,33 @@ found_line next.End front back line rest gave fits = absurd fits
 found_line next.TooLong front back line rest gave fits = (line, lines (back ++ rest), gave, fits)
 
 -- a line that was given is the first of the text to come
-pub Finds-line : (old new : LineReader) (left : Option (List ℕ)) (found : NextLine) (text : List ℕ)
+pub Finds-line : (old : List ℕ) (new : LineReader) (left : Option (List ℕ)) (found : NextLine) (text : List ℕ)
     → GaveLine old new
     → FitsLine found (current new)
-    → before_left (unread old) left ≡ Some text
+    → before_left old left ≡ Some text
     → Finds found text (current new) (before_left (unread new) left)
 Finds-line old new None found text gave fits is = absurd (cc)
 Finds-line old new (Some rest) found text gave fits is =
-    let same : unread old ++ rest ≡ text = (cc) in
+    let same : old ++ rest ≡ text = (cc) in
     subst (λ (t : List ℕ). Finds found t (current new) (Some (unread new ++ rest))) same
-    (found_line found (unread old) (unread new) (current new) rest (gave rest) fits)
+    (found_line found old (unread new) (current new) rest (gave rest) fits)
 
 -- so many bytes without a line feed begin a line that is too long
-pub Finds-long : (old : LineReader) (left : Option (List ℕ)) (text line : List ℕ) (behind : Option (List ℕ))
-    → position is_line_feed (unread old) ≡ None
-    → 8193 < length (unread old)
-    → before_left (unread old) left ≡ Some text
+pub Finds-long : (old : List ℕ) (left : Option (List ℕ)) (text line : List ℕ) (behind : Option (List ℕ))
+    → position is_line_feed old ≡ None
+    → 8193 < length old
+    → before_left old left ≡ Some text
     → Finds next.TooLong text line behind
 Finds-long old left text line behind none long is =
-    let parts = told (unread old) left text is in
+    let parts = told old left text is in
     subst (λ (t : List ℕ). Finds next.TooLong t line behind) parts.2
-    (lines-long (unread old) parts.0 8192 none (omega arith))
+    (lines-long old parts.0 8192 none (omega arith))
 
 -- what the end of the input cuts off is found
-found_last : (found : NextLine) (old new : LineReader) (rest : List ℕ)
+found_last : (found : NextLine) (old : List ℕ) (new : LineReader) (rest : List ℕ)
     → GaveLast found old new
     → rest ≡ []
-    → Finds found (unread old) (current new) (Some (unread new ++ rest))
+    → Finds found old (current new) (Some (unread new ++ rest))
 found_last next.Line old new rest gave none = (
   gave.2,
   (
@@ -121,15 +143,15 @@ found_last next.End old new rest gave none = gave.0
 found_last next.TooLong old new rest gave none = (current new, [], gave.0, gave.2)
 
 -- what was given last is the first of the text to come
-pub Finds-last : (old new : LineReader) (left : Option (List ℕ)) (found : NextLine) (text : List ℕ)
+pub Finds-last : (old : List ℕ) (new : LineReader) (left : Option (List ℕ)) (found : NextLine) (text : List ℕ)
     → GaveLast found old new
-    → before_left (unread old) left ≡ Some text
-    → text ≡ unread old
+    → before_left old left ≡ Some text
+    → text ≡ old
     → Finds found text (current new) (before_left (unread new) left)
 Finds-last old new None found text gave is whole = absurd (cc)
 Finds-last old new (Some rest) found text gave is whole =
-    let same : unread old ++ rest ≡ unread old = (let e : unread old ++ rest ≡ text = (cc) in e ∙ whole) in
-    let none : rest ≡ [] = nothing rest (omega (arith, ap length same, length-append (unread old) rest)) in
+    let same : old ++ rest ≡ old = (let e : old ++ rest ≡ text = (cc) in e ∙ whole) in
+    let none : rest ≡ [] = nothing rest (omega (arith, ap length same, length-append old rest)) in
     subst (λ (t : List ℕ). Finds found t (current new) (Some (unread new ++ rest))) (sym whole)
     (found_last found old new rest gave none)
   where

@@ -53,6 +53,15 @@ ReadsForLine-more before now next unread more so_far none on =
       open_end = λ _. let longer = on.longer in omega arith;
     }
 
+-- while a whole line waits none is missing
+pub waited : (before now : List ℕ) (end : ℕ)
+    → position is_line_feed before ≡ Some end
+    → now ≡ before
+    → position is_line_feed now ≡ None
+    → ⊥
+waited before now end found same none = let both : Some end ≡ None = sym found ∙ (ap (position is_line_feed) (sym same)
+    ∙ none) in cc
+
 -- what is told of the bytes ahead
 told-parts : (front : List ℕ) (left : Option (List ℕ)) (text : List ℕ)
     → before_left front left ≡ Some text
@@ -66,7 +75,7 @@ no-bytes [] none = refl
 no-bytes (byte ∷ bytes) none = absurd (omega arith)
 
 -- a last line that was given leaves nothing
-pub last-line_rest : (old new : LineReader) → GaveLast next.Line old new → unread new ≡ []
+pub last-line_rest : (old : List ℕ) (new : LineReader) → GaveLast next.Line old new → unread new ≡ []
 last-line_rest old new gave = gave.1
 
 -- a line was given up to its line feed

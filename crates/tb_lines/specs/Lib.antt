@@ -1,4 +1,5 @@
 pub mod Told
 pub mod LineEnds
+pub mod Pieces
 pub mod Lines
 pub mod Reads

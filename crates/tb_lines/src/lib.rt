@@ -3,6 +3,8 @@
 
 mod input;
 mod line_end;
+mod pieces;
 
-pub use input::{InputFault, LineReader};
+pub use input::LineReader;
 pub use line_end::{LONGEST_LINE, MOST_LINES, NextLine};
+pub use pieces::{InputFault, PieceReader};

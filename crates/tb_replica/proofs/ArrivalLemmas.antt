@@ -25,10 +25,14 @@ use Rattle.tb_replica.proofs.WindowLemmas.{get_or-shifted, length-shifted}
 abbrev pub is_kept : ℕ → List (Option Entry) → ℕ → Bool
 is_kept low ahead place = nat_le low place && is_some (get_or ahead (place - low) None)
 
+-- this holds of each place from this one on and what is kept for it
+abbrev pub AreKept : (ℕ → Entry → Type 0) → ℕ → List (Option Entry) → Type 0
+AreKept Holds low ahead = (index : ℕ) (entry : Entry) → get_or ahead index None ≡ Some entry
+    → Holds (low + index) entry
+
 -- what is kept for the places from this one on is of the history
 abbrev pub AreKeptOf : List Entry → ℕ → List (Option Entry) → Type 0
-AreKeptOf all low ahead = (index : ℕ) (entry : Entry) → get_or ahead index None ≡ Some entry
-    → StandsAt all (low + index) entry
+AreKeptOf all low ahead = AreKept (StandsAt all) low ahead
 
 -- what a run that begins at this place leaves of a copy
 pub record Ran (all : List Entry) (low : ℕ) (ahead : List (Option Entry)) (new : Following) : Type 0 where
@@ -50,11 +54,11 @@ is_kept-shifted low ahead place behind =
       get_or-shifted ahead (place - (low + 1)),
     ) refl
 
--- what is kept behind the first is of the history
-AreKeptOf-shifted : (all : List Entry) (low : ℕ) (ahead : List (Option Entry))
-    → AreKeptOf all low ahead
-    → AreKeptOf all (low + 1) (shifted ahead)
-AreKeptOf-shifted all low ahead are index entry is =
+-- so it does of what is kept behind the first
+pub AreKept-shifted : (Holds : ℕ → Entry → Type 0) (low : ℕ) (ahead : List (Option Entry))
+    → AreKept Holds low ahead
+    → AreKept Holds (low + 1) (shifted ahead)
+AreKept-shifted Holds low ahead are index entry is =
     let e : low + 1 + index ≡ low + (index + 1) = omega arith in
     rw e (are (index + 1) entry (sym (get_or-shifted ahead index) ∙ is))
 
@@ -92,7 +96,7 @@ Ran-stop all history rest ahead begins window are none =
         rest = rest;
         begins = begins;
         window = length-shifted ahead (omega arith) ∙ window;
-        kept = λ index entry is. AreKeptOf-shifted all (length history) ahead are index entry is;
+        kept = λ index entry is. AreKept-shifted (StandsAt all) (length history) ahead are index entry is;
       };
       gap = record {
         behind = omega arith;
@@ -177,7 +181,7 @@ longer all history rest ahead entry begins window are kept =
       window = length-shifted ahead (omega arith) ∙ window;
       are =
           subst (λ (n : ℕ). AreKeptOf all n (shifted ahead)) (sym one)
-          (AreKeptOf-shifted all (length history) ahead are);
+          (AreKept-shifted (StandsAt all) (length history) ahead are);
     }
 
 -- A run over what is kept of a legal history, from where its copy ends, takes all up to the first gap.
@@ -324,13 +328,13 @@ is_kept-keeping low ahead place other entry behind within =
           (is_some-keeping ahead (place - low) (other - low) entry within)
     ]
 
--- what is kept then is of the history
-AreKeptOf-keeping : (all : List Entry) (low : ℕ) (ahead : List (Option Entry)) (index : ℕ) (entry : Entry)
+-- it holds of what is kept then, if it holds of the entry
+pub AreKept-keeping : (Holds : ℕ → Entry → Type 0) (low : ℕ) (ahead : List (Option Entry)) (index : ℕ) (entry : Entry)
     → index < length ahead
-    → StandsAt all (low + index) entry
-    → AreKeptOf all low ahead
-    → AreKeptOf all low (keeping ahead index entry)
-AreKeptOf-keeping all low ahead index entry within stands are other kept is =
+    → Holds (low + index) entry
+    → AreKept Holds low ahead
+    → AreKept Holds low (keeping ahead index entry)
+AreKept-keeping Holds low ahead index entry within holds are other kept is =
     elim (keeping-cases ahead index entry) [
       | inl there ↦
           are other kept (sym (ap (λ (a : List (Option Entry)). get_or a other None) there.0) ∙ is)
@@ -342,7 +346,7 @@ AreKeptOf-keeping all low ahead index entry within stands are other kept is =
                 let there : get_or (set ahead index (Some entry)) other None ≡ Some entry =
                 rw same.0 (get_or-set_same ahead index (Some entry) None within) in
                 let e : entry ≡ kept = cc in
-                rw same.0 (subst (λ (x : Entry). StandsAt all (low + index) x) e stands)
+                rw same.0 (subst (λ (x : Entry). Holds (low + index) x) e holds)
             | inr different ↦
                 are other kept
                 (sym (get_or-set_other ahead index other (Some entry) None different.0) ∙ now)
@@ -469,7 +473,7 @@ Takes-arrives all old new parcel outcome answer (Keeps not_among low high told l
         rest = copies.rest;
         begins = copies.begins;
         window = length-keeping old.ahead index parcel.entry ∙ copies.window;
-        kept = AreKeptOf-keeping all (length old.history + 1) old.ahead index parcel.entry within
+        kept = AreKept-keeping (StandsAt all) (length old.history + 1) old.ahead index parcel.entry within
             (subst (λ (n : ℕ). StandsAt all n parcel.entry) (sym back) of)
             (λ other kept is. copies.kept other kept is);
       };

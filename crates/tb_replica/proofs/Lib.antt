@@ -6,3 +6,6 @@ pub mod RunLemmas
 pub mod OpenLemmas
 pub mod GoingLemmas
 pub mod TakingLemmas
+pub mod CrashLemmas
+pub mod KeptLemmas
+pub mod OwnLemmas

@@ -4,3 +4,4 @@ pub mod Following
 pub mod Arrival
 pub mod Followers
 pub mod Adding
+pub mod Crashes

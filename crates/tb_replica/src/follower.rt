@@ -1,5 +1,5 @@
 //! A follower: a desk that takes parcels of another's history.
-ghost use Rattle.std.specs.Prelude.{◌≡◌, ◌≢◌, ◌⊎◌, ◌+◌, ◌*◌, ◌≤◌, ◌++◌, [], IfSome, IfOk, IfErr, Ok, Err, length};
+ghost use Rattle.std.specs.Prelude.{◌≡◌, ◌≢◌, ◌⊎◌, ◌+◌, ◌*◌, ◌≤◌, ◌++◌, [], IfSome, IfOk, IfErr, Ok, Err, None, length};
 ghost use Rattle.tb_link.specs.Counts.{Rose, NeverFalls, last_count};
 ghost use Rattle.tb_disk.specs.Past.{contents_of};
 ghost use Rattle.tb_message.specs.Spelling.{IsInRange};
@@ -7,13 +7,14 @@ ghost use Rattle.tb_history.specs.Legal.{IsLegal};
 ghost use Rattle.tb_journal.specs.Journal.{Told};
 ghost use Rattle.tb_journal.specs.Opening.{IsHarmless, Opens};
 ghost use Rattle.tb_desk.specs.declared.fault.OpenFault.TheVariants as unopened;
-ghost use Rattle.tb_desk.specs.Stands.{StandsForHistory, StandsForEither, LeavesEither};
-ghost use Rattle.tb_desk.specs.Desks.{CrashesSince};
+ghost use Rattle.tb_desk.specs.Stands.{CrashesLeave, StandsForHistory, StandsForEither, LeavesEither};
+ghost use Rattle.tb_desk.specs.Desks.{CrashesSince, doubted_by, held};
 ghost use Rattle.tb_desk.specs.Replay.{IsExact, LeavesRefused};
 ghost use Rattle.tb_replica.specs.declared.taken.TakeFault.TheVariants as fault;
 ghost use Rattle.tb_replica.specs.Following.{Runs, Takes};
 ghost use Rattle.tb_replica.specs.Followers.{following, IsOpened, IsFresh, AreInRange};
 ghost use Rattle.tb_replica.specs.Adding.{IsAdded, IsToldBy};
+ghost use Rattle.tb_replica.specs.Crashes.{IsInDoubt, IsLeft, WaitsBehind, WaitsFor};
 
 use crate::taken::{TakeFault, Taken};
 use crate::window::{PLACES, Window};
@@ -59,6 +60,14 @@ fn add<D: Disk>(desk: &mut Desk<D>, entry: &Entry) -> Result<(), TakeFault>
     requires sure { desk.old.doubt ≡ [] }
     requires in_range { IsInRange entry.now }
     ensures added { IsAdded desk.old.host.history entry.now desk.new.host.history result }
+    ensures crash { CrashesLeave (IsLeft desk.old.host.history (held desk.new)) (D.disk desk.old.disk)
+        (D.disk desk.new.disk) }
+    ensures leaves { LeavesEither (D.disk desk.new.disk) desk.new.host.history desk.new.doubt }
+    ensures in_doubt { result ≡ Err fault.DiskFault
+        → IsInDoubt (λ place waiting. waiting ≡ entry.now) (held desk.new) }
+    ensures doubted { result ≡ Err fault.DiskFault
+        → desk.new.doubted ≡ desk.old.doubted ++ doubted_by None (held desk.new) }
+    ensures undoubted { result ≢ Err fault.DiskFault → desk.new.doubted ≡ desk.old.doubted }
     ensures sure { result ≢ Err fault.DiskFault → desk.new.doubt ≡ [] }
     ensures fault { result ≡ Err fault.DiskFault → Rose (D.disk desk.old.disk).faults (D.disk desk.new.disk).faults }
     ensures no_fault { result ≢ Err fault.DiskFault
@@ -82,10 +91,18 @@ fn add<D: Disk>(desk: &mut Desk<D>, entry: &Entry) -> Result<(), TakeFault>
 // Adds what is kept for the places behind the copy, as long as the next one is there. One entry was added before.
 fn run<D: Disk>(desk: &mut Desk<D>, ahead: &mut Window<Entry>) -> Result<Taken, TakeFault>
     requires sure { desk.old.doubt ≡ [] }
+    requires leaves { LeavesEither (D.disk desk.old.disk) desk.old.host.history desk.old.doubt }
     requires in_range { AreInRange ahead.old }
     requires window { length ahead.old ≡ 1023 }
     ensures runs { Runs (record { history = desk.new.host.history; ahead = ahead.new }) result
         desk.old.host.history ahead.old 1 }
+    ensures crash { CrashesLeave (IsLeft desk.old.host.history (held desk.new)) (D.disk desk.old.disk)
+        (D.disk desk.new.disk) }
+    ensures in_doubt { result ≡ Err fault.DiskFault
+        → IsInDoubt (WaitsBehind desk.old.host.history ahead.old) (held desk.new) }
+    ensures doubted { result ≡ Err fault.DiskFault
+        → desk.new.doubted ≡ desk.old.doubted ++ doubted_by None (held desk.new) }
+    ensures undoubted { result ≢ Err fault.DiskFault → desk.new.doubted ≡ desk.old.doubted }
     ensures in_range { AreInRange ahead.new }
     ensures window { length ahead.new ≡ 1023 }
     ensures sure { result ≢ Err fault.DiskFault → desk.new.doubt ≡ [] }
@@ -151,6 +168,16 @@ impl<D: Disk> Follower<D> {
         requires sure { self.old.desk.doubt ≡ [] }
         requires in_range { IsInRange parcel.now.entry }
         ensures takes { Takes parcel.now (following self.old) (following self.new) result }
+        // A crash at any moment of the call leaves a beginning of the copy that has all that it had before, or the copy
+        // followed by what is in doubt: the parcel's entry, or one that was kept, at its place.
+        ensures crash { CrashesLeave (IsLeft self.old.desk.host.history (held self.new.desk))
+            (D.disk self.old.desk.disk) (D.disk self.new.desk.disk) }
+        ensures in_doubt { result ≡ Err fault.DiskFault
+            → IsInDoubt (WaitsFor parcel.now (following self.old)) (held self.new.desk) }
+        // After a disk fault the entry that is in doubt then is noted, and after nothing else.
+        ensures doubted { result ≡ Err fault.DiskFault
+            → self.new.desk.doubted ≡ self.old.desk.doubted ++ doubted_by None (held self.new.desk) }
+        ensures undoubted { result ≢ Err fault.DiskFault → self.new.desk.doubted ≡ self.old.desk.doubted }
         ensures sure { result ≢ Err fault.DiskFault → self.new.desk.doubt ≡ [] }
         ensures fault { result ≡ Err fault.DiskFault
             → Rose (D.disk self.old.desk.disk).faults (D.disk self.new.desk.disk).faults }
@@ -160,10 +187,10 @@ impl<D: Disk> Follower<D> {
         ensures kept { (self.new.desk.opened ≡ self.old.desk.opened)
             × (self.new.desk.recovered ≡ self.old.desk.recovered) }
     {
+        let next = self.desk.entries();
         if self.desk.stands(&parcel.entry) {
             return Ok(Taken::Standing);
         }
-        let next = self.desk.entries();
         if parcel.place < next {
             return Err(TakeFault::Forked(parcel.place));
         }

@@ -1,18 +1,19 @@
 -- Reading the entries of a book, from line to line.
 use Rattle.std.proofs.Common.{◌≡◌, ◌≢◌, ℕ, ◌+◌, ◌^◌, ◌<◌, ◌≤◌, List, [], ◌∷◌, ◌++◌, length, sym, subst, ap, ◌∙◌, refl, arith, append_assoc, Bool, true, false, inl, inr}
-use Rattle.std.specs.Prelude.{Option, Some, Result, Err, OnErr}
+use Rattle.std.specs.Prelude.{Option, Some, None, Result, Err, OnErr, position}
 use Rattle.std.specs.Str.Lines.{lines}
 use Rattle.std.proofs.lemmas.List.{length-append}
-use Rattle.tb_link.specs.Sources.{SourceState}
+use Rattle.tb_link.specs.Sources.{SourceState, before_left}
 use Rattle.tb_text_book.specs.BookLines.{Spells, Says}
 use Rattle.tb_text_book.specs.Fields.{fields}
 use Rattle.tb_text_book.specs.SoundLines.{IsLine, IsSoundOffering}
-use Rattle.tb_text_book.specs.Books.{Adds, AreEntries, Book, GetsNumber, GoesOn, IsBadFirst, IsBadLine, IsBadNext, BeginsWithBook, IsEntry, empty_book, name_of}
-use Rattle.tb_lines.specs.LineEnds.{most_lines}
+use Rattle.tb_text_book.specs.Books.{Adds, AreEntries, Book, GetsNumber, GoesOn, IsBadFirst, IsBadLine, IsBadNext, IsFront, BeginsWithBook, IsEntry, empty_book, name_of}
+use Rattle.tb_lines.specs.LineEnds.{is_line_feed, most_lines}
+use Rattle.tb_lines.specs.Pieces.{still_left}
 use Rattle.tb_lines.specs.Lines.{StaysAtEnd, ahead, unread}
-use Rattle.tb_text_book.specs.BookReading.{ReadsBadLine, ReadsBook, ReadsLine, HasNoLine, HasEntries, EndsEntries, StopsEntries}
+use Rattle.tb_text_book.specs.BookReading.{AreSomeEntries, IsOpenBook, ReadsBadLine, ReadsBook, ReadsLine, HasNoLine, HasEntries, EndsEntries, StopsEntries}
 use Rattle.tb_lines.specs.Told.{WhereTold}
-use Rattle.tb_lines.specs.Reads.{ReadsLines, ReadsNoMore}
+use Rattle.tb_lines.specs.Reads.{CutsOpen, LeavesOpen, ReadsLines, ReadsNoMore}
 use Rattle.tb_text_book.specs.Tallies.{IsTally}
 use Rattle.tb_text_book.specs.declared.book_line.BookLine.{BookLine}
 use Rattle.tb_text_book.specs.declared.book_line.BookLine.TheVariants as kind
@@ -38,7 +39,7 @@ to_come at = ahead at.reader at.source
 pub record ReadsEntries (count : ℕ) (offering : Offering) (book : Book) (first now : ReadState) (text : List ℕ) : Type 0
   where
     pub has : HasEntries count offering book (to_come now) text
-    pub reads : ReadsNoMore first.source.reads now.source.reads now.reader.ended (to_come now) text
+    pub reads : ReadsNoMore first.source.reads now.source.reads now.reader.pieces.ended (to_come now) text
 
 -- what the loop over the lines keeps
 pub record SoFar (line : ℕ) (offering : Offering) (kept : TextBook) (first now : ReadState) : Type 0 where
@@ -118,6 +119,21 @@ bad_next offering book count [] no_line = tt
 bad_next offering book count (text ∷ texts) no_line =
     inr (λ goes. elim goes [ inl more ↦ no_line (kind.Entry more.1.0) more.1.1 | inr ends ↦ no_line kind.End ends ])
 
+-- where the end of the input wasn't found, the text to come is what the reader has and what is left of the input
+pub cut_parts : (at : ReadState) (text : List ℕ)
+    → at.reader.pieces.ended ≡ false
+    → to_come at ≡ Some text
+    → (rest : List ℕ) × (at.source.left ≡ Some rest) × (text ≡ unread at.reader ++ rest)
+cut_parts at text going is =
+    parts (unread at.reader) at.source.left text
+    (subst (λ (ended : Bool). before_left (unread at.reader) (still_left ended at.source.left) ≡ Some text) going is)
+  where
+    parts : (front : List ℕ) (left : Option (List ℕ)) (t : List ℕ)
+        → before_left front left ≡ Some t
+        → (rest : List ℕ) × (left ≡ Some rest) × (t ≡ front ++ rest)
+    parts front None t is = absurd (cc)
+    parts front (Some rest) t is = (rest, refl, (cc))
+
 -- From the entries read so far, the next line is looked for, with no read behind it.
 module _ (count : ℕ) (offering : Offering) (book : Book) (first now next : ReadState) (text : List ℕ)
     (so_far : ReadsEntries count offering book first now text)
@@ -129,9 +145,42 @@ module _ (count : ℕ) (offering : Offering) (book : Book) (first now next : Rea
   one_more =
       let same : so_far.has.rest ≡ so_far.reads.rest =
       same_rest (to_come now) so_far.has.rest so_far.reads.rest so_far.has.behind_is so_far.reads.behind_is in
-      ReadsLines-more first.source.reads now.source.reads next.source.reads now.reader.ended (to_come now) text
+      ReadsLines-more first.source.reads now.source.reads next.source.reads now.reader.pieces.ended (to_come now) text
       so_far.reads (λ ended. (once ended).1) so_far.has.read 1
       (so_far.has.lines_are ∙ ap (λ (r : List ℕ). so_far.has.read ++ lines r) same) alone
+
+  -- memory has run out
+  pub LeavesOpen-here : LeavesOpen (AreSomeEntries offering) first.source.reads next.source.reads text
+  LeavesOpen-here = record {
+    front = so_far.has.read;
+    rest = lines so_far.has.rest;
+    lines_are = so_far.has.lines_are;
+    is_open = (book, so_far.has.are);
+    reads = one_more;
+  }
+
+  -- a read has failed
+  pub CutsOpen-here : to_come next ≡ to_come now
+      → position is_line_feed (unread next.reader) ≡ None
+      → next.reader.pieces.ended ≡ false
+      → CutsOpen (AreSomeEntries offering) first.source.reads next.source.reads next.source.left text
+  CutsOpen-here still none going =
+      let cut = cut_parts next so_far.has.rest going (still ∙ so_far.has.behind_is) in
+      let same : so_far.has.rest ≡ so_far.reads.rest =
+      same_rest (to_come now) so_far.has.rest so_far.reads.rest so_far.has.behind_is so_far.reads.behind_is in
+      record {
+        front = so_far.has.read;
+        taken = so_far.reads.taken;
+        begun = unread next.reader;
+        rest = cut.0;
+        left_is = cut.1;
+        text_is = so_far.reads.text_is
+            ∙ ap (λ (r : List ℕ). so_far.reads.taken ++ r) (sym same ∙ cut.2);
+        lines_are = so_far.has.lines_are ∙ ap (λ (r : List ℕ). so_far.has.read ++ lines r) cut.2;
+        begun_only = none;
+        is_open = (book, so_far.has.are);
+        reads = one_more;
+      }
 
   -- it spells no line of a book
   pub StopsEntries-unread : WhereTold (to_come now) (λ t. HasNoLine (lines t))
@@ -185,7 +234,7 @@ StopsEntries-full count offering book first now text so_far full =
       few = omega (arith, so_far.has.size);
       bad = too_many (length so_far.has.read + 1) (lines so_far.has.rest) (omega (arith, so_far.has.size));
       number_is = omega (arith, so_far.has.size);
-      reads = ReadsLines-whole first.source.reads now.source.reads now.reader.ended (to_come now) text
+      reads = ReadsLines-whole first.source.reads now.source.reads now.reader.pieces.ended (to_come now) text
           so_far.has.read (length so_far.has.read + 1) so_far.reads
           (so_far.has.lines_are ∙ ap (λ (r : List ℕ). so_far.has.read ++ lines r) same) (omega arith);
     }
@@ -228,7 +277,7 @@ OnErr-holds {T} {E} r e P is holds = let Q : Result T E → Type 0 = λ x. OnErr
 -- a new reader has nothing before what the source has
 pub ahead-start : (reader : LineReader) (source : SourceState) (text : List ℕ)
     → unread reader ≡ []
-    → reader.ended ≡ false
+    → reader.pieces.ended ≡ false
     → source.left ≡ Some text
     → ahead reader source ≡ Some text
 ahead-start reader source text empty going is = rw (empty, going, is) refl
@@ -252,8 +301,8 @@ IsBadLine-first text line behind reads other =
 pub ReadsBadLine-later : (number : ℕ) (text : List ℕ) (offering : Offering) (before between after : ℕ)
     (middle : ReadState)
     (line : ReadsLine (kind.Offering offering) (to_come middle) text)
-    (one : ReadsNoMore before between middle.reader.ended (to_come middle) text)
-    → (middle.reader.ended ≡ true → after ≡ between)
+    (one : ReadsNoMore before between middle.reader.pieces.ended (to_come middle) text)
+    → (middle.reader.pieces.ended ≡ true → after ≡ between)
     → WhereTold (to_come middle) (StopsEntries number between after offering)
     → ReadsBadLine number before after text
 ReadsBadLine-later number text offering before between after middle line one once told =
@@ -277,11 +326,92 @@ ReadsBadLine-later number text offering before between after middle line one onc
         number_is = omega (arith, stops.number_is);
       });
       reads = subst (λ (n : ℕ). ReadsLines n before after text) numbered
-          (ReadsLines-more before between after middle.reader.ended (to_come middle) text one once (line.first ∷ [])
+          (ReadsLines-more before between after middle.reader.pieces.ended (to_come middle) text one once (line.first ∷ [])
           (length stops.read + 1) here
           (λ t is. subst (ReadsLines (length stops.read + 1) between after)
           (same_rest (to_come middle) line.rest t line.behind_is is) stops.reads));
     }
+
+-- a read has failed before the first line was whole
+pub CutsOpen-first : (before after : ℕ) (at : ReadState) (text : List ℕ)
+    → to_come at ≡ Some text
+    → position is_line_feed (unread at.reader) ≡ None
+    → at.reader.pieces.ended ≡ false
+    → ReadsLines 1 before after text
+    → CutsOpen IsOpenBook before after at.source.left text
+CutsOpen-first before after at text is none going reads =
+    let cut = cut_parts at text going is in
+    record {
+      front = [];
+      taken = [];
+      begun = unread at.reader;
+      rest = cut.0;
+      left_is = cut.1;
+      text_is = cut.2;
+      lines_are = ap lines cut.2;
+      begun_only = none;
+      is_open = tt;
+      reads = reads;
+    }
+
+-- Behind the offering some entries were read.
+module _ (text : List ℕ) (offering : Offering) (before between after : ℕ) (middle : ReadState)
+    (line : ReadsLine (kind.Offering offering) (to_come middle) text)
+    (one : ReadsNoMore before between middle.reader.pieces.ended (to_come middle) text)
+    (once : middle.reader.pieces.ended ≡ true → after ≡ between) where
+  -- what follows the offering
+  rest-same : line.rest ≡ one.rest
+  rest-same = same_rest (to_come middle) line.rest one.rest line.behind_is one.behind_is
+
+  -- no more was read of the whole text than of these lines
+  reads-behind : (most : ℕ)
+      → ReadsLines most between after line.rest
+      → ReadsLines (length (line.first ∷ []) + most) before after text
+  reads-behind most reads =
+      ReadsLines-more before between after middle.reader.pieces.ended (to_come middle) text one once
+      (line.first ∷ []) most
+      (line.lines_are ∙ ap (λ (r : List ℕ). line.first ∷ lines r) rest-same)
+      (λ t is. subst (ReadsLines most between after) (same_rest (to_come middle) line.rest t line.behind_is is) reads)
+
+  -- memory has run out
+  pub LeavesOpen-later : WhereTold (to_come middle) (LeavesOpen (AreSomeEntries offering) between after)
+      → LeavesOpen IsOpenBook before after text
+  LeavesOpen-later told =
+      let leaves = told line.rest line.behind_is in
+      let count : length (line.first ∷ []) + (length leaves.front + 1) ≡ length (line.first ∷ leaves.front) + 1 =
+      omega arith in
+      record {
+        front = line.first ∷ leaves.front;
+        rest = leaves.rest;
+        lines_are = line.lines_are ∙ ap (λ (ls : List (List ℕ)). line.first ∷ ls) leaves.lines_are;
+        is_open = (offering, leaves.is_open.0, (line.spells, leaves.is_open.1));
+        reads = subst (λ (n : ℕ). ReadsLines n before after text) count
+            (reads-behind (length leaves.front + 1) leaves.reads);
+      }
+
+  -- a read has failed
+  pub CutsOpen-later : (left : Option (List ℕ))
+      → WhereTold (to_come middle) (CutsOpen (AreSomeEntries offering) between after left)
+      → CutsOpen IsOpenBook before after left text
+  CutsOpen-later left told =
+      let cuts = told line.rest line.behind_is in
+      let count : length (line.first ∷ []) + (length cuts.front + 1) ≡ length (line.first ∷ cuts.front) + 1 =
+      omega arith in
+      record {
+        front = line.first ∷ cuts.front;
+        taken = one.taken ++ cuts.taken;
+        begun = cuts.begun;
+        rest = cuts.rest;
+        left_is = cuts.left_is;
+        text_is = one.text_is
+            ∙ (ap (λ (r : List ℕ). one.taken ++ r) (sym rest-same ∙ cuts.text_is)
+            ∙ sym (append_assoc one.taken cuts.taken (cuts.begun ++ cuts.rest)));
+        lines_are = line.lines_are ∙ ap (λ (ls : List (List ℕ)). line.first ∷ ls) cuts.lines_are;
+        begun_only = cuts.begun_only;
+        is_open = (offering, cuts.is_open.0, (line.spells, cuts.is_open.1));
+        reads = subst (λ (n : ℕ). ReadsLines n before after text) count
+            (reads-behind (length cuts.front + 1) cuts.reads);
+      }
 
 -- the offering and the lines up to the end are a book
 pub BeginsWithBook-read : (text : List ℕ) (offering : Offering) (book : Book) (behind after : Option (List ℕ))
@@ -321,6 +451,23 @@ ReadsBook-read before after ended text offering book behind rest line told few =
           ∙ sym (append_assoc front (ends.last ∷ []) (lines few.rest))))
           (omega (arith, length-append front (ends.last ∷ [])));
     }
+
+-- the lines before a book's end leave it open
+open_front : (front : List (List ℕ)) (offering : Offering) (book : Book) → IsFront front offering book → IsOpenBook front
+open_front [] offering book is = absurd is
+open_front (first ∷ texts) offering book is = (offering, book, is)
+
+-- a book was read to its end, and no further
+pub LeavesOpen-book : (before after : ℕ) (offering : Offering) (book : Book) (text : List ℕ)
+    → ReadsBook before after offering book text
+    → LeavesOpen IsOpenBook before after text
+LeavesOpen-book before after offering book text reads = record {
+  front = reads.begins.front;
+  rest = reads.begins.last ∷ reads.begins.rest;
+  lines_are = reads.begins.lines_are;
+  is_open = open_front reads.begins.front offering book reads.begins.front_is;
+  reads = reads.reads;
+}
 
 -- nothing has been read behind the offering
 pub HasEntries-start : (offering : Offering) (ahead : Option (List ℕ))

@@ -2,7 +2,7 @@
 use Rattle.std.specs.Prelude.{◌≡◌, ℕ, ◌+◌, ◌<◌, ◌≤◌, List, [], ◌∷◌, ◌++◌, length, Option, Some}
 use Rattle.std.specs.Str.Lines.{lines}
 use Rattle.tb_text_book.specs.BookLines.{Spells}
-use Rattle.tb_text_book.specs.Books.{AreEntries, BeginsWithBook, Book, empty_book, IsBadLine, IsBadNext}
+use Rattle.tb_text_book.specs.Books.{AreEntries, BeginsWithBook, Book, empty_book, IsBadLine, IsBadNext, IsFront}
 use Rattle.tb_lines.specs.LineEnds.{most_lines}
 use Rattle.tb_lines.specs.Reads.{ReadsLines}
 use Rattle.tb_text_book.specs.declared.book_line.BookLine.{BookLine}
@@ -65,3 +65,12 @@ pub record ReadsBook (before after : ℕ) (offering : Offering) (book : Book) (t
 pub record ReadsBadLine (number before after : ℕ) (text : List ℕ) : Type 0 where
   pub bad : IsBadLine number (lines text)
   pub reads : ReadsLines number before after text
+
+-- the lines are entries behind an offering
+abbrev pub AreSomeEntries : Offering → List (List ℕ) → Type 0
+AreSomeEntries offering read = (book : Book) × AreEntries offering empty_book read book
+
+-- the lines are a book without its end, or there is none yet
+abbrev pub IsOpenBook : List (List ℕ) → Type 0
+IsOpenBook [] = Unit {0}
+IsOpenBook (first ∷ texts) = (offering : Offering) × (book : Book) × IsFront (first ∷ texts) offering book

@@ -1,13 +1,13 @@
 //! Reading a text book of bids from a source.
-ghost use Rattle.std.specs.Prelude.{◌≡◌, ◌≢◌, ◌<◌, ℕ, length, Err, IfOk, OnOk, IsErrOf};
+ghost use Rattle.std.specs.Prelude.{◌≡◌, ◌≢◌, ◌<◌, ℕ, false, length, None, Err, IfOk, OnOk, IsErrOf, position};
 ghost use Rattle.std.specs.Str.Lines.{lines};
 ghost use Rattle.tb_link.specs.Counts.{NeverFalls, Rose};
 ghost use Rattle.tb_text_book.specs.Books.{Adds, Book, empty_book};
-ghost use Rattle.tb_lines.specs.LineEnds.{most_lines};
-ghost use Rattle.tb_text_book.specs.BookReading.{ReadsBadLine, ReadsLine, HasNoLine, StopsEntries};
+ghost use Rattle.tb_lines.specs.LineEnds.{is_line_feed, most_lines};
+ghost use Rattle.tb_text_book.specs.BookReading.{AreSomeEntries, HasNoLine, IsOpenBook, ReadsBadLine, ReadsLine, StopsEntries};
 ghost use Rattle.tb_lines.specs.Told.{WhereTold};
-ghost use Rattle.tb_lines.specs.Lines.{ahead, StaysAtEnd};
-ghost use Rattle.tb_lines.specs.Reads.{ReadsLines, ReadsNoMore, ReadsWithoutFault};
+ghost use Rattle.tb_lines.specs.Lines.{ahead, StaysAtEnd, unread};
+ghost use Rattle.tb_lines.specs.Reads.{CutsOpen, LeavesOpen, ReadsLines, ReadsNoMore, ReadsWithoutFault};
 ghost use Rattle.tb_text_book.specs.SoundLines.{IsLine, IsSoundOffering};
 ghost use Rattle.tb_text_book.specs.Tallies.{HasReadEntries, IsReadFrom, IsTally};
 ghost use Rattle.tb_text_book.specs.BookFaults.{of_input};
@@ -45,14 +45,13 @@ impl From<InputFault> for BookFault {
 fn next_book_line<I: Source>(
     reader: &mut LineReader,
     number: u64,
-    alloc: Global,
     input: &mut I,
 ) -> Result<BookLine, BookFault>
     ensures line { IfOk result (λ line. WhereTold (ahead reader.old (I.source input.old))
         (ReadsLine line (ahead reader.new (I.source input.new)))) }
     ensures spelled { IfOk result IsLine }
     ensures reads { OnOk result (WhereTold (ahead reader.old (I.source input.old))
-        (ReadsNoMore (I.source input.old).reads (I.source input.new).reads reader.new.ended
+        (ReadsNoMore (I.source input.old).reads (I.source input.new).reads reader.new.pieces.ended
         (ahead reader.new (I.source input.new)))) }
     ensures alone { WhereTold (ahead reader.old (I.source input.old))
         (ReadsLines 1 (I.source input.old).reads (I.source input.new).reads) }
@@ -62,9 +61,15 @@ fn next_book_line<I: Source>(
         × ((I.source input.new).faults ≡ (I.source input.old).faults)
         × WhereTold (ahead reader.old (I.source input.old)) (λ text. HasNoLine (lines text)) }
     ensures fault { IsErrOf result BookFault.Read → Rose (I.source input.old).faults (I.source input.new).faults }
+    ensures lacked { IsErrOf result BookFault.OutOfMemory
+        → (I.source input.new).faults ≡ (I.source input.old).faults }
+    // Where a read failed, no line was whole, and what was taken is kept.
+    ensures failed { IsErrOf result BookFault.Read
+        → (ahead reader.new (I.source input.new) ≡ ahead reader.old (I.source input.old))
+        × (position is_line_feed (unread reader.new) ≡ None) × (reader.new.pieces.ended ≡ false) }
     ensures count { NeverFalls (I.source input.old).faults (I.source input.new).faults }
 {
-    match reader.next_line(alloc, input)? {
+    match reader.next_line(input)? {
         NextLine::Line => match read_book_line(reader.line()) {
             Some(line) => Ok(line),
             None => Err(BookFault::BadLine(number)),
@@ -74,7 +79,8 @@ fn next_book_line<I: Source>(
     }
 }
 
-/// Reads a book up to its line `end`, or to the first line outside the grammar. Nothing behind that is read.
+/// Reads a book up to its line `end`, or to the first line outside the grammar. Nothing behind that is read, and nothing
+/// once that line is there.
 pub fn read_book<I: Source>(alloc: Global, input: &mut I) -> Result<TextBook, BookFault>
     ensures book { IfOk result (IsReadFrom (I.source input.old) (I.source input.new)) }
     ensures no_fault { OnOk result ((I.source input.new).faults ≡ (I.source input.old).faults) }
@@ -82,15 +88,20 @@ pub fn read_book<I: Source>(alloc: Global, input: &mut I) -> Result<TextBook, Bo
         → ReadsWithoutFault (I.source input.old) (I.source input.new)
         (ReadsBadLine line (I.source input.old).reads (I.source input.new).reads) }
     ensures fault { IsErrOf result BookFault.Read → Rose (I.source input.old).faults (I.source input.new).faults }
+    // Where a read failed, the lines that were whole are a book without its end: no read is made once that is there.
+    ensures failed { IsErrOf result BookFault.Read → WhereTold (I.source input.old).left
+        (CutsOpen IsOpenBook (I.source input.old).reads (I.source input.new).reads (I.source input.new).left) }
+    ensures lacked { IsErrOf result BookFault.OutOfMemory → ReadsWithoutFault (I.source input.old) (I.source input.new)
+        (LeavesOpen IsOpenBook (I.source input.old).reads (I.source input.new).reads) }
     ensures count { NeverFalls (I.source input.old).faults (I.source input.new).faults }
 {
     let mut reader = LineReader::new(alloc);
-    let offering = match next_book_line(&mut reader, 1, alloc, input)? {
+    let offering = match next_book_line(&mut reader, 1, input)? {
         BookLine::Offering(offering) => offering,
         _ => return Err(BookFault::BadLine(1)),
     };
     let mut book = TextBook::new(alloc, offering);
-    read_entries(&mut book, &mut reader, alloc, input)?;
+    read_entries(&mut book, &mut reader, input)?;
     Ok(book)
 }
 
@@ -98,7 +109,6 @@ pub fn read_book<I: Source>(alloc: Global, input: &mut I) -> Result<TextBook, Bo
 fn read_entries<I: Source>(
     book: &mut TextBook,
     reader: &mut LineReader,
-    alloc: Global,
     input: &mut I,
 ) -> Result<(), BookFault>
     requires empty { IsTally empty_book book.old }
@@ -107,7 +117,7 @@ fn read_entries<I: Source>(
     ensures book { OnOk result (HasReadEntries (ahead reader.old (I.source input.old))
         (ahead reader.new (I.source input.new)) book.new) }
     ensures reads { OnOk result (WhereTold (ahead reader.old (I.source input.old))
-        (ReadsNoMore (I.source input.old).reads (I.source input.new).reads reader.new.ended
+        (ReadsNoMore (I.source input.old).reads (I.source input.new).reads reader.new.pieces.ended
         (ahead reader.new (I.source input.new)))) }
     ensures once { StaysAtEnd reader.old reader.new (I.source input.old) (I.source input.new) }
     ensures no_fault { OnOk result ((I.source input.new).faults ≡ (I.source input.old).faults) }
@@ -116,11 +126,18 @@ fn read_entries<I: Source>(
         × WhereTold (ahead reader.old (I.source input.old))
         (StopsEntries line (I.source input.old).reads (I.source input.new).reads book.old.offering) }
     ensures fault { IsErrOf result BookFault.Read → Rose (I.source input.old).faults (I.source input.new).faults }
+    ensures failed { IsErrOf result BookFault.Read → WhereTold (ahead reader.old (I.source input.old))
+        (CutsOpen (AreSomeEntries book.old.offering) (I.source input.old).reads (I.source input.new).reads
+        (I.source input.new).left) }
+    ensures lacked { IsErrOf result BookFault.OutOfMemory
+        → ((I.source input.new).faults ≡ (I.source input.old).faults)
+        × WhereTold (ahead reader.old (I.source input.old)) (LeavesOpen (AreSomeEntries book.old.offering)
+        (I.source input.old).reads (I.source input.new).reads) }
     ensures count { NeverFalls (I.source input.old).faults (I.source input.new).faults }
 {
     for read in 1..MOST_LINES {
         let number = read + 1;
-        match next_book_line(reader, number, alloc, input)? {
+        match next_book_line(reader, number, input)? {
             BookLine::Entry(entry) => add_entry(book, entry, number)?,
             BookLine::End => return Ok(()),
             BookLine::Offering(_) => return Err(BookFault::BadLine(number)),

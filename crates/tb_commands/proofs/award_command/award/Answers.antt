@@ -1,5 +1,6 @@
-use Rattle.std.proofs.Common.{ap, ◌∙◌}
+use Rattle.std.proofs.Common.{ap, refl, ◌∙◌}
 use Rattle.tb_link.specs.Sinks.{after_taken}
+use Rattle.tb_text_book.proofs.ReadLemmas.{LeavesOpen-book}
 use Rattle.tb_commands.proofs.award_command.award.Goals as goal
 
 pub returns-in-Ok-write-clause-ends : goal.returns-in-Ok-write-clause-ends
@@ -41,5 +42,17 @@ returns-in-Ok-award_text-clause-ends g c =
           reads = read.reads;
           taken = rw c.deref.ensures.value at fails.prefix;
         };
+      },
+    )
+
+pub returns-clause-ends : goal.returns-clause-ends
+returns-clause-ends g c =
+    let source = g.I.Source.source in
+    let from = c.in-Ok.ensures.book in (
+      refl,
+      record {
+        no_fault = c.in-Ok.ensures.no_fault;
+        told = λ bytes told. LeavesOpen-book (source c.args.input.now).reads (source c.read_book.new.input).reads
+            c.in-Ok.book.offering from.book bytes (from.read bytes told);
       },
     )

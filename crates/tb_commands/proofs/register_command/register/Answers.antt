@@ -33,7 +33,7 @@ returns-in-Ok-clause-ends g c = λ input.
           since = disk.since;
           counted = disk.counted;
         }),
-        (refl, c.register_on-ending.ensures),
+        (refl, c.register_on-ending.ensures.ends),
       );
       unread = refl;
       unfiled = λ why is. absurd (cc);
@@ -48,7 +48,8 @@ returns-in-Err-clause-ends g c = λ input.
     record {
       ends = record {
         unopened = Unopened-here c.in-Err.fault (g.D.Disk.disk c.args.disk) (g.D.Disk.disk c.in-Err.disk)
-            refused.exact_refusal refused.crash_refused refused.refused refused.fault refused.count_refused;
+            refused.exact_refusal refused.crash_refused refused.refused refused.fault refused.no_fault_refused
+            refused.count_refused;
         unread = refl;
         silent = refl;
       };

@@ -35,7 +35,8 @@ returns-in-Err-clause-ends g c =
     let refused = c.in-Err.ensures in
     record {
       unopened = Unopened-here c.in-Err.fault (g.D.Disk.disk c.args.disk) (g.D.Disk.disk c.in-Err.disk)
-          refused.exact_refusal refused.crash_refused refused.refused refused.fault refused.count_refused;
+          refused.exact_refusal refused.crash_refused refused.refused refused.fault refused.no_fault_refused
+          refused.count_refused;
       unread = refl;
       silent = refl;
     }

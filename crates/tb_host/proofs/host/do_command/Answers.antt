@@ -1,4 +1,4 @@
-use Rattle.std.proofs.Common.{refl}
+use Rattle.std.proofs.Common.{refl, sym, ◌∙◌}
 use Rattle.tb_host.proofs.CauseLemmas.{check-cause, register-cause, report-cause, send-cause, serve-cause, trial-cause}
 use Rattle.tb_host.proofs.HostLemmas.{EndsAs-check, EndsAs-register, EndsAs-report, EndsAs-send}
 use Rattle.tb_host.proofs.host.do_command.Goals as goal
@@ -61,3 +61,7 @@ pub returns-in-Check-clause-causes : goal.returns-in-Check-clause-causes
 returns-in-Check-clause-causes g c =
     check-cause g.G.Gate.gate _ _ c.check-own.result.0 c.ending-in-Check.result
     c.ending-in-Check.ensures (c.check-own.ensures.ends (g.I.Source.source c.args.input.now))
+
+pub returns-in-Register-clause-kept : goal.returns-in-Register-clause-kept
+returns-in-Register-clause-kept g c = λ sure is.
+    c.register-own.ensures.lacked sure (sym c.ending-in-Register.ensures ∙ is)

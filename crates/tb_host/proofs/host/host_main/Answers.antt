@@ -1,7 +1,8 @@
 use Rattle.std.proofs.Common.{sym, ap, ◌∙◌}
 use Rattle.tb_commands.specs.Endings.{status_of}
-use Rattle.tb_commands.proofs.EndingLemmas.{unopened-by_status, usage-at_2}
+use Rattle.tb_commands.proofs.EndingLemmas.{memory-at_9, unopened-by_status, usage-at_2}
 use Rattle.tb_host.proofs.HostLemmas.{Completes-here, reports-as}
+use Rattle.tb_host.proofs.LackedLemmas.{HidesNoFault-here}
 use Rattle.tb_host.proofs.host.host_main.Goals as goal
 
 pub returns-clause-ends : goal.returns-clause-ends
@@ -52,3 +53,15 @@ returns-clause-untouched g c = λ is.
       left.4,
       left.5,
     )
+
+pub returns-clause-lacked : goal.returns-clause-lacked
+returns-clause-lacked g c = λ said are is.
+    let uses = c.any_command-ending.ensures.uses said are in
+    let memory = memory-at_9 c.any_command-ending.result.0 (sym c.status.ensures ∙ is) in
+    HidesNoFault-here g.G.Gate.gate g.G.Conn.Source.source g.G.Conn.Sink.sink (g.C.Clock.clock c.args.clock) _ _ said
+    g.K.Keeper.counts_failures c.any_command-ending.result.0 memory (c.any_command-ending.ensures.ends said are)
+    c.any_command-ending.ensures.causes (
+      λ none. ap g.D.Disk.disk (uses.2 none),
+      λ none. ap g.D.Disk.disk (uses.3 none),
+      λ none. ap (λ gates. gates.items) (uses.4 none),
+    ) (λ sure. c.any_command-ending.ensures.kept sure memory)

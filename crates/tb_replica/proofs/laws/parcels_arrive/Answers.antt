@@ -1,6 +1,8 @@
 -- Each clause is a lemma on arrivals.
 use Rattle.tb_replica.proofs.ArrivalLemmas.{delivered, no_fork, DeliverAll-one}
 use Rattle.tb_replica.proofs.GoingLemmas.{AreTaken-goes_on, Takes-goes_on}
+use Rattle.tb_replica.proofs.KeptLemmas.{kept_came}
+use Rattle.tb_replica.proofs.OwnLemmas.{added_came}
 use Rattle.tb_replica.proofs.laws.parcels_arrive.Goals as goal
 
 pub returns-clause-delivered : goal.returns-clause-delivered
@@ -20,3 +22,10 @@ returns-clause-legal c parcels old new legal taken = AreTaken-goes_on parcels ol
 
 pub returns-clause-legal_last : goal.returns-clause-legal_last
 returns-clause-legal_last c parcel old new outcome legal takes = Takes-goes_on parcel old new outcome legal takes
+
+pub returns-clause-kept : goal.returns-clause-kept
+returns-clause-kept c parcels old new place entry fresh taken behind kept =
+    kept_came parcels old new place entry fresh taken behind kept
+
+pub returns-clause-own : goal.returns-clause-own
+returns-clause-own c parcels old new more fresh taken grown = added_came parcels old new more fresh taken grown

@@ -7,7 +7,7 @@ use Rattle.tb_lines.specs.Lines.{ahead}
 use Rattle.tb_text_book.specs.declared.book.BookFault.TheVariants as fault
 use Rattle.tb_text_book.specs.declared.book_line.BookLine.TheVariants as kind
 use Rattle.tb_text_book.specs.declared.book_line.Offering.{Offering}
-use Rattle.tb_text_book.proofs.ReadLemmas.{Adds-names, Adds-size, EndsEntries-here, HasEntries-more, HasEntries-start, ReadState, StopsEntries-full, StopsEntries-here, StopsEntries-unread, to_come, wrong_entry, wrong_offering}
+use Rattle.tb_text_book.proofs.ReadLemmas.{Adds-names, Adds-size, CutsOpen-here, EndsEntries-here, HasEntries-more, HasEntries-start, LeavesOpen-here, ReadState, StopsEntries-full, StopsEntries-here, StopsEntries-unread, to_come, wrong_entry, wrong_offering}
 use Rattle.tb_lines.proofs.ReadsLemmas.{ReadsNoMore-start, ReadsNoMore-then}
 use Rattle.tb_text_book.proofs.book.read_entries.Goals as goal
 
@@ -20,7 +20,7 @@ loop-read-init g c =
       tally = c.requires.empty;
       read = λ text is. record {
         has = HasEntries-start c.args.book.now.offering (to_come first) text is;
-        reads = ReadsNoMore-start first.source.reads first.reader.ended (to_come first) text is;
+        reads = ReadsNoMore-start first.source.reads first.reader.pieces.ended (to_come first) text is;
       };
       size = refl;
       few = omega arith;
@@ -47,8 +47,8 @@ loop-read-preserved g c =
       read = λ text is. let read = so_far.read text is in record {
         has = HasEntries-more c.loop-read.read c.args.book.now.offering so_far.book more.0 c.in-Entry.entry
             (to_come now) (to_come next) text read.has (rw c.in-Entry.is at line.line) adds;
-        reads = ReadsNoMore-then first.source.reads now.source.reads next.source.reads now.reader.ended (to_come now)
-            text read.reads (λ ended. (line.once ended).1) next.reader.ended (to_come next) line.reads
+        reads = ReadsNoMore-then first.source.reads now.source.reads next.source.reads now.reader.pieces.ended (to_come now)
+            text read.reads (λ ended. (line.once ended).1) next.reader.pieces.ended (to_come next) line.reads
             (λ ended. (line.once ended).0);
       };
       size = omega (arith, Adds-size c.args.book.now.offering so_far.book more.0 c.in-Entry.entry adds, so_far.size);
@@ -129,9 +129,9 @@ returns-in-End-clause-reads g c = λ text is.
     let so_far = c.loop-read.invariant in
     let line = c.in_ok-entry.ensures in
     ReadsNoMore-then (g.I.Source.source c.args.input.now).reads (g.I.Source.source c.loop-read.input).reads
-    (g.I.Source.source c.next_book_line.new.input).reads c.loop-read.reader.ended
+    (g.I.Source.source c.next_book_line.new.input).reads c.loop-read.reader.pieces.ended
     (ahead c.loop-read.reader (g.I.Source.source c.loop-read.input)) text (so_far.read text is).reads
-    (λ ended. (line.once ended).1) c.next_book_line.new.reader.ended
+    (λ ended. (line.once ended).1) c.next_book_line.new.reader.pieces.ended
     (ahead c.next_book_line.new.reader (g.I.Source.source c.next_book_line.new.input)) line.reads
     (λ ended. (line.once ended).0)
 
@@ -166,4 +166,49 @@ returns-clause-bad g c = λ line bad.
           (let whole : c.loop-read.read + 1 ≡ line = omega (arith, number) in whole)
           (StopsEntries-full c.loop-read.read c.args.book.now.offering so_far.book first now text (so_far.read text is)
           (omega arith)),
+    )
+
+pub returns-in_err-entry-clause-failed : goal.returns-in_err-entry-clause-failed
+returns-in_err-entry-clause-failed g c =
+    let source = g.I.Source.source in
+    let first : ReadState = record { reader = c.args.reader.now; source = source c.args.input.now } in
+    let now : ReadState = record { reader = c.loop-read.reader; source = source c.loop-read.input } in
+    let next : ReadState =
+    record { reader = c.next_book_line.new.reader; source = source c.next_book_line.new.input } in
+    let so_far = c.loop-read.invariant in
+    let p = err_from_is_err_and c.from_residual.result c.from_residual.ensures.1 in
+    rw (p.1, p.2) (λ bad text is.
+    let cut = c.in_err-entry.ensures.failed
+    (let same : c.in_err-entry.field-0.0 ≡ fault.Read = (cc) in ap Err same) in
+    CutsOpen-here c.loop-read.read c.args.book.now.offering so_far.book first now next text (so_far.read text is)
+    c.next_book_line.ensures.alone c.next_book_line.ensures.once (omega arith) cut.0 cut.1 cut.2)
+
+pub returns-in_err-entry-clause-lacked : goal.returns-in_err-entry-clause-lacked
+returns-in_err-entry-clause-lacked g c =
+    let source = g.I.Source.source in
+    let first : ReadState = record { reader = c.args.reader.now; source = source c.args.input.now } in
+    let now : ReadState = record { reader = c.loop-read.reader; source = source c.loop-read.input } in
+    let next : ReadState =
+    record { reader = c.next_book_line.new.reader; source = source c.next_book_line.new.input } in
+    let so_far = c.loop-read.invariant in
+    let p = err_from_is_err_and c.from_residual.result c.from_residual.ensures.1 in
+    rw (p.1, p.2) (λ bad.
+    let none = c.in_err-entry.ensures.lacked
+    (let same : c.in_err-entry.field-0.0 ≡ fault.OutOfMemory = (cc) in ap Err same) in (
+      none ∙ so_far.no_fault,
+      λ text is. LeavesOpen-here c.loop-read.read c.args.book.now.offering so_far.book first now next text
+          (so_far.read text is) c.next_book_line.ensures.alone c.next_book_line.ensures.once (omega arith),
+    ))
+
+pub returns-in_err-add_entry-in-Entry-clause-lacked : goal.returns-in_err-add_entry-in-Entry-clause-lacked
+returns-in_err-add_entry-in-Entry-clause-lacked g c = λ bad.
+    let source = g.I.Source.source in
+    let first : ReadState = record { reader = c.args.reader.now; source = source c.args.input.now } in
+    let now : ReadState = record { reader = c.loop-read.reader; source = source c.loop-read.input } in
+    let next : ReadState =
+    record { reader = c.next_book_line.new.reader; source = source c.next_book_line.new.input } in
+    let so_far = c.loop-read.invariant in (
+      c.in_ok-entry.ensures.no_fault ∙ so_far.no_fault,
+      λ text is. LeavesOpen-here c.loop-read.read c.args.book.now.offering so_far.book first now next text
+          (so_far.read text is) c.next_book_line.ensures.alone c.next_book_line.ensures.once (omega arith),
     )
