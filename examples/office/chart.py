@@ -1,4 +1,4 @@
-"""Charts in SVG, of the standard library alone: lines over a scale of numbers or of days, and stacked bars over days.
+"""Charts in SVG, of the standard library alone: lines over a scale of numbers or of days, and stacked bars.
 
 A chart is a text, one `svg` element. Its axes, ticks and legend follow from the values. examples/office/page and bench/award
 use it.
@@ -15,11 +15,30 @@ from typing import Callable, List, Optional, Sequence, Tuple, Union
 #: What stands on the axis below: a number or a day.
 Place = Union[float, datetime.date]
 
-WIDTH, HEIGHT = 720, 340
-LEFT, RIGHT, TOP, BOTTOM = 84, 40, 64, 60
-#: Colours that also readers with a weakness for red or green can tell apart, the first darkest.
-COLOURS = ["#1f4e79", "#d1730f", "#2a9d8f", "#8a5a9e"]
-INK, FAINT = "#333333", "#dddddd"
+#: Colours that readers with a weakness for red or green can tell apart too, and dashes that tell lines apart on grey paper.
+COLOURS = ["#0072b2", "#d55e00", "#009e73", "#cc79a7", "#a67c00", "#3aa0dd", "#555555"]
+DASHES = ["", "9 4", "2 4", "12 4 2 4", "5 3", "1 3", "14 3"]
+INK, FAINT, PALE = "#333333", "#dddddd", "#e4e4e4"
+
+
+@dataclasses.dataclass(frozen=True)
+class Size:
+    """How large a chart is, in units of its own: the page may show it larger or smaller."""
+
+    width: int = 720
+    height: int = 340
+    left: int = 72
+    right: int = 32
+    font: int = 11
+
+    @property
+    def letter(self) -> float:
+        """About how wide a letter is."""
+        return 0.57 * self.font
+
+
+#: As wide as a screen, and as wide as a phone.
+BROAD, NARROW = Size(1280, 400, 64, 24, 14), Size(390, 330, 48, 12, 12)
 
 
 @dataclasses.dataclass(frozen=True)
@@ -29,6 +48,8 @@ class Series:
     name: str
     points: Sequence[Tuple[Place, float]]
     dashed: bool = False
+    #: Which of the colours it has, where not that of its place among the lines.
+    colour: Optional[int] = None
 
 
 class Axis:
@@ -67,50 +88,71 @@ def _step(least: float) -> float:
     return next(power * it for it in (1, 2, 5, 10) if power * it >= least * (1 - 1e-9))
 
 
-def _text(x: float, y: float, text: str, anchor: str = "middle", size: int = 12, weight: str = "normal", extra: str = "") -> str:
-    return (f'<text x="{x:.1f}" y="{y:.1f}" text-anchor="{anchor}" font-size="{size}" font-weight="{weight}" fill="{INK}"{extra}>'
-            f"{escape(text)}</text>")
-
-
-def _line(x1: float, y1: float, x2: float, y2: float, colour: str = FAINT) -> str:
-    return f'<line x1="{x1:.1f}" y1="{y1:.1f}" x2="{x2:.1f}" y2="{y2:.1f}" stroke="{colour}"/>'
-
-
 def plain(value: float) -> str:
     """A number with commas, and no more decimals than it has."""
     text = f"{value:,.6f}".rstrip("0").rstrip(".")
     return text or "0"
 
 
-def _frame(title: str, up: Axis, up_name: str, up_text: Callable[[float], str]) -> List[str]:
-    """The beginning of a chart: its title, and the axis at the left with a faint line for each tick."""
-    parts = [
-        f'<svg xmlns="http://www.w3.org/2000/svg" viewBox="0 0 {WIDTH} {HEIGHT}" width="{WIDTH}" height="{HEIGHT}" role="img" '
-        f'font-family="Helvetica, Arial, sans-serif"><title>{escape(title)}</title>',
-        f'<rect width="{WIDTH}" height="{HEIGHT}" fill="#ffffff"/>',
-        _text(LEFT, 22, title, "start", 15, "bold"),
-        _text(LEFT - 8, TOP - 12, up_name, "start", 11),
-    ]
-    for tick in up.ticks:
-        parts.append(_line(LEFT, up.at(tick), WIDTH - RIGHT, up.at(tick)))
-        parts.append(_text(LEFT - 8, up.at(tick) + 4, up_text(tick), "end", 11))
-    return parts
+class _Drawing:
+    """A chart while it is drawn: its title, its legend in rows under that, and the room that is left for its values."""
 
+    def __init__(
+        self, size: Size, title: str, legend: Sequence[Tuple[str, str, str, bool]], notes: Optional[Sequence[str]]
+    ) -> None:
+        self.size, self.notes = size, list(notes or ())
+        self.parts = [
+            f'<svg xmlns="http://www.w3.org/2000/svg" viewBox="0 0 {size.width} {size.height}" width="{size.width}" '
+            f'height="{size.height}" role="img" font-family="Helvetica, Arial, sans-serif"><title>{escape(title)}</title>',
+            f'<rect width="{size.width}" height="{size.height}" fill="#ffffff"/>',
+        ]
+        self.text(2, 1.5 * size.font, title, "start", size.font + 3, "bold")
+        row, x = 3.1 * size.font, 2.0
+        for name, colour, dashes, filled in legend:
+            room = 30 + size.letter * (len(name) + 2)
+            if x > 2 and x + room > size.width:
+                row, x = row + 1.5 * size.font, 2.0
+            if filled:
+                self.parts.append(f'<rect x="{x:.1f}" y="{row - 0.75 * size.font:.1f}" width="20" height="{0.8 * size.font:.1f}" '
+                                  f'fill="{colour}"/>')
+            else:
+                self.line(x, row - 0.35 * size.font, x + 24, row - 0.35 * size.font, colour, 2.5, dashes)
+            self.text(x + 28, row, name, "start")
+            x += room
+        self.top = row + (3.0 if legend else 1.2) * size.font
+        self.bottom = size.height - 3.6 * size.font - 1.2 * (size.font - 1) * len(self.notes)
+        self.left, self.right = size.left, size.width - size.right
 
-def _legend(names: Sequence[Tuple[str, str, bool]]) -> List[str]:
-    """The names with their colours, from the right under the title."""
-    parts, x = [], float(WIDTH - RIGHT)
-    for name, colour, dashed in reversed(names):
-        x -= 6.4 * len(name)
-        parts.append(_text(x, TOP - 12, name, "start", 11))
-        parts.append(f'<line x1="{x - 24:.1f}" y1="{TOP - 16}" x2="{x - 6:.1f}" y2="{TOP - 16}" stroke="{colour}" '
-                     f'stroke-width="{2 if dashed else 4}"{_dashes(dashed)}/>')
-        x -= 40
-    return parts
+    def text(self, x: float, y: float, text: str, anchor: str = "middle", font: int = 0, weight: str = "normal") -> None:
+        self.parts.append(f'<text x="{x:.1f}" y="{y:.1f}" text-anchor="{anchor}" font-size="{font or self.size.font}" '
+                          f'font-weight="{weight}" fill="{INK}">{escape(text)}</text>')
 
+    def line(self, x1: float, y1: float, x2: float, y2: float, colour: str = FAINT, width: float = 1, dashes: str = "") -> None:
+        dashed = f' stroke-dasharray="{dashes}"' if dashes else ""
+        self.parts.append(f'<line x1="{x1:.1f}" y1="{y1:.1f}" x2="{x2:.1f}" y2="{y2:.1f}" stroke="{colour}" '
+                          f'stroke-width="{width:g}"{dashed}/>')
 
-def _dashes(dashed: bool) -> str:
-    return ' stroke-dasharray="5 4"' if dashed else ""
+    def scale(self, axis: Axis, name: str, text: Callable[[float], str]) -> None:
+        """The axis at the left, with a faint line for each tick, and its name above it."""
+        for tick in axis.ticks:
+            self.line(self.left, axis.at(tick), self.right, axis.at(tick))
+            self.text(self.left - 6, axis.at(tick) + 0.35 * self.size.font, text(tick), "end")
+        self.text(2, self.top - 1.0 * self.size.font, name, "start")
+
+    def below(self, labels: Sequence[Tuple[float, str]], name: str) -> None:
+        """The axis below, with its labels, and its name under them."""
+        for x, label in labels:
+            self.line(x, self.bottom, x, self.bottom + 5, INK)
+            half = 0.5 * self.size.letter * len(label)
+            self.text(min(max(x, half + 1), self.size.width - half - 1), self.bottom + 5 + 1.1 * self.size.font, label)
+        self.line(self.left, self.bottom, self.right, self.bottom, INK)
+        self.text(self.right, self.bottom + 5 + 2.4 * self.size.font, name, "end")
+
+    def whole(self) -> str:
+        for place, note in enumerate(self.notes):
+            y = self.size.height - 6 - 1.2 * (self.size.font - 1) * (len(self.notes) - 1 - place)
+            self.text(2, y, note, "start", self.size.font - 1)
+        return "\n".join([*self.parts, "</svg>"]) + "\n"
 
 
 def _number(place: Place) -> float:
@@ -128,6 +170,7 @@ def lines(
     span: Sequence[Place] = (),
     up_text: Callable[[float], str] = plain,
     notes: Optional[Sequence[str]] = None,
+    size: Size = Size(),
 ) -> str:
     """A chart of lines with their points. `across` and `up` name the axes, with their units.
 
@@ -140,100 +183,112 @@ def lines(
     all_points = [point for it in series for point in it.points]
     if not all_points:
         raise ValueError("a chart has at least one point")
+    looks = [place if it.colour is None else it.colour for place, it in enumerate(series)]
+    colours = [COLOURS[look % len(COLOURS)] for look in looks]
+    dashes = ["5 4" if it.dashed else "" if it.colour is None else DASHES[it.colour % len(DASHES)] for it in series]
+    legend = [(it.name, colour, dash, False) for it, colour, dash in zip(series, colours, dashes)]
+    legend = legend if len(series) > 1 or series[0].colour is not None else []
+    drawn = _Drawing(size, title, legend, notes)
     days = isinstance(all_points[0][0], datetime.date)
     places = sorted({_number(x) for x, _ in all_points} | {_number(x) for x in span})
-    x_axis = Axis(places, LEFT + 12, WIDTH - RIGHT - 12, logarithmic)
+    x_axis = Axis(places, drawn.left + 12, drawn.right - 12, logarithmic)
     if days:
-        # The days of the points themselves, from the first to the last.
+        # From the first day to the last.
         x_axis.least, x_axis.most = places[0], places[-1]
         if len(places) == 1:
             x_axis.least, x_axis.most = x_axis.least - 1, x_axis.most + 1
-        x_axis.ticks = _spread(places, x_axis)
-    y_axis = Axis([y for _, y in all_points], HEIGHT - BOTTOM, TOP, logarithmic, zero)
-    parts = _frame(title, y_axis, up, up_text)
-    for tick in x_axis.ticks:
-        label = datetime.date.fromordinal(int(tick)).isoformat() if days else plain(tick)
-        parts.append(_line(x_axis.at(tick), HEIGHT - BOTTOM, x_axis.at(tick), HEIGHT - BOTTOM + 5, INK))
-        parts.append(_text(x_axis.at(tick), HEIGHT - BOTTOM + 19, label, size=11))
-    parts.append(_line(LEFT, HEIGHT - BOTTOM, WIDTH - RIGHT, HEIGHT - BOTTOM, INK))
-    parts.append(_text((LEFT + WIDTH - RIGHT) / 2, HEIGHT - BOTTOM + 37, across, size=11))
-    for place, it in enumerate(series):
-        colour = COLOURS[place % len(COLOURS)]
+        labels = _of_days(places, x_axis, size)
+    else:
+        labels = [(x_axis.at(tick), plain(tick)) for tick in x_axis.ticks]
+    y_axis = Axis([y for _, y in all_points], drawn.bottom, drawn.top, logarithmic, zero)
+    drawn.scale(y_axis, up, up_text)
+    drawn.below(labels, across)
+    radius = [3.5, 2.2, 1.3][(len(all_points) > 100) + (size.width < 700)]
+    for it, colour, dash in zip(series, colours, dashes):
         marks = [(x_axis.at(_number(x)), y_axis.at(y)) for x, y in it.points]
-        drawn = " ".join(f"{x:.1f},{y:.1f}" for x, y in marks)
-        parts.append(f'<polyline points="{drawn}" fill="none" stroke="{colour}" stroke-width="{1.5 if it.dashed else 2.5}"'
-                     f"{_dashes(it.dashed)}/>")
+        ways = " ".join(f"{x:.1f},{y:.1f}" for x, y in marks)
+        dashed = f' stroke-dasharray="{dash}"' if dash else ""
+        drawn.parts.append(f'<polyline points="{ways}" fill="none" stroke="{colour}" '
+                           f'stroke-width="{1.5 if it.dashed else 2}"{dashed}/>')
         for (x, y), (across_value, value) in zip(marks, it.points):
             shown = across_value.isoformat() if isinstance(across_value, datetime.date) else plain(across_value)
-            parts.append(f'<circle cx="{x:.1f}" cy="{y:.1f}" r="3.5" fill="{colour}"><title>{escape(it.name)}, {shown}: '
-                         f"{up_text(value)}</title></circle>")
-    if len(series) > 1:
-        parts += _legend([(it.name, COLOURS[place % len(COLOURS)], it.dashed) for place, it in enumerate(series)])
-    return _ended(parts, notes)
+            drawn.parts.append(f'<circle cx="{x:.1f}" cy="{y:.1f}" r="{radius}" fill="{colour}">'
+                               f"<title>{escape(it.name)}, {shown}: {up_text(value)}</title></circle>")
+    return drawn.whole()
 
 
 def stacked_bars(
     title: str,
     names: Sequence[str],
-    bars: Sequence[Tuple[datetime.date, Sequence[float], float]],
+    bars: Sequence[Tuple[str, Sequence[float], float]],
     *,
     across: str,
     up: str,
-    mark: str,
+    behind: str,
     up_text: Callable[[float], str] = plain,
     notes: Optional[Sequence[str]] = None,
+    size: Size = Size(),
 ) -> str:
-    """A bar for each day: its parts one on the other, in the order of their names, and a mark across it at another value.
+    """Bars side by side, in the order given: the parts of each one on the other, in the order of their names.
 
-    Each bar is its day, its parts and the value of the mark. Bars stand side by side, in the order given. `up_text` says how a
-    value is written at the axis.
+    Each bar is its label, its parts, and the value of the pale bar behind it, which `behind` names. `up_text` says how a value is
+    written at the axis.
     """
     if not bars:
         raise ValueError("a chart has at least one bar")
-    y_axis = Axis([max(sum(values), marked) for _, values, marked in bars], HEIGHT - BOTTOM, TOP, zero=True)
-    parts = _frame(title, y_axis, up, up_text)
-    room = (WIDTH - RIGHT - LEFT) / len(bars)
-    width = min(48.0, 0.6 * room)
-    every = math.ceil(len(bars) * 76 / (WIDTH - RIGHT - LEFT))
-    for place, (day, values, marked) in enumerate(bars):
-        middle = LEFT + (place + 0.5) * room
+    legend = [(name, COLOURS[part], "", True) for part, name in enumerate(names)] + [(behind, PALE, "", True)]
+    drawn = _Drawing(size, title, legend, notes)
+    y_axis = Axis([max(sum(values), marked) for _, values, marked in bars], drawn.bottom, drawn.top, zero=True)
+    drawn.scale(y_axis, up, up_text)
+    room = (drawn.right - drawn.left) / len(bars)
+    width = min(60.0, 0.7 * room)
+    every = math.ceil(max(len(label) + 2 for label, _, _ in bars) * size.letter / room)
+    labels = []
+    for place, (label, values, marked) in enumerate(bars):
+        middle = drawn.left + (place + 0.5) * room
+
+        def bar(name: str, value: float, base: float, wide: float, colour: str) -> None:
+            top, bottom = y_axis.at(base + value), y_axis.at(base)
+            drawn.parts.append(f'<rect x="{middle - wide / 2:.1f}" y="{top:.1f}" width="{wide:.1f}" height="{bottom - top:.1f}" '
+                               f'fill="{colour}"><title>{escape(label)}, {escape(name)}: {plain(value)}</title></rect>')
+
+        bar(behind, marked, 0.0, min(1.3 * width, 0.95 * room), PALE)
         below = 0.0
         for part, value in enumerate(values):
-            top, bottom = y_axis.at(below + value), y_axis.at(below)
-            parts.append(f'<rect x="{middle - width / 2:.1f}" y="{top:.1f}" width="{width:.1f}" height="{bottom - top:.1f}" '
-                         f'fill="{COLOURS[part]}"><title>{day}, {escape(names[part])}: {plain(value)}</title></rect>')
+            bar(names[part], value, below, width, COLOURS[part])
             below += value
-        y = y_axis.at(marked)
-        half = 0.65 * width
-        parts.append(f'<line x1="{middle - half:.1f}" y1="{y:.1f}" x2="{middle + half:.1f}" y2="{y:.1f}" stroke="{INK}" '
-                     f'stroke-width="2"{_dashes(True)}><title>{day}, {escape(mark)}: {plain(marked)}</title></line>')
         if place % every == 0:
-            parts.append(_text(middle, HEIGHT - BOTTOM + 19, day.isoformat(), size=11))
-    parts.append(_line(LEFT, HEIGHT - BOTTOM, WIDTH - RIGHT, HEIGHT - BOTTOM, INK))
-    parts.append(_text((LEFT + WIDTH - RIGHT) / 2, HEIGHT - BOTTOM + 37, across, size=11))
-    parts += _legend([*((name, COLOURS[part], False) for part, name in enumerate(names)), (mark, INK, True)])
-    return _ended(parts, notes)
+            labels.append((middle, label))
+    drawn.below(labels, across)
+    return drawn.whole()
 
 
-def one_below_the_other(charts: Sequence[str]) -> str:
-    """One chart of several."""
-    whole = HEIGHT * len(charts)
-    parts = [f'<svg xmlns="http://www.w3.org/2000/svg" viewBox="0 0 {WIDTH} {whole}" width="{WIDTH}" height="{whole}">']
+def one_below_the_other(charts: Sequence[str], size: Size = Size()) -> str:
+    """One chart of several of one size."""
+    whole = size.height * len(charts)
+    parts = [f'<svg xmlns="http://www.w3.org/2000/svg" viewBox="0 0 {size.width} {whole}" width="{size.width}" height="{whole}">']
     for place, it in enumerate(charts):
-        parts.append(f'<g transform="translate(0 {HEIGHT * place})">\n{it}</g>')
+        parts.append(f'<g transform="translate(0 {size.height * place})">\n{it}</g>')
     return "\n".join([*parts, "</svg>"]) + "\n"
 
 
-def _spread(days: Sequence[float], axis: Axis) -> List[float]:
-    """Those of the days whose labels have room side by side."""
-    kept: List[float] = []
-    for day in days:
-        if not kept or axis.at(day) - axis.at(kept[-1]) >= 76:
-            kept.append(day)
-    return kept
-
-
-def _ended(parts: List[str], notes: Optional[Sequence[str]]) -> str:
-    for place, note in enumerate(notes or ()):
-        parts.append(_text(LEFT, HEIGHT - 8 - 13 * (len(notes or ()) - 1 - place), note, "start", 10))
-    return "\n".join([*parts, "</svg>"]) + "\n"
+def _of_days(days: Sequence[float], axis: Axis, size: Size) -> List[Tuple[float, str]]:
+    """Labels that have room side by side: the days themselves, or else the beginnings of months or of years."""
+    room = 13 * size.letter
+    if len(days) * room <= axis.last - axis.first and all(axis.at(b) - axis.at(a) >= room for a, b in zip(days, days[1:])):
+        return [(axis.at(day), datetime.date.fromordinal(int(day)).isoformat()) for day in days]
+    first, last = (datetime.date.fromordinal(int(day)) for day in (days[0], days[-1]))
+    months = [datetime.date(year, month, 1) for year in range(first.year, last.year + 1) for month in range(1, 13)]
+    months = [it for it in months if first <= it <= last]
+    for step in 1, 3, 6, 12, 24, 60, 120:
+        kept = [it for it in months if (12 * it.year + it.month - 1) % step == 0]
+        if len(kept) * room <= axis.last - axis.first:
+            break
+    if len(kept) < 2:
+        # Less than a month or two: the days that have room.
+        kept = []
+        for day in map(datetime.date.fromordinal, map(int, days)):
+            if not kept or axis.at(_number(day)) - axis.at(_number(kept[-1])) >= room:
+                kept.append(day)
+        return [(axis.at(_number(it)), it.isoformat()) for it in kept]
+    return [(axis.at(_number(it)), f"{it:%Y}" if step >= 12 else f"{it:%b %Y}") for it in kept]
