@@ -174,7 +174,7 @@ def replies(out):
 
 
 def story():
-    """The scripts of the day in docs/OPERATING.md as one, with its lines."""
+    """The scripts of the day in docs/DAY.md as one, with its lines."""
     lines = []
     for script in sorted((examples / "day").glob("*.script")):
         lines += [line for line in script.read_text().splitlines() if line != "end"]
