@@ -45,8 +45,9 @@ impl FileDisk {
     }
 
     /// The same on a file with a name in the current folder. Behind a sync that failed the next one opens the file anew
-    /// by it. Each write and each sync fails where the name leads to no file or to another one, or to one that is
-    /// shorter than its calls left it; whether it does is looked at once a millisecond at most.
+    /// by it. Each write that makes the file longer, and each sync of one that isn't longer than at the last sync, fails
+    /// where the name leads to no file or to another one, or to one that is shorter than its calls left it; whether it
+    /// does is looked at once a millisecond at most.
     pub fn named(rt: HostRuntime, name: &'static str, file: File) -> FileDisk
         ensures { result.faults.count ≡ 0 }
     {

@@ -64,16 +64,20 @@ impl SystemFile {
         read_whole(self.file(), place, into)
     }
 
-    /// Writes over what is there, and past the end.
+    /// Writes over what is there, and past the end. A write that makes the file longer fails too where the name doesn't
+    /// lead to the file any more.
     pub(crate) fn write_at(&mut self, place: u64, bytes: &[u8]) -> io::Result<()>
         ensures { self.new.openings ≡ self.old.openings }
     {
         self.renew(place)?;
-        self.look()?;
         let span = Span {
             from: place,
             end: place.saturating_add(bytes.len() as u64),
         };
+        // What is written over bytes that are there, a gate, is acknowledged behind its sync, which looks.
+        if self.extent.len < span.end {
+            self.look()?;
+        }
         self.extent.write(span);
         self.file().write_all_at(bytes, place)?;
         self.extent.reach(span.end);
@@ -90,12 +94,17 @@ impl SystemFile {
         Ok(())
     }
 
-    /// Puts the data and the length on the device. It fails too where the name doesn't lead to the file any more.
+    /// Puts the data and the length on the device. Where the file isn't longer than at the last sync, it fails too where
+    /// the name doesn't lead to the file any more.
     pub(crate) fn sync(&mut self) -> io::Result<()>
         ensures { self.new.openings ≡ self.old.openings }
     {
         self.file().sync_data()?;
-        self.look()?;
+        // Behind a longer file a gate is still to be written and synced. To look here too would be dear: a system gives
+        // the next write a new time for each look, and puts that on the device with its sync.
+        if self.extent.synced == self.extent.len {
+            self.look()?;
+        }
         self.extent.sync();
         Ok(())
     }
