@@ -186,6 +186,10 @@ def lines(
     looks = [place if it.colour is None else it.colour for place, it in enumerate(series)]
     colours = [COLOURS[look % len(COLOURS)] for look in looks]
     dashes = ["5 4" if it.dashed else "" if it.colour is None else DASHES[it.colour % len(DASHES)] for it in series]
+    many, small = len(all_points) > 100, size.width < 700
+    if many and small:
+        # Dashes would hide lines of so many points.
+        dashes = [""] * len(series)
     legend = [(it.name, colour, dash, False) for it, colour, dash in zip(series, colours, dashes)]
     legend = legend if len(series) > 1 or series[0].colour is not None else []
     drawn = _Drawing(size, title, legend, notes)
@@ -203,13 +207,13 @@ def lines(
     y_axis = Axis([y for _, y in all_points], drawn.bottom, drawn.top, logarithmic, zero)
     drawn.scale(y_axis, up, up_text)
     drawn.below(labels, across)
-    radius = [3.5, 2.2, 1.3][(len(all_points) > 100) + (size.width < 700)]
+    radius = [3.5, 2.2, 1.3][many + small]
     for it, colour, dash in zip(series, colours, dashes):
         marks = [(x_axis.at(_number(x)), y_axis.at(y)) for x, y in it.points]
         ways = " ".join(f"{x:.1f},{y:.1f}" for x, y in marks)
         dashed = f' stroke-dasharray="{dash}"' if dash else ""
         drawn.parts.append(f'<polyline points="{ways}" fill="none" stroke="{colour}" '
-                           f'stroke-width="{1.5 if it.dashed else 2}"{dashed}/>')
+                           f'stroke-width="{1 if many and small else 1.5 if many or it.dashed else 2}"{dashed}/>')
         for (x, y), (across_value, value) in zip(marks, it.points):
             shown = across_value.isoformat() if isinstance(across_value, datetime.date) else plain(across_value)
             drawn.parts.append(f'<circle cx="{x:.1f}" cy="{y:.1f}" r="{radius}" fill="{colour}">'
