@@ -1,5 +1,6 @@
 //! What a line of a script is answered, and what it does to the history.
 ghost use Rattle.std.specs.Prelude.{◌≡◌, Some, IfOk, OnErr};
+ghost use Rattle.tb_core.specs.Rooms.{Fits, behind};
 ghost use Rattle.tb_desk.specs.Desks.{replies_of};
 ghost use Rattle.tb_message.specs.Spelling.{IsNumbered};
 ghost use Rattle.tb_history.specs.Answer.{caller_of, query_refusal};
@@ -77,7 +78,7 @@ fn answer_caller<D: Disk>(
     }
 }
 
-// One turn of the desk, with room for what it may keep.
+// One turn of the desk, with room for what it may keep. Memory is wanting only where there is no such room.
 fn submit<D: Disk>(
     desk: &mut Desk<D>,
     caller: &Ident,
@@ -89,6 +90,7 @@ fn submit<D: Disk>(
     ensures turn { IfOk result (λ answer. MakesTurn (asked_by caller.now moment number message.now)
         (standing (D.disk desk.old.disk) desk.old) (standing (D.disk desk.new.disk) desk.new) (replies_of answer)) }
     ensures stays { OnErr result (standing (D.disk desk.new.disk) desk.new ≡ standing (D.disk desk.old.disk) desk.old) }
+    ensures lacks { OnErr result (¬ Fits desk.new.host.room (behind desk.new.doubt message.now)) }
     ensures kept { (desk.new.opened ≡ desk.old.opened) × (desk.new.recovered ≡ desk.old.recovered) }
 {
     desk.make_room(message)?;

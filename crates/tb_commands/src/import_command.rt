@@ -3,6 +3,7 @@ ghost use Rattle.std.specs.Prelude.{◌≡◌, ◌≤◌, [], length, Option, No
 ghost use Rattle.tb_units.specs.declared.moment.Moment.{Moment};
 ghost use Rattle.tb_gates.specs.Clocks.{ReadsClock};
 ghost use Rattle.tb_terms.specs.declared.refusal.Refusal.TheVariants as refusal;
+ghost use Rattle.tb_core.specs.Rooms.{Fits, behind_all};
 ghost use Rattle.tb_desk.specs.Desks.{Tells};
 ghost use Rattle.tb_desk.specs.Turn.{Replies, AreBids, AreNumbered};
 ghost use Rattle.tb_desk.specs.declared.fault.OpenFault.{OpenFault};
@@ -154,7 +155,8 @@ fn send_run<D: Disk, C: Clock, O: Sink>(
     }
 }
 
-// Sends a run of rows, and puts what they are answered behind the text. Where memory runs out nothing was sent.
+// Sends a run of rows, and puts what they are answered behind the text. Where memory runs out nothing was sent;
+// it is wanting only where the desk has no room for the run then.
 fn send<D: Disk, C: Clock>(
     desk: &mut Desk<D>,
     sender: &Sender,
@@ -172,6 +174,7 @@ fn send<D: Disk, C: Clock>(
         (C.clock clock.old) (C.clock clock.new) run.now (standing (D.disk desk.old.disk) desk.old) text.new.items
         (standing (D.disk desk.new.disk) desk.new)) }
     ensures stays { OnErr result (standing (D.disk desk.new.disk) desk.new ≡ standing (D.disk desk.old.disk) desk.old) }
+    ensures lacks { OnErr result (¬ Fits desk.new.host.room (behind_all desk.new.doubt run.now)) }
     ensures unread { OnErr result (C.clock clock.new ≡ C.clock clock.old) }
     ensures kept { (desk.new.opened ≡ desk.old.opened) × (desk.new.recovered ≡ desk.old.recovered) }
     ensures room { vec_capacity text.new ≡ vec_capacity text.old }
@@ -186,7 +189,8 @@ fn send<D: Disk, C: Clock>(
     Ok(())
 }
 
-// One turn of the desk for a run of rows, with room for what it may keep, at a reading of the clock.
+// One turn of the desk for a run of rows, with room for what it may keep, at a reading of the clock. Memory is wanting
+// only where there is no such room.
 fn submit<D: Disk, C: Clock>(
     desk: &mut Desk<D>,
     caller: &Ident,
@@ -203,6 +207,7 @@ fn submit<D: Disk, C: Clock>(
         × MakesTurn (record { submitter = caller.now; moment = moment; messages = run.now })
         (standing (D.disk desk.old.disk) desk.old) (standing (D.disk desk.new.disk) desk.new) replies) }
     ensures stays { OnErr result (standing (D.disk desk.new.disk) desk.new ≡ standing (D.disk desk.old.disk) desk.old) }
+    ensures lacks { OnErr result (¬ Fits desk.new.host.room (behind_all desk.new.doubt run.now)) }
     ensures unread { OnErr result (C.clock clock.new ≡ C.clock clock.old) }
     ensures kept { (desk.new.opened ≡ desk.old.opened) × (desk.new.recovered ≡ desk.old.recovered) }
 {
