@@ -31,4 +31,4 @@ mod TableLemmas
 mod RowLemmas
 pub mod ImportLemmas
 pub mod ImportEndLemmas
-mod DoubtedLemmas
+pub mod DoubtedLemmas

@@ -43,8 +43,7 @@ use Rattle.tb_session.specs.declared.called.Outcome.TheVariants as outcome
 use Rattle.tb_session.specs.Calls.{caller_on, ComesOut, IsAnswerBy, Tells, TellsQuery}
 use Rattle.tb_session.specs.Codes.{Made, operator_in}
 use Rattle.tb_commands.specs.DiskRun.{Stays}
-use Rattle.tb_host.specs.Headline.{IsAnsweredIn, OneHistory, Acknowledges, KeepsOnce, KeepsAcknowledged, ReadsPublished, IsInTime, IsByTheRule, TellsByTheRule, AsksSealed, RunAlike, IsDecided, AreSealed, AddsUp, Headline, HoldingsAddUp}
-use Rattle.tb_host.specs.ScriptHeadline.{CameInTime}
+use Rattle.tb_host.specs.Headline.{IsAnsweredIn, OneHistory, Acknowledges, KeepsOnce, DiskKeeps, ReadsPublished, IsInTime, IsByTheRule, TellsByTheRule, AsksSealed, RunAlike, IsDecided, IsSealed, AddsUp, CameInTime, Headline, of_calls}
 use Rattle.tb_commands.specs.Standings.{Standing}
 use Rattle.tb_host.proofs.SealedLemmas.{verdict-own}
 
@@ -122,9 +121,9 @@ kept-told (Some past) disk last e is stays has = λ file either. kept file eithe
 -- Recovery keeps every acknowledged message, once.
 KeepsAcknowledged-here : (fixed : List ℕ) (first last : Standing) (more : List Entry) (disk : DiskState)
     (calls : List Made)
-    → OneHistory fixed first last more calls
+    → OneHistory (of_calls fixed) first last more calls
     → Stays last disk
-    → KeepsAcknowledged disk calls
+    → All (λ m. (e : Entry) → Acknowledges m e → DiskKeeps disk e) calls
 KeepsAcknowledged-here fixed first last more disk calls one stays = λ k d within e acknowledged.
     kept-told disk.past disk last e refl stays
     (acknowledged-in fixed first.history last.history (get_or calls k d) e (one.answered k d within) acknowledged)
@@ -275,8 +274,8 @@ query-read history caller asked (Some moment) read told = absurd told
 
 -- Published awards and price are the circular's rule on the bids accepted before closing.
 TellsByTheRule-here : (fixed : List ℕ) (first last : Standing) (more : List Entry) (calls : List Made)
-    → OneHistory fixed first last more calls
-    → TellsByTheRule fixed last.history calls
+    → OneHistory (of_calls fixed) first last more calls
+    → All (TellsByTheRule fixed last.history) calls
 TellsByTheRule-here fixed first last more calls one = λ k d within caller asked auction read known asks whose is.
     let m = get_or calls k d in
     let here = one.answered k d within in
@@ -332,8 +331,8 @@ tells-own history caller (ask.BadShape which) None (Some other) said legal seale
 
 -- Until publication replies depend only on the submitter's own messages, the operator's and the moments.
 AreSealed-here : (fixed : List ℕ) (first last : Standing) (more : List Entry) (calls : List Made)
-    → OneHistory fixed first last more calls
-    → AreSealed fixed calls
+    → OneHistory (of_calls fixed) first last more calls
+    → All (IsSealed fixed) calls
 AreSealed-here fixed first last more calls one = λ k d within caller said other known sealed is may alike.
     let m = get_or calls k d in
     let told = decided (operator_in fixed) m.history m.called m.called.outcome said is may in
@@ -346,24 +345,18 @@ AreSealed-here fixed first last more calls one = λ k d within caller said other
 pub AddsUp-legal : (history : List Entry) → IsLegal history → AddsUp history
 AddsUp-legal history legal = λ cusip bill. held-sum history cusip legal bill
 
--- Holdings sum to the unredeemed issue.
-HoldingsAddUp-here : (fixed : List ℕ) (first last : Standing) (more : List Entry) (calls : List Made)
-    → OneHistory fixed first last more calls
-    → HoldingsAddUp last.history calls
-HoldingsAddUp-here fixed first last more calls one = (
-  λ k d within. AddsUp-legal (get_or calls k d).history (one.answered k d within).answered.legal,
-  AddsUp-legal last.history one.legal,
-)
-
--- the five parts of the headline, of one run
+-- the parts of the headline, of one run
 pub Headline-here : (fixed : List ℕ) (disk : DiskState) (first last : Standing) (more : List Entry) (calls : List Made)
-    → OneHistory fixed first last more calls
+    → OneHistory (of_calls fixed) first last more calls
     → Stays last disk
-    → Headline fixed disk first last more calls
+    → Headline (of_calls fixed) disk first last more calls
 Headline-here fixed disk first last more calls one stays = record {
   one_history = one;
   keeps = KeepsAcknowledged-here fixed first last more disk calls one stays;
   by_the_rule = TellsByTheRule-here fixed first last more calls one;
+  in_time = bids-in-time last.history one.legal;
   sealed = AreSealed-here fixed first last more calls one;
-  holdings = HoldingsAddUp-here fixed first last more calls one;
+  holdings = AddsUp-legal last.history one.legal;
+  holdings_on = λ k d within history on.
+      subst AddsUp (sym on) (AddsUp-legal (get_or calls k d).history (one.answered k d within).answered.legal);
 }

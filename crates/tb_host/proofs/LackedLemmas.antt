@@ -1,5 +1,5 @@
 -- Where memory ran out no count of faults rose.
-use Rattle.std.proofs.Common.{◌≡◌, ◌≢◌, ℕ, Bool, true, false, List, ap, refl, subst, sym, ◌∙◌}
+use Rattle.std.proofs.Common.{◌≡◌, ◌≢◌, ℕ, Bool, false, List, ap, refl, subst, sym, ◌∙◌}
 use Rattle.std.specs.Prelude.{IsTrue}
 use Rattle.tb_disk.specs.Disks.{DiskState}
 use Rattle.tb_gates.specs.Clocks.{ClockState}
@@ -17,8 +17,6 @@ use Rattle.tb_commands.specs.Endings.{ending_of, of_check, of_disk, of_migrate, 
 use Rattle.tb_commands.specs.FollowSendRun.{FollowSendEnds}
 use Rattle.tb_commands.specs.FollowTakeRun.{FollowTakeEnds}
 use Rattle.tb_commands.specs.MigrateRun.{MigrateEnds}
-use Rattle.tb_commands.specs.RegisterRun.{RegisterEnds}
-use Rattle.tb_commands.specs.ReportRun.{ReportEnds}
 use Rattle.tb_commands.specs.Standings.{Standing}
 use Rattle.tb_commands.specs.declared.command_endings.CheckEnding.{CheckEnding}
 use Rattle.tb_commands.specs.declared.command_endings.CheckEnding.TheVariants as check_ending
@@ -35,7 +33,7 @@ use Rattle.tb_commands.specs.declared.command_endings.TakeEnding.TheVariants as 
 use Rattle.tb_commands.specs.declared.ending.Ending.{Ending}
 use Rattle.tb_commands.specs.declared.ending.Ending.TheVariants as ending
 use Rattle.tb_host.specs.Commands.{Stays, answers_faults, uses_of}
-use Rattle.tb_host.specs.HostRun.{EndsAs, HasCause, HidesNoFault, Objects, devices, handed, moved, registry}
+use Rattle.tb_host.specs.HostRun.{EndsAs, HasCause, HidesNoFault, Objects, devices, handed, moved}
 use Rattle.tb_host.specs.ServeRun.{ServeEnds}
 
 -- want of memory is no fault of the disk

@@ -11,4 +11,6 @@ mod ScriptHeadlineLemmas
 mod OwnLineLemmas
 mod ImportHeadlineLemmas
 mod OwnRowLemmas
+mod FollowHeadlineLemmas
+mod ChainLemmas
 pub mod PlanLemmas

@@ -1,6 +1,6 @@
 -- The records of one history are those of its entries: what is said of records is so of entries.
 use Rattle.std.proofs.Common.{◌≡◌, ℕ, ◌+◌, ◌<◌, ◌≤◌, List, [], ◌∷◌, ◌++◌, length, get_or, refl, sym, subst, ap, ◌∙◌, inl, inr, ⊎_elim, arith}
-use Rattle.std.specs.Prelude.{All, Any}
+use Rattle.std.specs.Prelude.{All, AllPairs, Any}
 use Rattle.std.proofs.lemmas.Bool.{cases_lt}
 use Rattle.std.proofs.lemmas.List.{get_or-append-add, get_or_append_left, get_or_default, length-append, map-append}
 use Rattle.std.proofs.lemmas.List.Elements.{All-head, All-tail, All-cons, All-push}
@@ -15,7 +15,7 @@ use Rattle.tb_desk.proofs.GroupLemmas.{All-append_right, IsLegal-in_range}
 use Rattle.tb_session.specs.declared.called.Outcome.TheVariants as outcome
 use Rattle.tb_session.specs.Codes.{Made, IsAnswered, HasRange, spelled_all}
 use Rattle.tb_session.specs.Serve.{AreApart, IsHistoryOf, MayHaveMade}
-use Rattle.tb_host.specs.Headline.{AddOthers, Begins, IsAnsweredIn, MayHaveAdded, MayHaveDoubted, OneHistory}
+use Rattle.tb_host.specs.Headline.{AddOthers, Begins, IsAnsweredIn, MayHaveAdded, MayHaveDoubted, OneHistory, of_calls}
 use Rattle.tb_commands.specs.Standings.{Standing}
 
 -- a list whose records begin those of another begins it
@@ -205,7 +205,7 @@ pub OneHistory-spelled : (fixed : List ℕ) (first last : Standing) (more : List
     → IsLegal (last.history ++ last.doubt)
     → last.history ≡ first.history ++ more
     → IsHistoryOf fixed (spelled_all first.history) (spelled_all last.history) (spelled_all last.doubt) low high calls
-    → OneHistory fixed first last more calls
+    → OneHistory (of_calls fixed) first last more calls
 OneHistory-spelled fixed first last more low high calls legal legal' accepted grown one =
     let ranges : All (λ m. HasRange m.called.outcome) calls = λ k d within. (one.answered k d within).in_range in
     let records : spelled_all more ≡ one.later =
@@ -218,9 +218,6 @@ OneHistory-spelled fixed first last more low high calls legal legal' accepted gr
     record {
       legal = legal';
       answered = answered;
-      once = λ i j d earlier within.
-          others fixed first.history last.history (get_or calls i d) (get_or calls j d) legal'
-          (answered i d (omega arith)) (answered j d within) (one.once i j d earlier within);
       own = each-added more one.later calls records
           (All-append_right first.history more (subst (λ (l : List Entry). All IsInRange l) grown whole)) ranges
           one.entries;
@@ -228,3 +225,13 @@ OneHistory-spelled fixed first last more low high calls legal legal' accepted gr
           (each-added last.doubt (spelled_all last.doubt) calls refl
           (All-append_right last.history last.doubt with_doubt) ranges one.doubted);
     }
+
+-- No two calls that are apart are told of one entry that it was accepted.
+pub once-here : (fixed : List ℕ) (first last : List Entry) (calls : List Made)
+    → IsLegal last
+    → All (IsAnsweredIn fixed first last) calls
+    → AllPairs AreApart calls
+    → AllPairs AddOthers calls
+once-here fixed first last calls legal answered apart i j d earlier within =
+    others fixed first last (get_or calls i d) (get_or calls j d) legal (answered i d (omega arith)) (answered j d within)
+    (apart i j d earlier within)

@@ -1,6 +1,8 @@
 -- The headline of a script's lines follows from their run, where the disk keeps the last history.
-use Rattle.std.proofs.Common.{◌≡◌, ℕ, List, [], ◌∷◌, ◌++◌, get_or, Option, Some, None, ◌⊎◌, inl, inr, refl, sym, subst, ap, ◌∙◌, arith, append_assoc, append-nil}
-use Rattle.std.specs.Prelude.{Result, Ok, Err, Contains}
+use Rattle.std.proofs.Common.{◌≡◌, ℕ, List, [], ◌∷◌, ◌++◌, map, get_or, Option, Some, None, ◌⊎◌, inl, inr, refl, sym, subst, ap, ◌∙◌, arith, append-nil}
+use Rattle.std.specs.Prelude.{All, Result, Ok, Err, Contains}
+use Rattle.std.specs.List.{flat_map}
+use Rattle.std.proofs.lemmas.List.Elements.{All-cons, All-nil}
 use Rattle.tb_units.specs.declared.moment.Moment.{Moment}
 use Rattle.tb_disk.specs.Disks.{DiskState}
 use Rattle.tb_terms.specs.declared.refusal.Refusal.{Refusal}
@@ -18,16 +20,19 @@ use Rattle.tb_desk.specs.Turn.{group, verdicts}
 use Rattle.tb_desk.specs.declared.reply.Reply.{Reply}
 use Rattle.tb_desk.specs.declared.reply.Reply.TheVariants as turned
 use Rattle.tb_commands.specs.DiskRun.{Stays}
-use Rattle.tb_host.specs.Headline.{Begins}
+use Rattle.tb_host.specs.Headline.{AddsUp, Begins, DiskKeeps}
 use Rattle.tb_commands.specs.Replies.{Asks, IsAnswered, IsReply, IsSaid, IsTold, asked_by, refused}
-use Rattle.tb_host.specs.ScriptHeadline.{HasHeadline, IsAcknowledged, IsActedOnAt, IsRepliedIn, IsRowAccepted, IsSealedReply, IsToldByTheRule, LineHeadline, Replied, Says, accepted_line}
-use Rattle.tb_commands.specs.ScriptRun.{IsRun}
+use Rattle.tb_host.specs.ScriptHeadline.{Along, IsAcknowledged, IsOfLine, IsRepliedAt, IsRepliedIn, IsRowAccepted, IsSealedReply, IsToldByTheRule, Replied, RunHeadline, Says, accepted_line, of_lines}
+use Rattle.tb_commands.specs.ScriptRun.{IsActedOn, IsRun}
 use Rattle.tb_commands.specs.Standings.{Standing}
 use Rattle.tb_commands.specs.Turns.{told, turn_text, unavailable}
 use Rattle.tb_host.proofs.AnsweredLemmas.{Begins-both, Contains-begins, IsBetween-here, IsLegal-begins, answered-on, rows-stand}
-use Rattle.tb_commands.proofs.GrownLemmas.{run-goes}
-use Rattle.tb_host.proofs.HeadlineLemmas.{AddsUp-legal, by-the-rule, kept-told}
+use Rattle.tb_commands.proofs.DoubtedLemmas.{doubted-lines}
+use Rattle.tb_commands.proofs.GrownLemmas.{line-goes, run-goes}
+use Rattle.tb_host.proofs.ChainLemmas.{OneHistory-here, each-map}
+use Rattle.tb_host.proofs.HeadlineLemmas.{AddsUp-legal, bids-in-time, by-the-rule, kept-told}
 use Rattle.tb_commands.proofs.OneRunLemmas.{asks-one}
+use Rattle.tb_host.proofs.OwnLineLemmas.{lines-own}
 use Rattle.tb_host.proofs.SealedLemmas.{IsSaid-own}
 use Rattle.tb_commands.proofs.TurnLemmas.{at-grown}
 
@@ -113,6 +118,14 @@ answer-on old new (Some caller) moment json reply is =
     record { history = on.history; settled = on.settled; begins = on.begins; holds = (is.0, is.1, on.holds) }
 
 -- ---- the five parts
+
+-- the parts of the headline, of one line
+pub record LineHeadline (disk : DiskState) (first last : List Entry) (line : Replied) : Type 0 where
+  pub one_history : IsRepliedIn first last line
+  pub keeps : (e : Entry) → IsAcknowledged line e → DiskKeeps disk e
+  pub by_the_rule : IsToldByTheRule last line
+  pub sealed : IsSealedReply line
+  pub holdings : AddsUp line.history
 
 -- the reply is what the history says, or tells the disk's fault
 reply-said : (history after : List Entry) (caller : List ℕ) (moment : Moment) (asked : Result Request Refusal)
@@ -221,72 +234,107 @@ module _ (disk : DiskState) (first last : Standing) (after : List Entry) (line :
       keeps = λ e is. kept-told disk.past disk last e refl kept.stays (acknowledged e is);
       by_the_rule = told-by-the-rule;
       sealed = sealed-reply;
-      holdings = (AddsUp-legal line.history legal, AddsUp-legal last.history kept.stays.legal);
+      holdings = AddsUp-legal line.history legal;
     }
 
--- ---- one line of a run
+-- ---- line by line
 
--- a run is cut there
-run-cut : (operator : List ℕ) (first last : Standing) (before : List (List ℕ)) (line : List ℕ)
-    (behind : List (List ℕ)) (replies : List ℕ)
-    → IsRun operator first (before ++ line ∷ behind) replies last
-    → IsActedOnAt operator first last before line behind replies
-run-cut operator first last [] line behind replies run = record {
-  stood = first;
-  next = run.1;
-  earlier = [];
-  reply = run.0;
-  later = run.2;
-  led = (refl, refl);
-  acted = run.3;
-  leads = run.4;
-  written = run.5;
-}
-run-cut operator first last (one ∷ before) line behind replies run =
-    let cut = run-cut operator run.1 last before line behind run.2 run.4 in
-    record {
-      stood = cut.stood;
-      next = cut.next;
-      earlier = run.0 ++ cut.earlier;
-      reply = cut.reply;
-      later = cut.later;
-      led = (run.0, run.1, cut.earlier, run.3, cut.led, refl);
-      acted = cut.acted;
-      leads = cut.leads;
-      written = run.5
-          ∙ (ap (λ (text : List ℕ). run.0 ++ text) cut.written
-          ∙ sym (append_assoc run.0 cut.earlier (cut.reply ++ cut.later)));
-    }
+-- Lines were replied to one after another, from where the script stood: the headline holds of each.
+pub record AreReplied (operator : List ℕ) (disk : DiskState) (first last stood : Standing) (lines : List (List ℕ))
+    (replies : List ℕ) : Type 0
+  where
+    pub asked : List Replied
+    pub lines_are : lines ≡ map (λ (one : Replied). one.line) asked
+    pub replies_are : replies ≡ flat_map (λ (one : Replied). one.reply) asked
+    pub chain : Along (IsRepliedAt operator) stood asked last
+    pub each : All (LineHeadline disk first.history last.history) asked
 
--- The headline holds of each line of a run.
-pub HasHeadline-here : (operator : List ℕ) (disk : DiskState) (first last : Standing) (before : List (List ℕ))
-    (line : List ℕ) (behind : List (List ℕ)) (replies : List ℕ)
-    → IsRun operator first (before ++ line ∷ behind) replies last
+module _ (operator : List ℕ) (disk : DiskState) (first last : Standing) (stays : Stays last disk) where
+  -- the headline holds of a line of a run, and of those behind it
+  one-more : (stood next : Standing) (line reply : List ℕ) (lines : List (List ℕ)) (later : List ℕ)
+      → Begins first.history stood.history
+      → Begins next.history last.history
+      → IsActedOn operator stood line reply next
+      → AreReplied operator disk first last next lines later
+      → AreReplied operator disk first last stood (line ∷ lines) (reply ++ later)
+  one-more stood next line reply lines later so_far ahead acted others =
+      let on = answer-on stood next (caller_of (registrations stood.history) operator acted.key) acted.moment acted.json
+      reply acted.answered in
+      let one : Replied = record {
+        line = line;
+        caller = caller_of (registrations stood.history) operator acted.key;
+        moment = acted.moment;
+        json = acted.json;
+        history = on.history;
+        reply = reply;
+      } in
+      let here = at-grown stood.history on.history stood.doubt on.settled in
+      let kept : IsKept disk first last next.history one = record {
+        on = on.holds;
+        has_first = Begins-both first.history stood.history on.history so_far here;
+        begins = on.begins;
+        later = ahead;
+        stays = stays;
+      } in
+      record {
+        asked = one ∷ others.asked;
+        lines_are = ap (λ (list : List (List ℕ)). line ∷ list) others.lines_are;
+        replies_are = ap (λ (text : List ℕ). reply ++ text) others.replies_are;
+        chain = (
+          next,
+          record { acted = acted; caller = refl; moment = refl; json = refl; settled = on.settled },
+          others.chain,
+        );
+        each = All-cons (LineHeadline disk first.history last.history) one others.asked
+            (line-headline disk first last next.history one kept) others.each;
+      }
+
+  -- so it does of each line of a run
+  are-replied : (stood : Standing) (lines : List (List ℕ)) (replies : List ℕ)
+      → Begins first.history stood.history
+      → IsRun operator stood lines replies last
+      → AreReplied operator disk first last stood lines replies
+  are-replied stood [] replies so_far run = record {
+    asked = [];
+    lines_are = refl;
+    replies_are = run.0;
+    chain = run.1;
+    each = All-nil (LineHeadline disk first.history last.history);
+  }
+  are-replied stood (line ∷ lines) replies so_far run =
+      let one = (line-goes operator stood run.1 line run.0 run.3).grown in
+      subst (λ (text : List ℕ). AreReplied operator disk first last stood (line ∷ lines) text) (sym run.5)
+      (one-more stood run.1 line run.0 lines run.2 so_far (run-goes operator run.1 last lines run.2 run.4).grown run.3
+      (are-replied run.1 lines run.2 (Begins-both first.history stood.history run.1.history so_far one) run.4))
+
+-- The headline of a run.
+pub RunHeadline-here : (operator : List ℕ) (disk : DiskState) (first last : Standing) (lines : List (List ℕ))
+    (replies : List ℕ) (more : List Entry)
+    → IsRun operator first lines replies last
+    → first.doubt ≡ []
+    → first.doubted ≡ []
+    → last.history ≡ first.history ++ more
     → Stays last disk
-    → HasHeadline operator disk first last before line behind replies
-HasHeadline-here operator disk first last before line behind replies run stays =
-    let cut = run-cut operator first last before line behind replies run in
-    let caller = caller_of (registrations cut.stood.history) operator cut.acted.key in
-    let on = answer-on cut.stood cut.next caller cut.acted.moment cut.acted.json cut.reply cut.acted.answered in
-    let replied : Replied = record {
-      caller = caller;
-      moment = cut.acted.moment;
-      json = cut.acted.json;
-      history = on.history;
-      reply = cut.reply;
-    } in
-    let so_far = (run-goes operator first cut.stood before cut.earlier cut.led).grown in
-    let here = at-grown cut.stood.history on.history cut.stood.doubt on.settled in
-    let kept : IsKept disk first last cut.next.history replied = record {
-      on = on.holds;
-      has_first = Begins-both first.history cut.stood.history on.history so_far here;
-      begins = on.begins;
-      later = (run-goes operator cut.next last behind cut.later cut.leads).grown;
-      stays = stays;
-    } in
-    record {
-      at = cut;
-      history = on.history;
-      settled = on.settled;
-      headline = line-headline disk first last cut.next.history replied kept;
-    }
+    → RunHeadline operator disk first last more lines replies
+RunHeadline-here operator disk first last lines replies more run sure none grown stays = record {
+  asked = are.asked;
+  lines_are = are.lines_are;
+  replies_are = are.replies_are;
+  chain = are.chain;
+  headline = record {
+    one_history = OneHistory-here (of_lines operator) disk first last more are.asked stays
+        (λ k d within. (are.each k d within).one_history)
+        (each-map (λ (one : Replied). one.line) (IsOfLine operator last.history) are.asked lines (more ++ last.doubt)
+        are.lines_are (lines-own operator first last lines replies more run sure grown)) (λ e some. some);
+    keeps = λ k d within. (are.each k d within).keeps;
+    by_the_rule = λ k d within. (are.each k d within).by_the_rule;
+    in_time = bids-in-time last.history stays.legal;
+    sealed = λ k d within. (are.each k d within).sealed;
+    holdings = AddsUp-legal last.history stays.legal;
+    holdings_on = λ k d within history on. subst AddsUp (sym on) (are.each k d within).holdings;
+  };
+  doubted = doubted-lines operator first last lines replies run sure none;
+}
+  where
+    are : AreReplied operator disk first last first lines replies
+    are = are-replied operator disk first last stays first lines replies ([], sym (append-nil first.history)) run

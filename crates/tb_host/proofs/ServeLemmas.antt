@@ -26,13 +26,13 @@ use Rattle.tb_session.specs.Rooms.{house_of}
 use Rattle.tb_session.specs.Serve.{Run, AreRuns, IsHistoryOf, calls_of_gates, links_of_gates, some_failed}
 use Rattle.tb_commands.specs.DiskRun.{CrashesKeep, HasGrown, Unopened}
 use Rattle.tb_host.specs.ServeRun.{Handed, LinksEnd, LinksServed, OneRose, RoomEnds, RoomServed, ServeEnds, ToldEnds, fixed_at, served_text}
-use Rattle.tb_host.specs.Headline.{OneHistory}
+use Rattle.tb_host.specs.Headline.{OneHistory, of_calls}
 use Rattle.tb_commands.specs.Standings.{Standing, standing}
 use Rattle.tb_commands.specs.declared.command_endings.ServeEnding.{ServeEnding}
 use Rattle.tb_commands.specs.declared.command_endings.ServeEnding.TheVariants as ending
 use Rattle.tb_commands.proofs.DiskLemmas.{CrashesKeep-here, Unopened-here, Unopened-untouched}
 use Rattle.tb_host.proofs.HeadlineLemmas.{Headline-here}
-use Rattle.tb_host.proofs.OneHistoryLemmas.{Begins-spelled, OneHistory-spelled}
+use Rattle.tb_host.proofs.OneHistoryLemmas.{Begins-spelled, OneHistory-spelled, once-here}
 use Rattle.tb_commands.proofs.WriteLemmas.{Fails-first, Fails-second, Takes-both}
 
 -- a disk tells as much after calls as before
@@ -134,6 +134,8 @@ module _ {D C G K : Type 0} (disk : D → DiskState) (clock : C → ClockState) 
           fixed done.all.are_runs);
       headline = Headline-here (fixed_at operator old.disk moments) new.disk first last grown.0
           (calls_of_gates done.all.runs) one done.stays;
+      once = once-here (fixed_at operator old.disk moments) first.history last.history (calls_of_gates done.all.runs)
+          done.stays.legal one.answered history.once;
       counts = record {
         met = done.after.desk.faults;
         each = λ k d within. ((history.counts k d within).1, (history.counts k d within).2);
@@ -183,7 +185,8 @@ module _ {D C G K : Type 0} (disk : D → DiskState) (clock : C → ClockState) 
       grown = Begins-spelled first.history last.history (IsLegal-in_range first.history opened.legal)
           (IsLegal-in_range last.history done.stays.legal) (history.later, history.grown)
 
-      one : OneHistory (fixed_at operator old.disk moments) first last grown.0 (calls_of_gates done.all.runs)
+      one : OneHistory (of_calls (fixed_at operator old.disk moments)) first last grown.0
+          (calls_of_gates done.all.runs)
       one = OneHistory-spelled (fixed_at operator old.disk moments) first last grown.0 room.desk.faults
           done.after.desk.faults (calls_of_gates done.all.runs) opened.legal done.stays.legal done.stays.accepted
           grown.1 history

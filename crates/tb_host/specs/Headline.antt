@@ -1,4 +1,5 @@
--- The headline, over the calls of all links, from the history that the disk stood for to the one that it keeps.
+-- The headline, over all that a command is asked, from the history that the disk stood for to the one that it keeps; and
+-- of `serve`, over the calls of all links.
 use Rattle.std.specs.Prelude.{◌≡◌, ◌⊎◌, ℕ, ◌<◌, List, [], ◌∷◌, ◌++◌, sum_by, Option, Some, None, true, false, All, Any, Contains, IfSome, if◌then◌else◌}
 use Rattle.std.specs.List.{AllPairs}
 use Rattle.tb_units.specs.declared.amount.Dollars.{Dollars}
@@ -31,11 +32,81 @@ use Rattle.tb_session.specs.Calls.{caller_on, Tells}
 use Rattle.tb_session.specs.Codes.{Made, IsAnswered, IsAnswerOf, operator_in}
 use Rattle.tb_commands.specs.Standings.{Standing}
 
--- ---- all replies belong to one legal history
+-- ---- the headline
 
 -- one history begins another
 abbrev pub Begins : List Entry → List Entry → Type 0
 Begins front whole = (more : List Entry) × (whole ≡ front ++ more)
+
+-- a history that the file stands for is legal and has the entry, and no other of its submitter and number
+pub record KeepsOnce (e : Entry) (file : List ℕ) : Type 0 where
+  pub history : List Entry
+  pub stands : StandsForHistory history file
+  pub legal : IsLegal history
+  pub has : Contains history e
+  pub once : AllPairs IsOther history
+
+-- the disk keeps the entry, once, and so does what any crash leaves of it
+abbrev pub DiskKeeps : DiskState → Entry → Type 0
+DiskKeeps disk e = IfSome disk.past
+    (λ past. (file : List ℕ) → (file ≡ contents_of past) ⊎ MayLeave past file → KeepsOnce e file)
+
+-- where the entry is a bid, its auction is announced in the history, and it came before the closing for its kind
+abbrev pub CameInTime : List Entry → Entry → Type 0
+CameInTime history e = (auction bidder : List ℕ) (rate : Option Rate) (amount : Dollars)
+    → e.message ≡ message.Bid auction bidder rate amount
+    → (a : Announcement) × (announcement_of (announcements history) auction ≡ Some a)
+    × (e.moment.seconds < (closing_for a rate).seconds)
+
+-- what all participants hold of a bill is what was issued of it, and nothing once it is redeemed
+abbrev pub AddsUp : List Entry → Type 0
+AddsUp history = (cusip : Cusip)
+    → sum_by (λ (r : Registration). held_of history r.submitter cusip) (registrations history)
+    ≡ (if is_redeemed (redemptions history) cusip then 0 else issued history cusip)
+
+-- The words of the headline, of one thing that a command is asked: a call, a line of a script, a run of rows, a parcel.
+pub record Wording (A : Type 0) : Type 1 where
+  -- it was answered on this history
+  pub on : A → List Entry → Type 0
+  -- so it was, in a history that has the first and begins the last
+  pub answered : List Entry → List Entry → A → Type 0
+  -- it was acknowledged with the entry
+  pub acknowledged : A → Entry → Type 0
+  -- what it was told of a published auction is by the rule, on the bids that are live to this last history
+  pub by_the_rule : List Entry → A → Type 0
+  -- what is sealed it was told as the caller's own part of the history says
+  pub sealed : A → Type 0
+  -- by this last history, it may have added the entry; or left it in doubt
+  pub added : List Entry → Entry → A → Type 0
+  pub doubted : List Entry → Entry → A → Type 0
+
+-- All is answered in one legal history, which has nothing past the first but these entries, each of something that was
+-- asked; and so is what is in doubt.
+pub record OneHistory {A : Type 0} (words : Wording A) (first last : Standing) (more : List Entry) (asked : List A)
+    : Type 0
+  where
+    pub legal : IsLegal last.history
+    pub answered : All (words.answered first.history last.history) asked
+    pub own : All (λ e. Any (words.added last.history e) asked) more
+    pub doubted : All (λ e. Any (words.doubted last.history e) asked) last.doubt
+
+-- The headline of a command that adds entries, of one run from the first history to the last, which has these entries
+-- more, and of all that it was asked: the replies belong to one legal history; the disk keeps every acknowledged message,
+-- once; published awards and price are the circular's rule, and each bid came before its closing; until publication
+-- replies depend only on the submitter's own messages, the operator's and the moments; and holdings sum to the unredeemed
+-- issue.
+pub record Headline {A : Type 0} (words : Wording A) (disk : DiskState) (first last : Standing) (more : List Entry)
+    (asked : List A) : Type 0
+  where
+    pub one_history : OneHistory words first last more asked
+    pub keeps : All (λ one. (e : Entry) → words.acknowledged one e → DiskKeeps disk e) asked
+    pub by_the_rule : All (words.by_the_rule last.history) asked
+    pub in_time : All (CameInTime last.history) last.history
+    pub sealed : All words.sealed asked
+    pub holdings : AddsUp last.history
+    pub holdings_on : All (λ one. (history : List Entry) → words.on one history → AddsUp history) asked
+
+-- ---- of a call: it is answered in one history
 
 -- The call was answered on a beginning of the last history that has the first. Where it was accepted its entry stands
 -- right behind that beginning.
@@ -60,37 +131,13 @@ AddOthers m n = (e f : Entry)
     → n.called.outcome ≡ outcome.Added f
     → IsOther e f
 
--- All calls are answered in one legal history, which has nothing past the first but these entries, each of such a call;
--- and what is in doubt is of calls that met a fault of the disk. No two calls, of one gate or of two, are told of one
--- entry that it was accepted, nor of two of one submitter under one number.
-pub record OneHistory (fixed : List ℕ) (first last : Standing) (more : List Entry) (calls : List Made) : Type 0 where
-  pub legal : IsLegal last.history
-  pub answered : All (IsAnsweredIn fixed first.history last.history) calls
-  pub once : AllPairs AddOthers calls
-  pub own : All (λ e. Any (MayHaveAdded e) calls) more
-  pub doubted : All (λ e. Any (MayHaveDoubted e) calls) last.doubt
-
--- ---- recovery keeps every acknowledged message, once
+-- ---- of a call: it is acknowledged
 
 -- the call was acknowledged with this entry: accepted, or told as what stands already
 abbrev pub Acknowledges : Made → Entry → Type 0
 Acknowledges m e = (m.called.outcome ≡ outcome.Added e) ⊎ (m.called.outcome ≡ outcome.Stood e)
 
--- a history that the file stands for is legal and has the entry, and no other of its submitter and number
-pub record KeepsOnce (e : Entry) (file : List ℕ) : Type 0 where
-  pub history : List Entry
-  pub stands : StandsForHistory history file
-  pub legal : IsLegal history
-  pub has : Contains history e
-  pub once : AllPairs IsOther history
-
--- the disk keeps every acknowledged message, and so does what any crash leaves of it
-abbrev pub KeepsAcknowledged : DiskState → List Made → Type 0
-KeepsAcknowledged disk calls =
-    All (λ m. (e : Entry) → Acknowledges m e → IfSome disk.past
-    (λ past. (file : List ℕ) → (file ≡ contents_of past) ⊎ MayLeave past file → KeepsOnce e file)) calls
-
--- ---- published awards and price are the circular's rule on the bids accepted before closing
+-- ---- of a reading: it is by the circular's rule on the bids accepted before closing
 
 -- the query reads what is published of the auction
 abbrev pub ReadsPublished : Query → List ℕ → Type 0
@@ -116,17 +163,16 @@ pub record IsByTheRule (last history : List Entry) (caller : List ℕ) (asked : 
   pub in_time : All (IsInTime a) history
   pub final : (bidding_in last a).live ≡ (bidding_in history a).live
 
--- so is every reading of results or awards
-abbrev pub TellsByTheRule : List ℕ → List Entry → List Made → Type 0
-TellsByTheRule fixed last calls =
-    All (λ m. (caller : List ℕ) (asked : Query) (auction : List ℕ) (reading : Reading)
+-- so is a reading of results or awards that the call was answered
+abbrev pub TellsByTheRule : List ℕ → List Entry → Made → Type 0
+TellsByTheRule fixed last m = (caller : List ℕ) (asked : Query) (auction : List ℕ) (reading : Reading)
     → caller_on (operator_in fixed) m.history m.called.key ≡ Some caller
     → m.called.ask ≡ ask.Query asked
     → ReadsPublished asked auction
     → IsAnswerOf fixed m (answer.Reading reading)
-    → IsByTheRule last m.history caller asked auction reading) calls
+    → IsByTheRule last m.history caller asked auction reading
 
--- ---- until publication replies depend only on the submitter's own messages, the operator's and the moments
+-- ---- of a call: until publication its reply depends only on the submitter's own messages, the operator's and the moments
 
 -- what is asked shows nothing of others: a message that doesn't depend on others, a query on an auction that isn't
 -- published, and what is no request
@@ -150,39 +196,25 @@ IsDecided answer.OutOfMemory = ⊥
 IsDecided other = Unit {0}
 
 -- the answer to what is sealed is what the caller's own part of the history says, wherever the running moments agree
-abbrev pub AreSealed : List ℕ → List Made → Type 0
-AreSealed fixed calls =
-    All (λ m. (caller : List ℕ) (said : Answer) (other : Option Moment)
+abbrev pub IsSealed : List ℕ → Made → Type 0
+IsSealed fixed m = (caller : List ℕ) (said : Answer) (other : Option Moment)
     → caller_on (operator_in fixed) m.history m.called.key ≡ Some caller
     → AsksSealed m.history m.called.ask
     → IsAnswerOf fixed m said
     → IsDecided said
     → RunAlike m.history m.called.moment (own_part caller m.history) other
-    → Tells (own_part caller m.history) (Some caller) m.called.ask other said) calls
+    → Tells (own_part caller m.history) (Some caller) m.called.ask other said
 
--- ---- holdings sum to the unredeemed issue
+-- ---- the headline of `serve`
 
--- what all participants hold of a bill is what was issued of it, and nothing once it is redeemed
-abbrev pub AddsUp : List Entry → Type 0
-AddsUp history = (cusip : Cusip)
-    → sum_by (λ (r : Registration). held_of history r.submitter cusip) (registrations history)
-    ≡ (if is_redeemed (redemptions history) cusip then 0 else issued history cusip)
-
--- it is so on the history of each call, and on the last one
-abbrev pub HoldingsAddUp : List Entry → List Made → Type 0
-HoldingsAddUp last calls = All (λ m. AddsUp m.history) calls × AddsUp last
-
--- ---- the headline
-
--- The headline, of one run from the first history to the last, which has these entries more, and of all its calls: the
--- replies belong to one legal history; the disk keeps every acknowledged message, once; published awards and price are
--- the circular's rule on the bids accepted before closing; until publication replies depend only on the submitter's own
--- messages, the operator's and the moments; and holdings sum to the unredeemed issue.
-pub record Headline (fixed : List ℕ) (disk : DiskState) (first last : Standing) (more : List Entry)
-    (calls : List Made) : Type 0
-  where
-    pub one_history : OneHistory fixed first last more calls
-    pub keeps : KeepsAcknowledged disk calls
-    pub by_the_rule : TellsByTheRule fixed last.history calls
-    pub sealed : AreSealed fixed calls
-    pub holdings : HoldingsAddUp last.history calls
+-- the words of the headline, of calls that were made with this fixed part
+abbrev pub of_calls : List ℕ → Wording Made
+of_calls fixed = record {
+  on = λ m history. history ≡ m.history;
+  answered = IsAnsweredIn fixed;
+  acknowledged = Acknowledges;
+  by_the_rule = TellsByTheRule fixed;
+  sealed = IsSealed fixed;
+  added = λ last. MayHaveAdded;
+  doubted = λ last. MayHaveDoubted;
+}

@@ -1,19 +1,14 @@
--- The headline of `run` and `import`, from the first history to the one that the disk keeps: of each line of a script,
--- and of each run of rows of a table.
-use Rattle.std.specs.Prelude.{◌≡◌, ◌≢◌, ◌⊎◌, ℕ, ◌<◌, List, ◌∷◌, ◌++◌, Option, Some, None, Result, Ok, All, Contains, IfSome}
-use Rattle.tb_units.specs.declared.amount.Dollars.{Dollars}
+-- The headline of `run`, `import` and `follow take`, from the first history to the one that the disk keeps: along one
+-- chain of where the desk stood, of each line of a script, of each run of rows of a table, and of each parcel.
+use Rattle.std.specs.Prelude.{◌≡◌, ◌≢◌, ◌⊎◌, ℕ, List, [], ◌∷◌, ◌++◌, map, Option, Some, None, Result, Ok, All, Any, Contains, IfSome, ⊤}
+use Rattle.std.specs.List.{flat_map}
 use Rattle.tb_units.specs.declared.moment.Moment.{Moment}
-use Rattle.tb_units.specs.declared.rate.Rate.{Rate}
 use Rattle.tb_disk.specs.Disks.{DiskState}
-use Rattle.tb_disk.specs.Past.{contents_of, MayLeave}
 use Rattle.tb_gates.specs.Clocks.{ClockState, ReadsClock}
-use Rattle.tb_terms.specs.declared.announcement.Announcement.{Announcement}
 use Rattle.tb_terms.specs.declared.refusal.Refusal.{Refusal}
 use Rattle.tb_terms.specs.declared.refusal.Refusal.TheVariants as refusal
-use Rattle.tb_rules.specs.BidRule.{closing_for}
 use Rattle.tb_message.specs.declared.key.Key.{Key}
 use Rattle.tb_message.specs.declared.message.Entry.{Entry}
-use Rattle.tb_message.specs.declared.message.Message.TheVariants as message
 use Rattle.tb_message.specs.declared.query.Query.{Query}
 use Rattle.tb_message.specs.declared.query.Request.{Request}
 use Rattle.tb_message.specs.declared.query.Request.TheVariants as request
@@ -23,23 +18,23 @@ use Rattle.tb_history.specs.declared.reading.Reading.{Reading}
 use Rattle.tb_history.specs.Answer.{caller_of, query_refusal}
 use Rattle.tb_history.specs.Legal.{IsLegal, running}
 use Rattle.tb_history.specs.OwnPart.{own_part}
-use Rattle.tb_history.specs.Roster.{registrations, announcements, announcement_of}
+use Rattle.tb_history.specs.Roster.{registrations}
 use Rattle.tb_desk.specs.Turn.{AreBids, Asked, Replies, verdicts}
-use Rattle.tb_host.specs.Headline.{AddsUp, Begins, IsByTheRule, KeepsOnce, ReadsPublished}
-use Rattle.tb_commands.specs.ImportRun.{AreSent, IsImport, SentRow, group_text}
+use Rattle.tb_parcel.specs.declared.parcel.Parcel.{Parcel}
+use Rattle.tb_replica.specs.Followers.{IsFresh}
+use Rattle.tb_replica.specs.Following as followed
+use Rattle.tb_replica.specs.Following.{Following, Outcome}
+use Rattle.tb_commands.specs.Doubted.{IsOfLines, IsOfParcels, IsOfRuns}
+use Rattle.tb_host.specs.Headline.{Begins, Headline, IsByTheRule, ReadsPublished, Wording}
+use Rattle.tb_commands.specs.ImportRun.{AreSent, SentRow, group_text}
 use Rattle.tb_commands.specs.Replies.{Asks, IsSaid, IsSealed, reading_text, refused}
 use Rattle.tb_commands.specs.ScriptLines.{SpellsAsk}
-use Rattle.tb_commands.specs.ScriptRun.{IsActedOn, IsRun}
+use Rattle.tb_commands.specs.ScriptRun.{IsActedOn}
 use Rattle.tb_commands.specs.Standings.{Standing}
 use Rattle.tb_commands.specs.Turns.{told, unavailable}
 use Rattle.tb_commands.specs.declared.sender.Sender.{Sender}
 
--- ---- both commands
-
--- the disk keeps the entry, once, and so does what any crash leaves of it
-abbrev pub DiskKeeps : DiskState → Entry → Type 0
-DiskKeeps disk e = IfSome disk.past
-    (λ past. (file : List ℕ) → (file ≡ contents_of past) ⊎ MayLeave past file → KeepsOnce e file)
+-- ---- all three commands
 
 -- the history is legal, begins with the first, and begins the last
 pub record IsBetween (first last history : List Entry) : Type 0 where
@@ -51,10 +46,16 @@ pub record IsBetween (first last history : List Entry) : Type 0 where
 abbrev pub accepted_line : Entry → List ℕ
 accepted_line e = told (verdict.Accepted e.number e.moment)
 
+-- each was asked where those before it left the state: one chain of states, from the first to the last
+abbrev pub Along : {S A : Type 0} → (S → A → S → Type 0) → S → List A → S → Type 0
+Along Steps begun [] ended = ended ≡ begun
+Along {S} Steps begun (one ∷ others) ended = (next : S) × Steps begun one next × Along Steps next others ended
+
 -- ---- a script
 
 -- a line as it was replied to: whose its key was, its moment, its text, the reply, and the history on which that stands
 pub record Replied : Type 0 where
+  pub line : List ℕ
   pub caller : Option (List ℕ)
   pub moment : Moment
   pub json : List ℕ
@@ -80,10 +81,6 @@ pub record IsRepliedIn (first last : List Entry) (line : Replied) : Type 0 where
   pub said : (line.reply ≡ unavailable) ⊎ Says line.history line.caller line.moment line.json line.reply
   pub has : (e : Entry) → IsAcknowledged line e → Contains last e
 
--- recovery keeps an acknowledged message, once
-abbrev pub KeepsIt : DiskState → Replied → Type 0
-KeepsIt disk line = (e : Entry) → IsAcknowledged line e → DiskKeeps disk e
-
 -- where results or awards are asked and aren't refused, the reply is a reading that is by the circular's rule, on the
 -- bids accepted before closing
 abbrev pub IsToldByTheRule : List Entry → Replied → Type 0
@@ -106,44 +103,6 @@ IsSealedReply line = (caller : List ℕ) (asked : Result Request Refusal) (other
     → running line.history line.moment ≡ running (own_part caller line.history) other
     → IsSaid (own_part caller line.history) caller other asked line.reply
 
--- the five parts of the headline, of one line
-pub record LineHeadline (disk : DiskState) (first last : List Entry) (line : Replied) : Type 0 where
-  pub one_history : IsRepliedIn first last line
-  pub keeps : KeepsIt disk line
-  pub by_the_rule : IsToldByTheRule last line
-  pub sealed : IsSealedReply line
-  pub holdings : AddsUp line.history × AddsUp last
-
--- one line of a run, between those before it and those behind it: it was acted on where those before it led
-pub record IsActedOnAt (operator : List ℕ) (first last : Standing) (before : List (List ℕ)) (line : List ℕ)
-    (behind : List (List ℕ)) (replies : List ℕ) : Type 0
-  where
-    pub stood : Standing
-    pub next : Standing
-    pub earlier : List ℕ
-    pub reply : List ℕ
-    pub later : List ℕ
-    pub led : IsRun operator first before earlier stood
-    pub acted : IsActedOn operator stood line reply next
-    pub leads : IsRun operator next behind later last
-    pub written : replies ≡ earlier ++ (reply ++ later)
-
--- The line was answered on the history where it was acted on, or on that with the group in doubt; and of its reply the
--- headline holds.
-pub record HasHeadline (operator : List ℕ) (disk : DiskState) (first last : Standing) (before : List (List ℕ))
-    (line : List ℕ) (behind : List (List ℕ)) (replies : List ℕ) : Type 0
-  where
-    pub at : IsActedOnAt operator first last before line behind replies
-    pub history : List Entry
-    pub settled : (history ≡ at.stood.history) ⊎ (history ≡ at.stood.history ++ at.stood.doubt)
-    pub headline : LineHeadline disk first.history last.history (record {
-      caller = caller_of (registrations at.stood.history) operator at.acted.key;
-      moment = at.acted.moment;
-      json = at.acted.json;
-      history = history;
-      reply = at.reply;
-    })
-
 -- the line asks the entry's message, by a key that is its submitter's on the last history
 pub record IsOfLine (operator : List ℕ) (last : List Entry) (e : Entry) (line : List ℕ) : Type 0 where
   pub moment : Moment
@@ -152,6 +111,39 @@ pub record IsOfLine (operator : List ℕ) (last : List Entry) (e : Entry) (line 
   pub spells : SpellsAsk line moment key json
   pub known : caller_of (registrations last) operator key ≡ Some e.submitter
   pub asks : Asks json (Ok (request.Message e.number e.message))
+
+-- the words of the headline, of lines
+abbrev pub of_lines : List ℕ → Wording Replied
+of_lines operator = record {
+  on = λ line history. history ≡ line.history;
+  answered = IsRepliedIn;
+  acknowledged = IsAcknowledged;
+  by_the_rule = IsToldByTheRule;
+  sealed = IsSealedReply;
+  added = λ last e line. IsOfLine operator last e line.line;
+  doubted = λ last e line. IsOfLine operator last e line.line;
+}
+
+-- The line was acted on where the script stood, by a key that was this caller's there, and answered on the history there,
+-- or on that with the group in doubt.
+pub record IsRepliedAt (operator : List ℕ) (stood : Standing) (one : Replied) (next : Standing) : Type 0 where
+  pub acted : IsActedOn operator stood one.line one.reply next
+  pub caller : one.caller ≡ caller_of (registrations stood.history) operator acted.key
+  pub moment : one.moment ≡ acted.moment
+  pub json : one.json ≡ acted.json
+  pub settled : (one.history ≡ stood.history) ⊎ (one.history ≡ stood.history ++ stood.doubt)
+
+-- The headline of `run`, of these lines, which were replied to so, one after another. Each group that a crash may have
+-- left behind a beginning of the history is what one of them would have added.
+pub record RunHeadline (operator : List ℕ) (disk : DiskState) (first last : Standing) (more : List Entry)
+    (lines : List (List ℕ)) (replies : List ℕ) : Type 0
+  where
+    pub asked : List Replied
+    pub lines_are : lines ≡ map (λ (one : Replied). one.line) asked
+    pub replies_are : replies ≡ flat_map (λ (one : Replied). one.reply) asked
+    pub chain : Along (IsRepliedAt operator) first asked last
+    pub headline : Headline (of_lines operator) disk first last more asked
+    pub doubted : All (IsOfLines operator lines last.history) last.doubted
 
 -- ---- a table
 
@@ -191,10 +183,6 @@ pub record AreRepliedIn (first last : List Entry) (turn : SentTurn) : Type 0 whe
   pub said : (turn.replies ≡ None) ⊎ (turn.replies ≡ Some (verdicts turn.history turn.asked))
   pub has : (e : Entry) → IsRowAcknowledged turn e → Contains last e
 
--- recovery keeps each acknowledged row, once
-abbrev pub KeepsRows : DiskState → SentTurn → Type 0
-KeepsRows disk turn = (e : Entry) → IsRowAcknowledged turn e → DiskKeeps disk e
-
 -- what the sender asks, on its own part of the history, at another moment
 abbrev pub asked_at : Asked → Moment → Asked
 asked_at asked moment = record { submitter = asked.submitter; moment = moment; messages = asked.messages }
@@ -208,57 +196,95 @@ AreSealedReplies turn = (other : Moment)
     → running turn.history turn.asked.moment ≡ running (own_part turn.asked.submitter turn.history) other
     → turn.replies ≡ Some (verdicts (own_part turn.asked.submitter turn.history) (asked_at turn.asked other))
 
--- where the entry is a bid, its auction is announced in the history, and it came before the closing for its kind
-abbrev pub CameInTime : List Entry → Entry → Type 0
-CameInTime history e = (auction bidder : List ℕ) (rate : Option Rate) (amount : Dollars)
-    → e.message ≡ message.Bid auction bidder rate amount
-    → (a : Announcement) × (announcement_of (announcements history) auction ≡ Some a)
-    × (e.moment.seconds < (closing_for a rate).seconds)
+-- a run of rows as it was sent: its rows, what they were answered, and the turn that they made, where the key was a
+-- caller's
+pub record SentRun : Type 0 where
+  pub rows : List SentRow
+  pub lines : List ℕ
+  pub turn : Option SentTurn
 
--- the five parts of the headline, of one run of rows: each bid that is kept came before its closing
-pub record RowsHeadline (disk : DiskState) (first last : List Entry) (turn : SentTurn) : Type 0 where
-  pub one_history : AreRepliedIn first last turn
-  pub keeps : KeepsRows disk turn
-  pub in_time : All (CameInTime last) last
-  pub sealed : AreSealedReplies turn
-  pub holdings : AddsUp turn.history × AddsUp last
+-- the rows made a turn, of which this is so
+abbrev pub Turned : SentRun → (SentTurn → Type 0) → Type 0
+Turned run Holds = (turn : SentTurn) × (run.turn ≡ Some turn) × Holds turn
 
--- A caller's rows made one turn, at a reading of the clock, on the history there, or on that with the group in doubt;
--- and of its replies the headline holds.
-pub record AreAnsweredBy (disk : DiskState) (first last stood : Standing) (clock clock' : ClockState)
-    (caller : List ℕ) (run : List SentRow) (lines : List ℕ) : Type 0
+-- the words of the headline, of runs of rows: they ask nothing of what is published
+abbrev pub of_runs : Sender → Wording SentRun
+of_runs sender = record {
+  on = λ run history. Turned run (λ turn. history ≡ turn.history);
+  answered = λ first last run. IfSome run.turn (AreRepliedIn first last);
+  acknowledged = λ run e. Turned run (λ turn. IsRowAcknowledged turn e);
+  by_the_rule = λ last run. ⊤;
+  sealed = λ run. IfSome run.turn AreSealedReplies;
+  added = λ last e run. Any (IsOfRow sender last e) run.rows;
+  doubted = λ last e run. Any (IsOfRow sender last e) run.rows;
+}
+
+-- where an import stands: the clock, and the desk
+pub record Sending : Type 0 where
+  pub clock : ClockState
+  pub stands : Standing
+
+-- the rows of this caller made the turn, at a reading of the clock, on the history there, or on that with the group in
+-- doubt
+pub record IsTurnAt (caller : List ℕ) (old new : Sending) (run : SentRun) (turn : SentTurn) : Type 0 where
+  pub submitter : turn.asked.submitter ≡ caller
+  pub read : ReadsClock old.clock new.clock turn.asked.moment.seconds
+  pub messages : turn.asked.messages ≡ run.rows
+  pub written : run.lines ≡ group_text run.rows turn.replies
+  pub settled : (turn.history ≡ old.stands.history) ⊎ (turn.history ≡ old.stands.history ++ old.stands.doubt)
+
+-- nobody's rows make none
+abbrev pub TurnsAt : Option (List ℕ) → Sending → Sending → SentRun → Type 0
+TurnsAt None old new run = run.turn ≡ None
+TurnsAt (Some caller) old new run = Turned run (IsTurnAt caller old new run)
+
+-- The rows were sent where the import stood, and refused where their key is nobody's.
+pub record AreSentAt (sender : Sender) (old : Sending) (run : SentRun) (new : Sending) : Type 0 where
+  pub sent : AreSent (caller_of (registrations old.stands.history) sender.operator sender.key) old.clock new.clock
+      run.rows old.stands run.lines new.stands
+  pub turned : TurnsAt (caller_of (registrations old.stands.history) sender.operator sender.key) old new run
+
+-- The headline of `import`, of these runs of rows, which were answered so, one after another, while the clock was read.
+-- Each group that a crash may have left behind a beginning of the history is what one of them would have added.
+pub record ImportHeadline (sender : Sender) (disk : DiskState) (clock clock' : ClockState) (first last : Standing)
+    (more : List Entry) (runs : List (List SentRow)) (text : List ℕ) : Type 0
   where
-    pub turn : SentTurn
-    pub submitter : turn.asked.submitter ≡ caller
-    pub read : ReadsClock clock clock' turn.asked.moment.seconds
-    pub messages : turn.asked.messages ≡ run
-    pub written : lines ≡ group_text run turn.replies
-    pub settled : (turn.history ≡ stood.history) ⊎ (turn.history ≡ stood.history ++ stood.doubt)
-    pub headline : RowsHeadline disk first.history last.history turn
+    pub asked : List SentRun
+    pub runs_are : runs ≡ map (λ (one : SentRun). one.rows) asked
+    pub text_is : text ≡ flat_map (λ (one : SentRun). one.lines) asked
+    pub chain : Along (AreSentAt sender) (record { clock = clock; stands = first }) asked
+        (record { clock = clock'; stands = last })
+    pub headline : Headline (of_runs sender) disk first last more asked
+    pub doubted : All (IsOfRuns sender runs last.history) last.doubted
 
--- one run of rows, between those before it and those behind it: it was sent where those before it led, and refused
--- where its key is nobody's
-pub record AreSentAt (sender : Sender) (clock clock' : ClockState) (first last : Standing)
-    (before : List (List SentRow)) (run : List SentRow) (behind : List (List SentRow)) (text : List ℕ) : Type 0
-  where
-    pub read : ClockState
-    pub read' : ClockState
-    pub stood : Standing
-    pub next : Standing
-    pub earlier : List ℕ
-    pub lines : List ℕ
-    pub later : List ℕ
-    pub led : IsImport sender clock read first before earlier stood
-    pub sent : AreSent (caller_of (registrations stood.history) sender.operator sender.key) read read' run stood lines
-        next
-    pub leads : IsImport sender read' clock' next behind later last
-    pub written : text ≡ earlier ++ (lines ++ later)
+-- ---- parcels
 
--- and where the rows are a caller's, the headline holds of its replies
-pub record RunHasHeadline (sender : Sender) (disk : DiskState) (clock clock' : ClockState) (first last : Standing)
-    (before : List (List SentRow)) (run : List SentRow) (behind : List (List SentRow)) (text : List ℕ) : Type 0
+-- the words of the headline, of parcels, which are told nothing
+abbrev pub of_parcels : Wording Parcel
+of_parcels = record {
+  on = λ parcel history. ⊥;
+  answered = λ first last parcel. ⊤;
+  acknowledged = λ parcel e. ⊥;
+  by_the_rule = λ last parcel. ⊤;
+  sealed = λ parcel. ⊤;
+  added = λ last e parcel. parcel.entry ≡ e;
+  doubted = λ last e parcel. parcel.entry ≡ e;
+}
+
+-- the parcel was taken where the copy stood, or ended the taking there
+abbrev pub TakesParcel : Following → Parcel → Following → Type 0
+TakesParcel old parcel new = (outcome : Outcome) × followed.Takes parcel old new outcome
+
+-- The headline of `follow take`, of these parcels, and of a copy that was opened on the first history and kept nothing
+-- ahead. Each group that a crash may have left behind a beginning of the history is the entry of one of them.
+pub record FollowHeadline (disk : DiskState) (first last : Standing) (more : List Entry) (parcels : List Parcel)
+    : Type 0
   where
-    pub at : AreSentAt sender clock clock' first last before run behind text
-    pub headline : (caller : List ℕ)
-        → caller_of (registrations at.stood.history) sender.operator sender.key ≡ Some caller
-        → AreAnsweredBy disk first last at.stood at.read at.read' caller run at.lines
+    pub opened : Following
+    pub begins : opened.history ≡ first.history
+    pub fresh : IsFresh opened
+    pub ended : Following
+    pub ends : last.history ≡ ended.history
+    pub chain : Along TakesParcel opened parcels ended
+    pub headline : Headline of_parcels disk first last more parcels
+    pub doubted : All (IsOfParcels parcels last.history) last.doubted

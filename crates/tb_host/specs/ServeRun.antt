@@ -33,7 +33,7 @@ use Rattle.tb_session.specs.declared.room.Room.{Room}
 use Rattle.tb_session.specs.Codes.{Made, fixed_code}
 use Rattle.tb_session.specs.Serve.{Run, AreRuns, RunsApart, ServesAll, calls_of_gates, links_of_gates, some_failed}
 use Rattle.tb_commands.specs.DiskRun.{Keeps, Stays, Unopened}
-use Rattle.tb_host.specs.Headline.{Headline}
+use Rattle.tb_host.specs.Headline.{AddOthers, Headline, of_calls}
 use Rattle.tb_commands.specs.Standings.{Standing, standing}
 use Rattle.tb_commands.specs.declared.command_endings.ServeEnding.{ServeEnding}
 use Rattle.tb_commands.specs.declared.command_endings.ServeEnding.TheVariants as ending
@@ -87,14 +87,17 @@ HasAdded first last accepted = length last.history ≡ length first.history + ac
 module _ {G K : Type 0} (gate : G → GateState K) (source : K → SourceState) (sink : K → SinkState) where
   -- The desk was opened on the disk, the disk handed back keeps the last history, and so did every crash on the way.
   -- These runs are what became of the gates' links: along each gate's turns the clock's readings grow, at which its
-  -- messages have their moments. Of all their calls the headline holds, and each fault of the disk was met in one turn
-  -- alone, whatever the gates.
+  -- messages have their moments. Of all their calls the headline holds. No two calls, of one gate or of two, are told of
+  -- one entry that it was accepted, nor of two of one submitter under one number; and each fault of the disk was met in
+  -- one turn alone, whatever the gates.
   pub record Serves (operator : List ℕ) (clock : ClockState) (old new : Handed G) (first last : Standing)
       (runs : List (Run K)) : Type 0 where
     pub keeps : Keeps old.disk new.disk first last
     pub tells : is_some new.disk.past ≡ is_some old.disk.past
     pub are_runs : AreRuns gate source sink (fixed_at operator old.disk clock) old.gates new.gates runs
-    pub headline : Headline (fixed_at operator old.disk clock) new.disk first last keeps.grown.0 (calls_of_gates runs)
+    pub headline : Headline (of_calls (fixed_at operator old.disk clock)) new.disk first last keeps.grown.0
+        (calls_of_gates runs)
+    pub once : AllPairs AddOthers (calls_of_gates runs)
     pub counts : CountsOf old.disk new.disk (calls_of_gates runs)
     pub apart : AllPairs RunsApart runs
 

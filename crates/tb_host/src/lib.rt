@@ -8,6 +8,6 @@ mod planned;
 mod serve_command;
 
 pub use host::{Ended, host_main};
-pub use laws::{import_headline, run_headline};
+pub use laws::{follow_headline, import_headline, run_headline};
 pub use plan_words::plan;
 pub use planned::Plan;
